@@ -1,0 +1,2 @@
+pub mod SoundE
+pub mod SoundS

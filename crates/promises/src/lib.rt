@@ -1,0 +1,6 @@
+// What the rules promise of every accepted program: theorems about the definitions of crate rules, in proofs/. They know nothing of the code.
+
+// The one function of the crate, so that its theorems are checked with it.
+pub fn same(x: u32) -> u32 {
+    x
+}

@@ -1,0 +1,13 @@
+pub mod Table
+pub mod Laws
+pub mod First
+pub mod Nodes
+pub mod Static
+pub mod Kids
+pub mod Established
+pub mod Expressions
+pub mod Signals
+pub mod Within
+pub mod Cells
+pub mod Bounds
+pub mod Round

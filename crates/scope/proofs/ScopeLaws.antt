@@ -1,0 +1,61 @@
+-- The scope of an expression of each kind.
+-- Assumes nothing.
+use mathlib.Core.Path.{_≡_, refl, sym, ap, _∙_}
+use mathlib.Core.List.{List, [], _∷_}
+use mathlib.Core.Bool.{Bool, true, false}
+use Prim.Native.Nat.{ℕ, zero, suc, _≤_, _<_}
+use lib.Dec.{eqb}
+use lib.ListN.{length, getD, set, List·getD-eq-default}
+use Rattle.rules.specs.Bytes.{Bytes}
+use Rattle.rules.specs.Layout.{kindAt, aAt, bAt, cAt}
+use Rattle.rules.specs.Kinds.{isExpression}
+use Rattle.rules.specs.Places.{sooner, wrongUnless}
+use Rattle.rules.specs.declared.Place.the-variants.{Nowhere}
+use Rattle.rules.specs.Tree.{exprAt}
+use Rattle.rules.specs.Scope.{Marks, mark, isMarked, scopeE}
+use Rattle.rules.proofs.Nodes.{expr-variable, expr-constant, expr-negation, expr-choice, expr-operation, expr-just, expr-taking}
+use Rattle.rules.specs.Shaped.{NodeOf}
+use Rattle.rules.proofs.Expressions.{IsOperation, negation-kid, just-kid, choice-kids, taking-kids, operation-kids}
+
+pub put-back : (l : List ℕ) (i v : ℕ) → set (set l i v) i (getD l i 0) ≡ l
+put-back [] i v = refl
+put-back (x ∷ l) zero v = refl
+put-back (x ∷ l) (suc i) v = ap (λ (t : List ℕ). x ∷ t) (put-back l i v)
+
+pub unmarked-past : (marks : Marks) (n : ℕ) → length marks ≤ n → isMarked marks n ≡ false
+unfolding isMarked
+unmarked-past marks n h = rw (List·getD-eq-default marks 0 h)
+
+module _ (p : Bytes) (n : ℕ) (w : NodeOf isExpression p n) (Γ : Marks) where
+  pub variable-scope : kindAt p n ≡ 16 → scopeE Γ (exprAt p n) ≡ wrongUnless (isMarked Γ (aAt p n)) n
+  unfolding scopeE
+  variable-scope e = ap (scopeE Γ) (expr-variable p n e)
+
+  pub constant-scope : kindAt p n ≡ 17 → scopeE Γ (exprAt p n) ≡ Nowhere
+  unfolding scopeE
+  constant-scope e = ap (scopeE Γ) (expr-constant p n e)
+
+  pub negation-scope : kindAt p n ≡ 24 → scopeE Γ (exprAt p n) ≡ scopeE Γ (exprAt p (aAt p n))
+  unfolding scopeE
+  negation-scope e = ap (scopeE Γ) (expr-negation p n e (negation-kid p n w e .less))
+
+  pub just-scope : kindAt p n ≡ 28 → scopeE Γ (exprAt p n) ≡ scopeE Γ (exprAt p (aAt p n))
+  unfolding scopeE
+  just-scope e = ap (scopeE Γ) (expr-just p n e (just-kid p n w e .less))
+
+  pub choice-scope : kindAt p n ≡ 27
+      → scopeE Γ (exprAt p n) ≡ sooner (scopeE Γ (exprAt p (aAt p n))) (sooner (scopeE Γ (exprAt p (bAt p n))) (scopeE Γ (exprAt p (cAt p n))))
+  unfolding scopeE
+  choice-scope e = let k = choice-kids p n w e in ap (scopeE Γ) (expr-choice p n e (k .0 .less) (k .1 .less) (k .2 .less))
+
+  pub taking-scope : kindAt p n ≡ 29
+      → scopeE Γ (exprAt p n) ≡ sooner (scopeE Γ (exprAt p (aAt p n))) (sooner (scopeE Γ (exprAt p (bAt p n))) (scopeE (mark Γ n) (exprAt p (cAt p n))))
+  unfolding scopeE
+  taking-scope e = let k = taking-kids p n w e in ap (scopeE Γ) (expr-taking p n e (k .0 .less) (k .1 .less) (k .2 .less))
+
+  pub operation-scope : IsOperation (kindAt p n)
+      → scopeE Γ (exprAt p n) ≡ sooner (scopeE Γ (exprAt p (aAt p n))) (scopeE Γ (exprAt p (bAt p n)))
+  unfolding scopeE
+  operation-scope o =
+      let k = operation-kids p n w o in
+      ap (scopeE Γ) (expr-operation p n (o .no16) (o .no17) (o .no24) (o .no27) (o .no28) (o .no29) (k .0 .less) (k .1 .less))

@@ -1,0 +1,167 @@
+// Code 6: scope, with the binders in scope marked in lent bytes, set and put back.
+ghost use mathlib.Core.Path.{_≡_};
+ghost use mathlib.Core.Bool.{Bool};
+ghost use Prim.Native.Nat.{_+_, _*_, _≤_, _<_};
+ghost use lib.ListN.{length, getD};
+ghost use Rattle.rules.specs.Layout.{nodes};
+ghost use Rattle.rules.specs.Kinds.{isExpression, isSignal, isBranch, isCase};
+ghost use Rattle.rules.specs.Places.{sooner as soonerOf, wrongUnless};
+ghost use Rattle.rules.specs.Tree.{exprAt, signalAt, branchesAt, casesAt};
+ghost use Rattle.rules.specs.Scope.{mark, isMarked, hasBranch, isOffered, scopeE, scopeS, scopeB, scopeC};
+ghost use Rattle.rules.specs.Shaped.{NodeOf};
+ghost use Rattle.scope.specs.Offers.{offersAt, Ready, Offered};
+use rules::Place;
+use table::fields;
+use types::sooner;
+use types::wrong_unless;
+
+fn marked(marks: &[u8], n: usize) -> bool
+    ensures { λ r. ⌜ r ≡ isMarked (now (marks .entry)) n ⌝ }
+{
+    if n < marks.len() {
+        return marks[n] == 1;
+    }
+    false
+}
+
+pub fn scope_e(p: &[u8], marks: &mut [u8], i: usize) -> Place
+    requires { ⌜ Ready isExpression (now p) (now marks) i ⌝ }
+    ensures { λ r. ⌜ (r ≡ scopeE (now (marks .entry)) (exprAt (now (p .entry)) i)) × (now (marks .exit) ≡ now (marks .entry)) ⌝ }
+{
+    let n = fields(p, i);
+    let k = n.kind;
+    match k {
+        16 => wrong_unless(marked(marks, n.a), i),
+        17 => Place::Nowhere,
+        24 => scope_e(p, marks, n.a),
+        27 => {
+            let test = scope_e(p, marks, n.a);
+            let x = scope_e(p, marks, n.b);
+            let y = scope_e(p, marks, n.c);
+            sooner(test, sooner(x, y))
+        }
+        28 => scope_e(p, marks, n.a),
+        29 => {
+            let m = scope_e(p, marks, n.a);
+            let x = scope_e(p, marks, n.b);
+            let y = inside_e(p, marks, i, n.c);
+            sooner(m, sooner(x, y))
+        }
+        _ => {
+            let x = scope_e(p, marks, n.a);
+            let y = scope_e(p, marks, n.b);
+            sooner(x, y)
+        }
+    }
+}
+
+// Expression k, below binder i.
+fn inside_e(p: &[u8], marks: &mut [u8], i: usize, k: usize) -> Place
+    requires { ⌜ Ready isExpression (now p) (now marks) k × (i < length (now marks)) ⌝ }
+    ensures { λ r. ⌜ (r ≡ scopeE (mark (now (marks .entry)) i) (exprAt (now (p .entry)) k)) × (now (marks .exit) ≡ now (marks .entry)) ⌝ }
+{
+    let old = marks[i];
+    marks[i] = 1;
+    let r = scope_e(p, marks, k);
+    marks[i] = old;
+    r
+}
+
+// Whether the list of branches at j has the branch k.
+pub fn has_branch(p: &[u8], j: usize, k: usize) -> bool
+    requires { ⌜ NodeOf isBranch (now p) j ⌝ }
+    ensures { λ r. ⌜ r ≡ hasBranch k (branchesAt (now (p .entry)) j) ⌝ }
+{
+    if j == k {
+        return true;
+    }
+    let n = fields(p, j);
+    if n.b == 65535 {
+        return false;
+    }
+    has_branch(p, n.b, k)
+}
+
+fn offered(p: &[u8], group: usize, k: usize) -> bool
+    requires { ⌜ Offered (now p) group ⌝ }
+    ensures { λ r. ⌜ r ≡ isOffered k (offersAt (now (p .entry)) group) ⌝ }
+{
+    if group == 65535 {
+        return false;
+    }
+    has_branch(p, group, k)
+}
+
+// Signal i; a case may leave for the group whose first branch is given, if it is not 65535.
+pub fn scope_s(p: &[u8], marks: &mut [u8], i: usize, group: usize) -> Place
+    requires { ⌜ Ready isSignal (now p) (now marks) i × Offered (now p) group ⌝ }
+    ensures { λ r. ⌜ (r ≡ scopeS (now (marks .entry)) (offersAt (now (p .entry)) group) (signalAt (now (p .entry)) i)) × (now (marks .exit) ≡ now (marks .entry)) ⌝ }
+{
+    let n = fields(p, i);
+    let k = n.kind;
+    match k {
+        3 => scope_e(p, marks, n.a),
+        4 => scope_s(p, marks, n.a, 65535),
+        5 => {
+            let d = inside_s(p, marks, i, n.a, 65535);
+            let b = inside_s(p, marks, i, n.b, group);
+            sooner(d, b)
+        }
+        6 => {
+            let x = scope_s(p, marks, n.a, 65535);
+            let e = scope_s(p, marks, n.b, 65535);
+            let y = inside_s(p, marks, i, n.c, 65535);
+            sooner(x, sooner(e, y))
+        }
+        7 => {
+            let body = scope_s(p, marks, n.a, n.b);
+            let brs = scope_b(p, marks, n.b, n.b);
+            sooner(body, brs)
+        }
+        8 => {
+            let s = scope_s(p, marks, n.a, 65535);
+            let cases = scope_c(p, marks, n.b, group);
+            sooner(s, cases)
+        }
+        _ => Place::Nowhere,
+    }
+}
+
+// Signal k, below binder i.
+fn inside_s(p: &[u8], marks: &mut [u8], i: usize, k: usize, group: usize) -> Place
+    requires { ⌜ Ready isSignal (now p) (now marks) k × Offered (now p) group × (i < length (now marks)) ⌝ }
+    ensures { λ r. ⌜ (r ≡ scopeS (mark (now (marks .entry)) i) (offersAt (now (p .entry)) group) (signalAt (now (p .entry)) k)) × (now (marks .exit) ≡ now (marks .entry)) ⌝ }
+{
+    let old = marks[i];
+    marks[i] = 1;
+    let r = scope_s(p, marks, k, group);
+    marks[i] = old;
+    r
+}
+
+fn scope_b(p: &[u8], marks: &mut [u8], j: usize, group: usize) -> Place
+    requires { ⌜ Ready isBranch (now p) (now marks) j × Offered (now p) group ⌝ }
+    ensures { λ r. ⌜ (r ≡ scopeB (now (marks .entry)) (offersAt (now (p .entry)) group) (branchesAt (now (p .entry)) j)) × (now (marks .exit) ≡ now (marks .entry)) ⌝ }
+{
+    let n = fields(p, j);
+    let body = inside_s(p, marks, j, n.a, group);
+    if n.b == 65535 {
+        return sooner(body, Place::Nowhere);
+    }
+    let rest = scope_b(p, marks, n.b, group);
+    sooner(body, rest)
+}
+
+fn scope_c(p: &[u8], marks: &mut [u8], j: usize, group: usize) -> Place
+    requires { ⌜ Ready isCase (now p) (now marks) j × Offered (now p) group ⌝ }
+    ensures { λ r. ⌜ (r ≡ scopeC (now (marks .entry)) (offersAt (now (p .entry)) group) (casesAt (now (p .entry)) j)) × (now (marks .exit) ≡ now (marks .entry)) ⌝ }
+{
+    let n = fields(p, j);
+    let here = wrong_unless(offered(p, group, n.c), j);
+    let event = scope_s(p, marks, n.a, 65535);
+    if n.b == 65535 {
+        return sooner(here, sooner(event, Place::Nowhere));
+    }
+    let rest = scope_c(p, marks, n.b, group);
+    sooner(here, sooner(event, rest))
+}

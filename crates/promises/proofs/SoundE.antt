@@ -32,7 +32,7 @@ use Rattle.rules.specs.declared.Opened.the-variants.{Here, Gone}
 use Rattle.rules.specs.declared.Evaluated.{Evaluated}
 use Rattle.rules.specs.declared.Evaluated.the-variants.{Done}
 use Rattle.rules.specs.declared.Place.the-variants.{Nowhere}
-use Rattle.rules.proofs.Round.{Fits, look-bind}
+use Rattle.rules.proofs.Round.{Fits, plain-yes, maybe-yes, look-bind}
 use Rattle.rules.proofs.Static.{both, holds, and-both, or-left, or-right}
 
 -- an evaluation that gives a value of a type
@@ -175,7 +175,7 @@ chosen-gives {q} {r} {s} {t} e g h =
 justOf-gives : (v : Value) (t : ℕ) → Fits v → typeOf v ≡ t → t ≤ 3 → Gives (justOf v) (maybeOf t)
 unfolding justOf typeOf maybeOf
 justOf-gives (Plain u w) t f e h =
-    give-gives (Present (u + 4) w) (record { fit = ((omega (arith, f .fit .0 .0), omega (arith, f .fit .0 .1)), f .fit .1) }) (ap (λ (k : ℕ). k + 4) e)
+    rw (plain-yes u (f .fit .0 .0) (f .fit .0 .1)) (give-gives (Present (u + 4) w) (record { fit = ((omega (arith, f .fit .0 .0), omega (arith, f .fit .0 .1)), f .fit .1) }) (ap (λ (k : ℕ). k + 4) e))
 justOf-gives (Absent u) t f e h = absurd (omega (arith, f .fit .0))
 justOf-gives (Present u w) t f e h = absurd (omega (arith, f .fit .0 .0))
 
@@ -190,7 +190,7 @@ unfolding opened typeOf maybeOf
 opened-cases P t (Plain u w) f e a b = absurd (omega (arith, f .fit .0 .1))
 opened-cases P t (Absent u) f e a b = a
 opened-cases P t (Present u w) f e a b =
-    b (Plain (u - 4) w) (record { fit = ((omega (arith, f .fit .0 .0), omega (arith, f .fit .0 .1)), f .fit .1) }) (omega arith)
+    rw (maybe-yes u (f .fit .0 .0) (f .fit .0 .1)) (b (Plain (u - 4) w) (record { fit = ((omega (arith, f .fit .0 .0), omega (arith, f .fit .0 .1)), f .fit .1) }) (omega arith))
 
 taken-gives : {q r : Evaluated} (f : Value → Evaluated) (t : ℕ) {u : ℕ} → Gives q (maybeOf t) → Gives r u
     → ((v : Value) → Fits v → typeOf v ≡ t → Gives (f v) u) → Gives (taken q r f) u

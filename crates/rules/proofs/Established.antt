@@ -26,7 +26,7 @@ nowhere-step test left k n true d q r f more = absurd (let z : _≡_ {A = ℕ} 0
 nowhere-step test left k n false true q r f more = ap test (sym (eqb-true k n r)) ∙ q
 nowhere-step test left k n false false q r f more = more f (eqb-false k n r)
 
-nowhere-from : (test : ℕ → Bool) (left k n : ℕ) → firstFrom test k left ≡ Nowhere → k ≤ n → n < k + left → test n ≡ false
+pub nowhere-from : (test : ℕ → Bool) (left k n : ℕ) → firstFrom test k left ≡ Nowhere → k ≤ n → n < k + left → test n ≡ false
 unfolding firstFrom
 nowhere-from test zero k n e l h = absurd (omega arith)
 nowhere-from test (suc left) k n e l h =
@@ -49,11 +49,11 @@ unfolding firstFrom
 at-below test zero k count h = none-most count
 at-below test (suc left) k count h = at-step test left k count (test k) (omega arith) (at-below test left (suc k) count (omega arith))
 
-nodes-within : (p : Bytes) → nodes p ≤ records p
+pub nodes-within : (p : Bytes) → nodes p ≤ records p
 unfolding nodes first
 nodes-within p = at-below (λ r. eqb (kindAt p r) 0) (records p) 0 (records p) (omega arith)
 
-most-nodes : (p : Bytes) → length p ≤ 12288 → nodes p ≤ 1008
+pub most-nodes : (p : Bytes) → length p ≤ 12288 → nodes p ≤ 1008
 unfolding records blocks
 most-nodes p h = omega (arith, nodes-within p)
 

@@ -7,6 +7,7 @@ pub mod Kids
 pub mod Established
 pub mod Expressions
 pub mod Signals
+pub mod Verdicts
 pub mod Within
 pub mod Cells
 pub mod Bounds

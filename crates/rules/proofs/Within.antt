@@ -10,7 +10,7 @@ use Rattle.rules.specs.Bytes.{Bytes, if_then_else_}
 use Rattle.rules.specs.Scope.{hasBranch}
 use Rattle.rules.specs.Reset.{resetS, resetB}
 use Rattle.rules.specs.Layout.{holdBranch, isClear, held, branchIn}
-use Rattle.rules.specs.Values.{unpacked}
+use Rattle.rules.specs.Values.{maybeOf, isPlain, unpacked}
 use Rattle.rules.specs.Work.{nothing, oneRule, _plus_, give, after, rule, _then_, Updated, Next, Jump, Halted, stays, leave, afterᵘ, ruleᵘ, _with_, _thenᵘ_}
 use Rattle.rules.specs.Tree.{Expr, variable, constant, operation, negation, choice, just, taking, Signal, input, time, ext, delay, letSignal, switch, group, until, Branches, noBranch, branch, Cases, noCase, case}
 use Rattle.rules.specs.Operations.{isTrue}
@@ -116,7 +116,11 @@ chosen-within Stuck r s e h g = free
 
 justOf-within : (v : Value) → Within (justOf v) 0
 unfolding justOf
-justOf-within (Plain t w) = give-within _
+justOf-within (Plain t w) = go (isPlain t)
+  where
+    go : (b : Bool) → Within (if b then give (Present (maybeOf t) w) else Stuck) 0
+    go true = give-within _
+    go false = free
 justOf-within (Absent t) = free
 justOf-within (Present t w) = free
 

@@ -21,5 +21,6 @@ pub mod WellFormed
 pub mod Update
 pub mod Bound
 pub mod Size
+pub mod Accepted
 pub mod Calls
 pub mod Readings

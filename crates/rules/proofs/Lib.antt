@@ -1,4 +1,5 @@
 pub mod Table
+pub mod Fixed
 pub mod Laws
 pub mod First
 pub mod Nodes

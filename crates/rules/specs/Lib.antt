@@ -23,4 +23,6 @@ pub mod Bound
 pub mod Size
 pub mod Accepted
 pub mod Calls
+pub mod Promised
+pub mod Samples
 pub mod Readings

@@ -13,3 +13,9 @@ pub mod Within
 pub mod Cells
 pub mod Bounds
 pub mod Round
+pub mod ByKind
+pub mod Counting
+pub mod Weights
+pub mod Sizes
+pub mod Once
+pub mod Rooted

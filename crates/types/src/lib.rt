@@ -1,18 +1,15 @@
 // Code 7: the type of each node and the smallest node whose own rule breaks, in one recursion over children.
 ghost use mathlib.Core.Path.{_≡_};
-ghost use mathlib.Core.Bool.{Bool, false};
-ghost use Prim.Native.Nat.{_+_, _*_, _≤_, _<_};
+ghost use mathlib.Core.Bool.{Bool};
+ghost use Prim.Native.Nat.{_-_, _≤_, _<_};
 ghost use lib.Dec.{eqb};
-ghost use lib.ListN.{length};
-ghost use Rattle.rules.specs.Bytes.{_and_, first};
+ghost use Rattle.rules.specs.Bytes.{_and_};
 ghost use Rattle.rules.specs.Values.{boolT, maybeOf, isPlain};
 ghost use Rattle.rules.specs.Operations.{operandType, resultType};
 ghost use Rattle.rules.specs.Layout.{channelType, nodes};
-ghost use Rattle.rules.specs.Format.{lengthWrong};
-ghost use Rattle.rules.specs.Shape.{shapeWrong};
 ghost use Rattle.rules.specs.Kinds.{isExpression, isSignal, isBranch, isCase};
 ghost use Rattle.rules.specs.Places.{sooner as soonerOf, wrongUnless};
-ghost use Rattle.rules.specs.Tree.{exprAt, signalAt, branchesAt, casesAt};
+ghost use Rattle.rules.specs.Tree.{exprAt, signalAt, branchesAt, casesAt, root};
 ghost use Rattle.rules.specs.Typing.{justType, typeE, typesE, typeS, typesS, typesB, typesC, bodiesHave, typeFault};
 ghost use Rattle.rules.specs.Shaped.{NodeOf};
 use rules::Place;
@@ -362,11 +359,10 @@ pub fn type_c(p: &[u8], j: usize) -> Place
     under(right, j, event_at, rest)
 }
 
-// The smallest wrong place of a program whose length and shape are right.
-pub fn type_fault(p: &[u8], count: usize) -> Place
-    requires { ⌜ (count ≡ nodes (now p)) × (0 < count) × (lengthWrong (now p) ≡ false) × (first (shapeWrong (now p)) (nodes (now p)) ≡ Place.Nowhere) ⌝ }
-    ensures { λ r. ⌜ r ≡ typeFault (now (p .entry)) ⌝ }
+// The root's type and the smallest wrong place, of a program whose root is node count - 1.
+pub fn type_root(p: &[u8], count: usize) -> Typed
+    requires { ⌜ (count ≡ nodes (now p)) × (0 < count) × NodeOf isSignal (now p) (count - 1) ⌝ }
+    ensures { λ r. ⌜ (r .ty ≡ typeS (root (now (p .entry)))) × (r .place ≡ typeFault (now (p .entry))) ⌝ }
 {
-    let t = type_s(p, count - 1);
-    t.place
+    type_s(p, count - 1)
 }

@@ -1,0 +1,138 @@
+//! The four public calls and the order in which they try their codes.
+
+use crate::program::Program;
+use crate::record::{Record, MOST_RECORDS, RECORD};
+use crate::refusal::{self, Refusal};
+use crate::state::{self, State};
+use crate::step as one;
+use crate::value::Value;
+
+/// The bytes of one step's output.
+pub const OUTPUT: usize = 8;
+/// The largest total of a run.
+pub const MOST_WORK: u64 = 4_294_967_295;
+
+/// The answer to an accepted check.
+#[derive(Clone, Copy, Debug, PartialEq, Eq)]
+pub struct Accepted {
+    pub nodes: usize,
+    pub cells: usize,
+    pub bound: u64,
+    pub root_type: u8,
+}
+
+/// The answer to a finished step or run.
+#[derive(Clone, Copy, Debug, PartialEq, Eq)]
+pub struct Done {
+    pub steps: usize,
+    pub work: u64,
+}
+
+/// Checks a program: codes 1 to 8.
+pub fn check(program: &[u8]) -> Result<Accepted, Refusal> {
+    Ok(accepted(&Program::read(program)?))
+}
+
+/// What check answers about an accepted program.
+pub fn accepted(program: &Program) -> Accepted {
+    Accepted {
+        nodes: program.tree.nodes.len(),
+        cells: program.cells.len(),
+        bound: program.bound,
+        root_type: program.root_type,
+    }
+}
+
+/// Starts a state: codes 1 to 8, then 9 for a wrong length only.
+pub fn start(program: &[u8], state: &mut [u8]) -> Result<(), Refusal> {
+    let program = Program::read(program)?;
+    if state.len() != state::length(&program) {
+        return Err(Refusal::at(refusal::STATE, 0));
+    }
+    State::start(&program).write(state);
+    Ok(())
+}
+
+/// Makes one step: codes 1 to 11, then 12, then 13.
+pub fn step(
+    program: &[u8],
+    state: &mut [u8],
+    record: &[u8],
+    output: &mut [u8],
+) -> Result<Done, Refusal> {
+    let one_record = |length| length == RECORD;
+    work_records(program, state, record, output, one_record)
+}
+
+/// Runs a list of records: codes 1 to 11, then 12, 14 and 13 for each record.
+pub fn run(
+    program: &[u8],
+    state: &mut [u8],
+    records: &[u8],
+    output: &mut [u8],
+) -> Result<Done, Refusal> {
+    let whole_records =
+        |length: usize| length.is_multiple_of(RECORD) && length <= MOST_RECORDS * RECORD;
+    work_records(program, state, records, output, whole_records)
+}
+
+/// Checks all lent memory and works the records one after the other. The lent state is written
+/// once, with what the finished steps made of it.
+fn work_records(
+    program: &[u8],
+    state: &mut [u8],
+    records: &[u8],
+    output: &mut [u8],
+    right_length: impl Fn(usize) -> bool,
+) -> Result<Done, Refusal> {
+    let program = Program::read(program)?;
+    let read = State::read(&program, state).ok_or(Refusal::at(refusal::STATE, 0))?;
+    if !right_length(records.len()) {
+        return Err(Refusal::at(refusal::RECORDS, 0));
+    }
+    if output.len() != records.len() / RECORD * OUTPUT {
+        return Err(Refusal::at(refusal::OUTPUT, 0));
+    }
+    let mut walk = Walk::new(&program, read);
+    let answer = walk.all(records, output);
+    walk.state.write(state);
+    answer
+}
+
+/// A run on its way: the state reached and what was done so far.
+pub struct Walk<'a> {
+    program: &'a Program,
+    pub state: State,
+    pub done: Done,
+}
+
+impl Walk<'_> {
+    pub fn new(program: &Program, state: State) -> Walk<'_> {
+        Walk { program, state, done: Done { steps: 0, work: 0 } }
+    }
+
+    /// Works all records in turn, writing each output as its step is done.
+    fn all(&mut self, records: &[u8], output: &mut [u8]) -> Result<Done, Refusal> {
+        for (record, room) in records.chunks(RECORD).zip(output.chunks_mut(OUTPUT)) {
+            let (value, _) = self.next(record)?;
+            room.copy_from_slice(&value.bytes());
+        }
+        Ok(self.done)
+    }
+
+    /// Makes the next step: tries 12, 14 and 13, then answers the value and the step's work.
+    pub fn next(&mut self, record: &[u8]) -> Result<(Value, u64), Refusal> {
+        let Done { steps, work } = self.done;
+        let refused = |code| Refusal::after(code, steps, work);
+        let record = Record::read(record).ok_or(refused(refusal::INPUT))?;
+        if work + self.program.bound > MOST_WORK {
+            return Err(refused(refusal::TOTAL));
+        }
+        if self.state.time.is_some_and(|last| record.time < last) {
+            return Err(refused(refusal::BACKWARD));
+        }
+        let (value, own) = one::make(self.program, &mut self.state, &record);
+        self.done = Done { steps: steps + 1, work: work + own };
+        Ok((value, own))
+    }
+}

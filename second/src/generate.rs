@@ -1,0 +1,235 @@
+//! Seeded streams of requests, and files for watchrun.
+
+use crate::calls;
+use crate::damage;
+use crate::format;
+use crate::grow;
+use crate::kinds::{self, Node};
+use crate::random::Random;
+use crate::record::{FLAGS, MOST_RECORDS, RECORD};
+use crate::request::Request;
+use crate::state::{CELL, HEADER, LATEST};
+use crate::wild;
+
+/// A program as nodes and as a file.
+#[derive(Clone, Debug)]
+pub struct Sample {
+    pub nodes: Vec<Node>,
+    pub file: Vec<u8>,
+}
+
+/// Sizes at which a block is just full or just begun.
+const BORDERS: [usize; 8] = [42, 43, 84, 85, 126, 127, 966, 967];
+
+/// A size: mostly small, some medium, some full.
+pub fn size(random: &mut Random) -> usize {
+    match random.weighted(&[64, 23, 6, 3, 4]) {
+        0 => random.between(1, 40),
+        1 => random.between(41, 250),
+        2 => random.between(251, 1008),
+        3 => 1008,
+        _ => random.one(&BORDERS),
+    }
+}
+
+/// An accepted program of so many nodes.
+pub fn accepted(random: &mut Random, count: usize) -> Sample {
+    let nodes = grow::grow(random, count, 0);
+    Sample { file: format::write(&nodes), nodes }
+}
+
+/// A program that may use a let's variable too soon.
+pub fn hasty(random: &mut Random, count: usize) -> Sample {
+    let percent = random.one(&[3, 10, 40]);
+    let nodes = grow::grow(random, count, percent);
+    Sample { file: format::write(&nodes), nodes }
+}
+
+/// A program of right shape whose types, binders and targets are at random.
+pub fn wild(random: &mut Random) -> Sample {
+    let count = random.one(&[1, 2, 3, 4, 5, 6, 8, 12, 20, 60]);
+    let nodes = wild::wild(random, count);
+    Sample { file: format::write(&nodes), nodes }
+}
+
+/// So many well-formed records from a time on, with events now and then.
+pub fn records(random: &mut Random, count: usize, from: u32) -> Vec<u8> {
+    let often = random.one(&[10, 40, 60, 95]);
+    let pace = random.one(&[1, 100, 100_000, 1 << 30]);
+    let mut time = from;
+    let mut bytes = Vec::with_capacity(count * RECORD);
+    for _ in 0..count {
+        if !random.chance(30) {
+            time = time.saturating_add(random.below(pace) as u32).min(LATEST);
+        }
+        bytes.extend(record(random, time, often));
+    }
+    bytes
+}
+
+/// One well-formed record; each event is present so often of a hundred.
+fn record(random: &mut Random, time: u32, often: usize) -> [u8; RECORD] {
+    let mut record = [0; RECORD];
+    record[..4].copy_from_slice(&time.to_le_bytes());
+    for channel in 0..8 {
+        let at = 4 + 4 * channel + if channel < 4 { 0 } else { 4 };
+        if channel < 4 || random.chance(often) {
+            record[at..at + 4].copy_from_slice(&random.word().to_le_bytes());
+            record[FLAGS] |= if channel < 4 { 0 } else { 1 << (channel - 4) };
+        }
+    }
+    record
+}
+
+/// The length of the state of these nodes.
+pub fn state_length(nodes: &[Node]) -> usize {
+    HEADER + CELL * nodes.iter().filter(|node| kinds::has_cell(node.kind)).count()
+}
+
+/// The start state of a program, or zeros where it is refused.
+pub fn start_state(sample: &Sample) -> Vec<u8> {
+    let mut state = vec![0; state_length(&sample.nodes)];
+    let _ = calls::start(&sample.file, &mut state);
+    state
+}
+
+/// A state reached after some steps, and the time after it.
+pub fn reached_state(random: &mut Random, sample: &Sample) -> (Vec<u8>, u32) {
+    let mut state = start_state(sample);
+    let steps = random.one(&[0, 0, 1, 2, 3, 6, 12]);
+    let from = random.one(&[0, 0, 5, 1000, 2_147_483_000]);
+    let before = records(random, steps, from);
+    let _ = calls::run(&sample.file, &mut state, &before, &mut vec![0; steps * calls::OUTPUT]);
+    let time = format::number32(&state, 0);
+    (state, if time > LATEST { from } else { time })
+}
+
+/// A check request: accepted programs, hasty and wild ones, and damaged ones.
+pub fn check_request(random: &mut Random) -> Request {
+    let count = size(random);
+    let (sample, percent) = match random.below(20) {
+        0..5 => (hasty(random, count.max(8)), 20),
+        5..8 => (wild(random), 20),
+        _ => (accepted(random, count), 65),
+    };
+    let mut program = sample.file;
+    if random.chance(percent) {
+        damaged(random, &mut program, &sample.nodes);
+    }
+    Request::Check { program }
+}
+
+/// Damages a program once, or now and then two or three times.
+fn damaged(random: &mut Random, file: &mut Vec<u8>, nodes: &[Node]) {
+    let times = random.one(&[1, 1, 1, 1, 2, 3]);
+    for _ in 0..times {
+        if file.len() >= format::BLOCK && file.len() <= format::BLOCK * format::MOST_BLOCKS {
+            damage::program(random, file, nodes);
+        }
+    }
+}
+
+/// A request to any of the four calls.
+pub fn request(random: &mut Random) -> Request {
+    match random.weighted(&[25, 12, 28, 35]) {
+        0 => check_request(random),
+        1 => start_request(random),
+        2 => steps_request(random, true),
+        _ => steps_request(random, false),
+    }
+}
+
+/// A program for a call that needs more than the check; now and then damaged.
+fn sample_for_call(random: &mut Random, damaged_percent: usize) -> (Sample, Vec<u8>) {
+    let count = size(random);
+    let sample = match random.chance(6) {
+        true => hasty(random, count.max(8)),
+        false => accepted(random, count),
+    };
+    let mut file = sample.file.clone();
+    if random.chance(damaged_percent) {
+        damaged(random, &mut file, &sample.nodes);
+    }
+    (sample, file)
+}
+
+fn start_request(random: &mut Random) -> Request {
+    let (sample, program) = sample_for_call(random, 35);
+    let mut length = state_length(&sample.nodes);
+    if random.chance(20) {
+        length = random.one(&[0, 4, length + 1, length - 1, length + 8, length - 4]);
+    }
+    let state = (0..length).map(|_| random.draw() as u8).collect();
+    Request::Start { program, state }
+}
+
+fn steps_request(random: &mut Random, single: bool) -> Request {
+    let (sample, program) = sample_for_call(random, 15);
+    let (mut state, time) = reached_state(random, &sample);
+    let count = if single { 1 } else { record_count(random, sample.nodes.len()) };
+    let from = if random.chance(5) { time.saturating_sub(1) } else { time };
+    let mut records = records(random, count, from);
+    let mut output = vec![random.draw() as u8; count * calls::OUTPUT];
+    if random.chance(25) {
+        for _ in 0..random.one(&[1, 1, 2]) {
+            damage::state(random, &mut state, &sample.nodes);
+        }
+    }
+    if random.chance(25) {
+        damage::records(random, &mut records);
+    }
+    if random.chance(10) {
+        wrong_lengths(random, &mut records, &mut output);
+    }
+    match single {
+        true => Request::Step { program, state, records, output },
+        false => Request::Run { program, state, records, output },
+    }
+}
+
+/// How many records a run gets: few, and rarely the most where the program is small.
+fn record_count(random: &mut Random, nodes: usize) -> usize {
+    match random.below(400) {
+        0 if nodes <= 40 => MOST_RECORDS,
+        0..20 if nodes <= 120 => random.between(20, 300),
+        _ => random.between(0, 16),
+    }
+}
+
+/// Wrong lengths of the records, of the output room, or of both.
+fn wrong_lengths(random: &mut Random, records: &mut Vec<u8>, output: &mut Vec<u8>) {
+    let near = |random: &mut Random, length: usize, whole: usize| {
+        let less = length.saturating_sub(whole);
+        let far = (MOST_RECORDS + 1) * whole;
+        let many = [length + 1, length.saturating_sub(1), length + whole, less, 0];
+        if whole == RECORD && random.chance(6) {
+            far
+        } else {
+            random.one(&many)
+        }
+    };
+    if random.chance(50) {
+        let to = near(random, records.len(), RECORD);
+        records.resize(to, 0);
+    }
+    if random.chance(70) {
+        let to = near(random, output.len(), calls::OUTPUT);
+        output.resize(to, 7);
+    }
+}
+
+/// Input for watchrun: blocks and then records, now and then damaged.
+pub fn watch_input(random: &mut Random) -> Vec<u8> {
+    let (_, mut input) = sample_for_call(random, 15);
+    let count = random.between(0, 30);
+    let mut tail = records(random, count, 0);
+    if random.chance(20) {
+        damage::records(random, &mut tail);
+    }
+    if random.chance(10) {
+        let to = tail.len().saturating_sub(random.between(1, RECORD));
+        tail.truncate(to);
+    }
+    input.extend(tail);
+    input
+}

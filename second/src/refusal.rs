@@ -1,0 +1,37 @@
+//! Refusals: the code, its place, and the work of the steps done before it.
+
+/// The codes of the table in "Records and codes".
+pub const LENGTH: u32 = 1;
+pub const CHECK: u32 = 2;
+pub const NUMBERING: u32 = 3;
+pub const RECORD: u32 = 4;
+pub const SHAPE: u32 = 5;
+pub const SCOPE: u32 = 6;
+pub const TYPE: u32 = 7;
+pub const READY: u32 = 8;
+pub const STATE: u32 = 9;
+pub const RECORDS: u32 = 10;
+pub const OUTPUT: u32 = 11;
+pub const INPUT: u32 = 12;
+pub const BACKWARD: u32 = 13;
+pub const TOTAL: u32 = 14;
+
+/// A refused call.
+#[derive(Clone, Copy, Debug, PartialEq, Eq)]
+pub struct Refusal {
+    pub code: u32,
+    pub place: u32,
+    pub work: u64,
+}
+
+impl Refusal {
+    /// A refusal before any step was done.
+    pub fn at(code: u32, place: usize) -> Refusal {
+        Refusal { code, place: place as u32, work: 0 }
+    }
+
+    /// A refusal of a record after `steps` finished steps of `work` altogether.
+    pub fn after(code: u32, steps: usize, work: u64) -> Refusal {
+        Refusal { code, place: steps as u32, work }
+    }
+}

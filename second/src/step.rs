@@ -1,0 +1,66 @@
+//! One step: evaluate the root, update it, and let the state's time become the record's.
+
+use crate::kinds;
+use crate::program::Program;
+use crate::record::Record;
+use crate::state::{self, Cell, State};
+use crate::value::Value;
+
+/// What the rules of one step work on.
+pub struct Step<'a> {
+    pub program: &'a Program,
+    pub record: &'a Record,
+    pub cells: &'a mut [Cell],
+    /// The values bound by lets and takes, by the binder's number. A binder is entered anew
+    /// before any use of its variable, so one place for each is enough.
+    pub bound: Vec<Value>,
+    pub work: u64,
+}
+
+/// Makes one step and answers the root's value and the work.
+pub fn make(program: &Program, state: &mut State, record: &Record) -> (Value, u64) {
+    let bound = vec![Value::default(); program.tree.nodes.len()];
+    let mut step = Step { program, record, cells: &mut state.cells, bound, work: 0 };
+    let root = program.tree.root();
+    let output = step.evaluate(root);
+    step.update(root);
+    let work = step.work;
+    state.time = Some(record.time);
+    (output, work)
+}
+
+impl Step<'_> {
+    /// Counts one rule used.
+    pub fn count(&mut self) {
+        self.work += 1;
+    }
+
+    /// The cell of a delay, switch or group.
+    pub fn cell(&mut self, number: usize) -> &mut Cell {
+        &mut self.cells[self.program.cell_at[number]]
+    }
+
+    /// The body of the current part of a switch or a group.
+    pub fn current_part(&mut self, number: usize) -> usize {
+        let node = self.program.node(number);
+        let cell = *self.cell(number);
+        let part = match node.kind {
+            _ if cell == Cell::default() => node.a,
+            kinds::SWITCH => node.c,
+            _ => self.program.node(cell.branch as usize).a,
+        };
+        part as usize
+    }
+
+    /// Puts all cells of a node and below it to start; resets count nothing.
+    pub fn reset(&mut self, from: usize) {
+        let mut waiting = vec![from];
+        while let Some(number) = waiting.pop() {
+            let node = self.program.node(number);
+            if kinds::has_cell(node.kind) {
+                *self.cell(number) = state::start_cell(self.program, number);
+            }
+            waiting.extend(kinds::children(&node).map(|child| child.number as usize));
+        }
+    }
+}

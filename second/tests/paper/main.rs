@@ -1,0 +1,8 @@
+//! The paper's cases, wrong turns and codes, and every point of the readings.
+
+mod codes;
+mod points;
+mod readings;
+mod tables;
+mod watchrun;
+mod wrong_turns;

@@ -1,0 +1,132 @@
+//! The assembler, the stream of requests and the generator's programs.
+
+use second::generate;
+use second::random::Random;
+use second::request::{self, Request};
+use second::{assemble, check};
+use std::io::Write;
+use std::process::{Command, Stdio};
+
+/// What one of the programs prints for an input.
+fn output_of(program: &str, words: &[&str], input: &[u8]) -> Vec<u8> {
+    let mut child = Command::new(program)
+        .args(words)
+        .stdin(Stdio::piped())
+        .stdout(Stdio::piped())
+        .spawn()
+        .expect("it starts");
+    let mut pipe = child.stdin.take().expect("it listens");
+    let input = input.to_vec();
+    let writer = std::thread::spawn(move || pipe.write_all(&input));
+    let output = child.wait_with_output().expect("it ends").stdout;
+    let _ = writer.join().expect("the writer ends");
+    output
+}
+
+const CALLS: &str = env!("CARGO_BIN_EXE_calls");
+const GENERATE: &str = env!("CARGO_BIN_EXE_generate");
+
+#[test]
+fn every_sample_is_what_it_says() {
+    // Each sample ends in what watchrun prints for it.
+    let mut seen = 0;
+    for entry in std::fs::read_dir("samples").expect("samples are there") {
+        let path = entry.expect("an entry").path();
+        let text = std::fs::read_to_string(&path).expect("it is text");
+        let (source, expected) = text.split_once("; prints\n").expect("it says what it prints");
+        let expected: String = expected.lines().map(|line| format!("{}\n", &line[2..])).collect();
+        let input = output_of(env!("CARGO_BIN_EXE_assemble"), &[], source.as_bytes());
+        let printed = output_of(env!("CARGO_BIN_EXE_watchrun"), &[], &input);
+        assert_eq!(String::from_utf8(printed).expect("text"), expected, "{path:?}");
+        seen += 1;
+    }
+    assert!(seen >= 4);
+}
+
+#[test]
+fn calls_answers_one_request() {
+    let program = assemble::program("time").expect("a table");
+    let ask = |head: &str, rooms: &[&[u8]]| {
+        let input = [format!("{head}\n").as_bytes(), &rooms.concat()].concat();
+        String::from_utf8(output_of(CALLS, &[], &input)).expect("text")
+    };
+    assert_eq!(ask("check 512", &[&program]), "OK 1 0 2 3\n");
+    assert_eq!(ask("check 0", &[]), "REFUSED 1 0 0\n");
+    assert_eq!(ask("start 512 4", &[&program, &[1, 2, 3, 4]]), "OK\nffffffff\n");
+    assert_eq!(ask("start 512 0", &[&program]), "REFUSED 9 0 0\n\n");
+    let record = assemble::records("258").expect("a record");
+    let step = ask("step 512 4 40 8", &[&program, &[255; 4], &record, &[9; 8]]);
+    assert_eq!(step, "OK 1 2\n02010000\n0301000002010000\n");
+    let run = ask("run 512 4 0 0", &[&program, &[255; 4]]);
+    assert_eq!(run, "OK 0 0\nffffffff\n\n");
+    let bad = [record.clone(), vec![255; 40]].concat();
+    let run = ask("run 512 4 80 16", &[&program, &[255; 4], &bad, &[9; 16]]);
+    assert_eq!(run, "REFUSED 12 1 2\n02010000\n03010000020100000909090909090909\n");
+}
+
+#[test]
+fn serving_a_stream_is_answering_one_by_one() {
+    let stream = output_of(GENERATE, &["requests", "9", "150"], &[]);
+    let served = output_of(CALLS, &["serve"], &stream);
+    let mut input = stream.as_slice();
+    let mut expected = String::new();
+    let mut again = Vec::new();
+    while let Some(request) = Request::read(&mut input) {
+        request.write(&mut again).expect("memory takes all");
+        expected += &request.answer().text();
+    }
+    assert_eq!(String::from_utf8(served).expect("text"), expected);
+    assert_eq!(again, stream);
+    assert_eq!(
+        request::tally(&mut stream.as_slice()).counts.as_flattened().iter().sum::<usize>(),
+        150
+    );
+}
+
+#[test]
+fn seeds_decide() {
+    let stream = |seed| output_of(GENERATE, &["checks", seed, "40"], &[]);
+    assert_eq!(stream("3"), stream("3"));
+    assert_ne!(stream("3"), stream("4"));
+}
+
+#[test]
+fn watch_inputs_are_files() {
+    let mut random = Random::new(11);
+    let mut words = [0usize; 3];
+    for _ in 0..200 {
+        let mut output = Vec::new();
+        let input = generate::watch_input(&mut random);
+        second::print::watch(input.as_slice(), &mut output).expect("memory takes all");
+        let text = String::from_utf8(output).expect("text");
+        let last = text.lines().last().expect("a line");
+        words[usize::from(last.starts_with("REFUSED"))] += 1;
+        words[2] += usize::from(text.starts_with("OK") && last.starts_with("REFUSED"));
+    }
+    assert!(words.iter().all(|&count| count > 10), "{words:?}");
+}
+
+#[test]
+fn the_assembler_tells_mistakes_by_line() {
+    let mistake = |text: &str| assemble::whole(text).expect_err("a mistake");
+    assert_eq!(mistake("time\n\n no of=1").line, 3);
+    assert_eq!(mistake("time\n ext of=nobody").says, "no node is called nobody");
+    assert_eq!(mistake("x: time\n x: time").line, 2);
+    assert_eq!(mistake("ext for=1").says, "no field is called for here");
+    assert_eq!(mistake("const value=five").line, 1);
+    assert_eq!(mistake("time\n records\n 5 c8=1").line, 3);
+    assert_eq!(mistake("time\n .check 9 1").line, 2);
+}
+
+#[test]
+fn raw_overrides() {
+    let code = |text: &str| check(&assemble::program(text).expect("a table")).map_err(|it| it.code);
+    assert_eq!(code("time\n.check 0 5"), Err(2));
+    assert_eq!(code("time\n.byte 510 9"), Err(2));
+    assert_eq!(code("time\n.byte 510 9\n.seal"), code("time"));
+    assert_eq!(code("time\n.number 0 1"), Err(3));
+    assert_eq!(code("time\n.length 511"), Err(1));
+    assert_eq!(code("raw 2 0 0 0 0 7"), Err(4));
+    assert_eq!(code("time b=4"), Err(4));
+    assert_eq!(code("time kind=1 a=7"), code("input channel=7"));
+}

@@ -3,7 +3,7 @@
 use second::generate;
 use second::random::Random;
 use second::request::{self, Request};
-use second::{assemble, check};
+use second::{assemble, check, run};
 use std::io::Write;
 use std::process::{Command, Stdio};
 
@@ -104,6 +104,26 @@ fn watch_inputs_are_files() {
         words[2] += usize::from(text.starts_with("OK") && last.starts_with("REFUSED"));
     }
     assert!(words.iter().all(|&count| count > 10), "{words:?}");
+}
+
+#[test]
+fn watching_is_running() {
+    let mut random = Random::new(12);
+    for _ in 0..150 {
+        let count = random.between(1, 80);
+        let sample = generate::accepted(&mut random, count);
+        let steps = random.below(12);
+        let records = generate::records(&mut random, steps, 0);
+        let mut state = generate::start_state(&sample);
+        let mut room = vec![0; steps * 8];
+        let done = run(&sample.file, &mut state, &records, &mut room).expect("all well-formed");
+        let mut output = Vec::new();
+        let input = [sample.file, records].concat();
+        second::print::watch(input.as_slice(), &mut output).expect("memory takes all");
+        let text = String::from_utf8(output).expect("text");
+        assert!(text.ends_with(&format!("END {} {}\n", done.steps, done.work)));
+        assert_eq!(text.lines().count(), steps + 2);
+    }
 }
 
 #[test]

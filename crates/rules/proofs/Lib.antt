@@ -19,3 +19,7 @@ pub mod Weights
 pub mod Sizes
 pub mod Once
 pub mod Rooted
+pub mod CellNumbers
+pub mod CellsOnce
+pub mod Recorded
+pub mod Branches

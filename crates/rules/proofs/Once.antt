@@ -2,21 +2,21 @@
 -- the table. So the tree has as many nodes as the table, and the bound is at most N(N + 1).
 -- Assumes nothing.
 use mathlib.Core.Path.{_≡_, refl, sym, ap, subst, _∙_}
-use mathlib.Core.Bool.{Bool, true, false, not}
+use mathlib.Core.Bool.{Bool, true, false}
 use Prim.Native.Nat.{ℕ, zero, suc, _+_, _-_, _*_, _≤_, _<_}
 use native.Mathlib.Omega.{arith}
 use lib.Dec.{eqb}
 use borrow.Author.Tests.{eqb-true, ne-eqb}
-use Rattle.rules.specs.Bytes.{Bytes, first, if_then_else_, _and_, _or_}
+use Rattle.rules.specs.Bytes.{Bytes, first, if_then_else_, _and_}
 use Rattle.rules.specs.Layout.{kindAt, aAt, bAt, cAt, nodes, hasCell, cellsBefore}
 use Rattle.rules.specs.declared.Field.{Field}
 use Rattle.rules.specs.declared.Field.the-variants.{Unused, Channel, PresentByte, Signal, Expression, FirstBranch, NextBranch, FirstCase, NextCase, Binder, Target}
 use Rattle.rules.specs.declared.Place.the-variants.{Nowhere}
-use Rattle.rules.specs.Kinds.{isSignal, fieldsOf}
+use Rattle.rules.specs.Kinds.{fieldsOf}
 use Rattle.rules.specs.Format.{lengthWrong}
 use Rattle.rules.specs.Shape.{isChild, names, namesIn, namedBelow, named, shapeWrong}
-use Rattle.rules.specs.Shaped.{Shaped, NodeOf}
-use Rattle.rules.specs.Tree.{below, signalAt, root}
+use Rattle.rules.specs.Shaped.{Shaped}
+use Rattle.rules.specs.Tree.{below, root}
 use Rattle.rules.specs.Size.{sizeS}
 use Rattle.rules.specs.Bound.{bound}
 use Rattle.rules.proofs.Nodes.{below-lt, below-ge}

@@ -1,7 +1,7 @@
 -- The number of nodes of a tree and how often a cell stands in it are weights of the tree.
 -- Assumes nothing.
 use mathlib.Core.Path.{_≡_, refl}
-use Prim.Native.Nat.{ℕ, _+_}
+use Prim.Native.Nat.{ℕ}
 use native.Mathlib.Omega.{arith}
 use Rattle.rules.specs.Tree.{Expr, variable, constant, operation, negation, choice, just, taking, Signal, input, time, ext, delay, letSignal, switch, group, until, Branches, noBranch, branch, Cases, noCase, case}
 use Rattle.rules.specs.Size.{sizeE, sizeS, sizeB, sizeC, isCell, timesS, timesB, timesC}

@@ -3,7 +3,7 @@
 -- Assumes nothing.
 use mathlib.Core.Path.{_≡_, refl, sym, ap, _∙_}
 use mathlib.Core.Bool.{Bool, true, false}
-use Prim.Native.Nat.{ℕ, zero, suc, _+_, _≤_, _<_}
+use Prim.Native.Nat.{ℕ, zero, suc, _+_, _<_}
 use native.Mathlib.Nat.{not-suc-le-zero}
 use native.Mathlib.Omega.{arith}
 use borrow.Author.Tests.{eqb-true}
@@ -13,14 +13,14 @@ use Rattle.rules.specs.declared.Field.{Field}
 use Rattle.rules.specs.declared.Fields.{Fields}
 use Rattle.rules.specs.Kinds.{row, isSignal, isExpression, isBranch, isCase, fieldsOf}
 use Rattle.rules.specs.Shape.{isChild}
-use Rattle.rules.specs.Shaped.{Shaped, NodeOf}
+use Rattle.rules.specs.Shaped.{NodeOf}
 use Rattle.rules.specs.Tree.{Expr, variable, constant, operation, negation, choice, just, taking, Signal, input, time, ext, delay, letSignal, switch, group, until, Branches, noBranch, branch, Cases, noCase, case, below, exprAt, signalAt, branchesAt, casesAt}
 use Rattle.rules.proofs.Laws.{below-same}
 use Rattle.rules.proofs.Nodes.{below-lt, below-ge, expr-variable, expr-constant, signal-input, signal-time}
 use Rattle.rules.proofs.Kids.{Child}
 use Rattle.rules.proofs.Expressions.{IsOperation, negation-kid, negation-tree, just-kid, just-tree, choice-kids, choice-tree, taking-kids, taking-tree, operation-kids, operation-tree}
 use Rattle.rules.proofs.Signals.{ext-kid, ext-tree, delay-kid, delay-tree, let-kids, let-tree, switch-kids, switch-tree, group-kids, group-tree, until-kids, until-tree, branch-kid, branch-next, branch-end, branch-on, case-kid, case-next, case-end, case-on}
-use Rattle.rules.proofs.ByKind.{ExpressionKind, is-variable, is-constant, is-negation, is-choice, is-just, is-taking, is-operation, expression-kind, SignalKind, is-input, is-time, is-ext, is-delay, is-let, is-switch, is-group, is-until, signal-kind, choose, TwoKids, two-kids}
+use Rattle.rules.proofs.ByKind.{ExpressionKind, is-variable, is-constant, is-negation, is-choice, is-just, is-taking, is-operation, expression-kind, SignalKind, is-input, is-time, is-ext, is-delay, is-let, is-switch, is-group, is-until, signal-kind, choose, two-kids}
 
 -- A tree's weight: u for each node without a cell, v k for the one with cell k.
 unfoldable pub weighE : ℕ → Expr → ℕ

@@ -1,2 +1,16 @@
+pub mod SmallLaws
+pub mod ValidLaws
+pub mod FromTable
 pub mod SoundE
 pub mod SoundS
+pub mod Frames
+pub mod Rests
+pub mod Goes
+pub mod Caught
+pub mod UpdateS
+pub mod Moment
+pub mod Steps
+pub mod Start
+pub mod Runs
+pub mod CallLaws
+pub mod Promises

@@ -1,0 +1,119 @@
+-- The calls of an accepted program: start is ready with a well-formed state, and from a well-formed state step and run are refused only for
+-- their records, and leave a well-formed state.
+-- Assumes nothing.
+use mathlib.Core.Path.{_≡_, refl}
+use mathlib.Core.Bool.{Bool, true, false, not}
+use Prim.Native.Nat.{ℕ, _*_, _/_, _≤_}
+use native.Mathlib.Omega.{arith}
+use lib.Dec.{eqb}
+use lib.ListN.{length}
+use borrow.Author.Tests.{eq-eqb}
+use Rattle.rules.specs.Bytes.{Bytes, if_then_else_}
+use Rattle.rules.specs.Layout.{inputLength, stateLength}
+use Rattle.rules.specs.Answers.{codeOf}
+use Rattle.rules.specs.Reset.{startState}
+use Rattle.rules.specs.WellFormed.{wellFormed}
+use Rattle.rules.specs.Update.{stepOf}
+use Rattle.rules.specs.Accepted.{Accepted}
+use Rattle.rules.specs.Calls.{_otherwise_, refuseIf, lentVerdict, inputWrong, timeWrong, stepVerdict, startOutcome, startCall, RunOutcome, runOutcome, runCall, stepOutcome, stepCall}
+use Rattle.rules.specs.declared.Refusal.{Refusal}
+use Rattle.rules.specs.declared.Refusal.the-variants.{RecordsLength, OutputLength, InputFault, TimeBack}
+use Rattle.rules.specs.declared.Verdict.{Verdict}
+use Rattle.rules.specs.declared.Verdict.the-variants.{Fine, Refuse}
+use Rattle.rules.specs.declared.Started.the-variants.{Ready}
+use Rattle.rules.proofs.Verdicts.{both-fine, if-fine, fine-verdict}
+use Rattle.promises.specs.Small.{Small}
+use Rattle.promises.specs.Seated.{Seated}
+use Rattle.promises.specs.Step.{StepMade}
+use Rattle.promises.specs.Run.{RunAnswers, lengths, ran, StepAnswers, unfit, made}
+use Rattle.promises.specs.GoesOn.{State}
+use Rattle.promises.proofs.Steps.{step-goes-on}
+use Rattle.promises.proofs.Runs.{in-time, run-from, run-ends-well}
+
+-- Start.
+pub start-goes-on : (p st : Bytes) → Accepted p → length st ≡ stateLength p
+    → startCall p st ≡ record { answer = Ready; state = startState p }
+unfolding startCall startOutcome _otherwise_ refuseIf
+start-goes-on p st acc l = rw (fine-verdict p acc, eq-eqb (length st) (stateLength p) l)
+
+-- What step and run are lent.
+lent : (p st recs out : Bytes) (fit : Bool) → Accepted p → wellFormed p st ≡ true
+    → lentVerdict p st recs out fit
+    ≡ (refuseIf (not fit) RecordsLength otherwise refuseIf (not (eqb (length out) (8 * (length recs / inputLength)))) OutputLength)
+unfolding lentVerdict _otherwise_ refuseIf
+lent p st recs out fit acc well = rw (fine-verdict p acc, well)
+
+-- A verdict that is fine, or refuses with one of the codes from 10 to most.
+data Lent (most : ℕ) : Verdict → Type 0 where
+  fine : Lent most Fine
+  refuse : (r : Refusal) → 10 ≤ codeOf r → codeOf r ≤ most → Lent most (Refuse r)
+
+-- The lengths are refused with code 10 or 11, or fine.
+lengths-lent : (most : ℕ) → 11 ≤ most → (a b : Bool) → Lent most (refuseIf a RecordsLength otherwise refuseIf b OutputLength)
+unfolding _otherwise_ refuseIf
+lengths-lent most h true b = refuse RecordsLength (omega arith) (omega arith)
+lengths-lent most h false true = refuse OutputLength (omega arith) (omega arith)
+lengths-lent most h false false = fine
+
+-- Run.
+run-outcome : (p st recs out : Bytes) → Accepted p → Seated p → wellFormed p st ≡ true → Small st → Small recs → (v : Verdict) → Lent 11 v
+    → RunAnswers p st recs out (runOutcome p st recs out v)
+unfolding runOutcome
+run-outcome p st recs out acc seat well hs hr Fine fine = ran (run-from (length recs / inputLength) p recs acc seat hr 0 0 st out well hs)
+run-outcome p st recs out acc seat well hs hr (Refuse r) (refuse _ h g) = lengths r h g refl
+
+-- Run, from a well-formed state.
+pub run-goes-on : (p st recs out : Bytes) → Accepted p → Seated p → wellFormed p st ≡ true → Small st → Small recs
+    → RunAnswers p st recs out (runCall p st recs out)
+unfolding runCall
+run-goes-on p st recs out acc seat well hs hr =
+    rw (lent p st recs out _ acc well) (run-outcome p st recs out acc seat well hs hr _ (lengths-lent 11 (omega arith) _ _))
+
+-- Step.
+step-verdict : (st rec : Bytes) → Lent 13 (stepVerdict st rec)
+unfolding stepVerdict _otherwise_ refuseIf
+step-verdict st rec = go (inputWrong rec) (timeWrong st rec)
+  where
+    go : (a b : Bool) → Lent 13 ((if a then Refuse (InputFault 0) else Fine) otherwise (if b then Refuse (TimeBack 0) else Fine))
+    go true b = refuse (InputFault 0) (omega arith) (omega arith)
+    go false true = refuse (TimeBack 0) (omega arith) (omega arith)
+    go false false = fine
+
+-- Two verdicts, one after the other.
+lent-then : (most : ℕ) (v w : Verdict) → Lent most v → Lent most w → Lent most (v otherwise w)
+unfolding _otherwise_
+lent-then most Fine w fine h = h
+lent-then most (Refuse r) w (refuse _ a b) h = refuse r a b
+
+-- A record that step does not refuse is as it should be.
+step-fine : (st rec : Bytes) → stepVerdict st rec ≡ Fine → inputWrong rec ≡ false
+unfolding stepVerdict
+step-fine st rec e = if-fine _ _ (both-fine _ _ e .0)
+
+-- A step after the verdict on what it is lent.
+step-outcome : (p st rec out : Bytes) → (v : Verdict) → Lent 13 v → (v ≡ Fine → StepMade p rec st)
+    → StepAnswers p st rec out (stepOutcome st out v (stepOf p rec st))
+unfolding stepOutcome
+step-outcome p st rec out Fine fine m = let s = m refl in made s (rw (s .made))
+step-outcome p st rec out (Refuse r) (refuse _ h g) m = unfit r h g refl
+
+-- Step, from a well-formed state.
+pub step-call-goes-on : (p st rec out : Bytes) → Accepted p → Seated p → wellFormed p st ≡ true → Small st → Small rec
+    → StepAnswers p st rec out (stepCall p st rec out)
+unfolding stepCall
+step-call-goes-on p st rec out acc seat well hs hr =
+    step-outcome p st rec out _
+    (lent-then 13 _ _ (rw (lent p st rec out _ acc well) (lengths-lent 13 (omega arith) _ _)) (step-verdict st rec))
+    λ e. step-goes-on p rec st acc seat well hs hr (in-time rec (step-fine st rec (both-fine _ _ e .1)))
+
+-- A state is left a state.
+pub run-keeps : (p st recs out : Bytes) (o : RunOutcome) → State p st → RunAnswers p st recs out o → State p (o .state)
+run-keeps p st recs out o s (lengths r h g e) = rw e s
+run-keeps p st recs out o s (ran m) =
+    let f = run-ends-well (length recs / inputLength) p recs o 0 0 st out (s .well) (s .bytes) m in
+    record { bytes = f .bytes; well = f .well }
+
+-- The same of a step.
+pub step-keeps : (p st rec out : Bytes) (o : RunOutcome) → State p st → StepAnswers p st rec out o → State p (o .state)
+step-keeps p st rec out o s (unfit r h g e) = rw e s
+step-keeps p st rec out o s (made m e) = rw e (record { bytes = m .bytes; well = m .well })

@@ -1,0 +1,119 @@
+-- Every run of an accepted program from a well-formed state goes on step by step; it is refused only for its records.
+-- Assumes nothing.
+use mathlib.Core.Path.{_≡_, refl, sym}
+use mathlib.Core.Bool.{Bool, true, false}
+use Prim.Native.Nat.{ℕ, zero, suc, _+_, _*_, _≤_}
+use native.Mathlib.Omega.{arith}
+use borrow.Author.Tests.{ltb-false}
+use Rattle.rules.specs.Bytes.{Bytes, writeAt, if_then_else_}
+use Rattle.rules.specs.Values.{valueBytes}
+use Rattle.rules.specs.Layout.{inputAt, timeIn}
+use Rattle.rules.specs.Answers.{codeOf, placeOf}
+use Rattle.rules.specs.WellFormed.{wellFormed, lastMoment}
+use Rattle.rules.specs.Bound.{bound}
+use Rattle.rules.specs.Accepted.{Accepted}
+use Rattle.rules.specs.Calls.{_otherwise_, refuseIf, inputWrong, totalWrong, timeWrong, recordVerdict, RunOutcome, runFrom}
+use Rattle.rules.specs.declared.Refusal.{Refusal}
+use Rattle.rules.specs.declared.Refusal.the-variants.{InputFault, TimeBack, TooMuchWork}
+use Rattle.rules.specs.declared.Verdict.{Verdict}
+use Rattle.rules.specs.declared.Verdict.the-variants.{Fine, Refuse}
+use Rattle.rules.specs.declared.Ran.{Ran}
+use Rattle.rules.specs.declared.Ran.the-variants.{Finished}
+use Rattle.rules.proofs.Kids.{or-none}
+use Rattle.rules.proofs.Verdicts.{not-fine, both-fine, if-fine}
+use Rattle.promises.specs.Small.{Small}
+use Rattle.promises.specs.Seated.{Seated}
+use Rattle.promises.specs.Step.{StepMade}
+use Rattle.promises.specs.Run.{RunMade, finished, refused, stepped, AnswersRun, RunEnds}
+use Rattle.promises.proofs.SmallLaws.{small-input}
+use Rattle.promises.proofs.Steps.{step-goes-on}
+
+-- A record that is not refused has a time that is not too large.
+pub in-time : (rec : Bytes) → inputWrong rec ≡ false → timeIn rec ≤ lastMoment
+unfolding inputWrong
+in-time rec e = ltb-false lastMoment (timeIn rec) (or-none _ _ e .1)
+
+-- A record that a run does not refuse is as it should be.
+record-fine : (p : Bytes) (done work : ℕ) (st rec : Bytes) → recordVerdict p done work st rec ≡ Fine → inputWrong rec ≡ false
+unfolding recordVerdict
+record-fine p done work st rec e = if-fine _ _ (both-fine _ _ e .0)
+
+-- One step of a run.
+run-next : (p recs : Bytes) (left done work : ℕ) (st out : Bytes) (m : StepMade p (inputAt recs done) st)
+    → recordVerdict p done work st (inputAt recs done) ≡ Fine
+    → runFrom p recs (suc left) done work st out
+    ≡ runFrom p recs left (suc done) (work + m .tally .work) (m .state) (writeAt out (8 * done) (valueBytes (m .output)))
+unfolding runFrom
+run-next p recs left done work st out m e = rw (e, runFrom, m .made)
+
+-- A run stops at a record that is refused.
+run-stops : (p recs : Bytes) (left done work : ℕ) (st out : Bytes) (r : Refusal)
+    → recordVerdict p done work st (inputAt recs done) ≡ Refuse r
+    → runFrom p recs (suc left) done work st out ≡ record { answer = Ran.Refused r work; state = st; output = out }
+unfolding runFrom
+run-stops p recs left done work st out r e = rw (e, runFrom)
+
+-- A run ends where no record is left.
+run-ends : (p recs : Bytes) (done work : ℕ) (st out : Bytes)
+    → runFrom p recs zero done work st out ≡ record { answer = Finished done work; state = st; output = out }
+unfolding runFrom
+run-ends p recs done work st out = refl
+
+-- A run from a well-formed state is made step by step.
+pub run-from : (left : ℕ) (p recs : Bytes) → Accepted p → Seated p → Small recs → (done work : ℕ) (st out : Bytes)
+    → wellFormed p st ≡ true → Small st → RunMade p recs (runFrom p recs left done work st out) left done work st out
+run-from zero p recs acc seat hr done work st out well hs = finished (run-ends p recs done work st out)
+run-from (suc left) p recs acc seat hr done work st out well hs =
+    go (recordVerdict p done work st (inputAt recs done)) refl λ m. run-from left p recs acc seat hr _ _ (m .state) _ (m .well) (m .bytes)
+  where
+    go : (v : Verdict) → recordVerdict p done work st (inputAt recs done) ≡ v
+        → ((m : StepMade p (inputAt recs done) st) → RunMade p recs (runFrom p recs left (suc done) (work + m .tally .work) (m .state) (writeAt out (8 * done) (valueBytes (m .output)))) left (suc done) (work + m .tally .work) (m .state) (writeAt out (8 * done) (valueBytes (m .output))))
+        → RunMade p recs (runFrom p recs (suc left) done work st out) (suc left) done work st out
+    go (Refuse r) e more = refused r e (run-stops p recs left done work st out r e)
+    go Fine e more =
+        let rec : Bytes = inputAt recs done in
+        let m = step-goes-on p rec st acc seat well hs (small-input recs done hr) (in-time rec (record-fine p done work st rec e)) in
+        rw (run-next p recs left done work st out m e) (stepped e m (more m))
+
+-- A record is refused with code 12, 14 or 13, at the number of steps done.
+record Refused (done : ℕ) (r : Refusal) : Type 0 where
+  least : 12 ≤ codeOf r
+  most : codeOf r ≤ 14
+  place : placeOf r ≡ done
+
+-- The verdict on a record, by its three tests.
+refused-as : (p : Bytes) (done work : ℕ) (st rec : Bytes) (r : Refusal) → recordVerdict p done work st rec ≡ Refuse r → Refused done r
+unfolding recordVerdict _otherwise_ refuseIf
+refused-as p done work st rec r = go (inputWrong rec) (totalWrong work (bound p)) (timeWrong st rec)
+  where
+    known : (q : Refusal) → Refused done q → Refuse q ≡ Refuse r → Refused done r
+    known q h e = let z : q ≡ r = cc in rw z at h
+
+    go : (a b c : Bool)
+        → ((if a then Refuse (InputFault done) else Fine) otherwise (if b then Refuse (TooMuchWork done) else Fine) otherwise (if c then Refuse (TimeBack done) else Fine)) ≡ Refuse r
+        → Refused done r
+    go true b c e = known (InputFault done) (record { least = omega arith; most = omega arith; place = refl }) e
+    go false true c e = known (TooMuchWork done) (record { least = omega arith; most = omega arith; place = refl }) e
+    go false false true e = known (TimeBack done) (record { least = omega arith; most = omega arith; place = refl }) e
+    go false false false e = absurd (not-fine (sym e))
+
+-- One step more.
+one-more : (p : Bytes) (left done work w : ℕ) → w ≤ bound p → (a : Ran) → AnswersRun p left (suc done) (work + w) a → AnswersRun p (suc left) done work a
+one-more p left done work w h (Finished steps total) e = (omega (arith, e .0), omega (arith, e .1))
+one-more p left done work w h (Ran.Refused r total) e = (e .0, (omega (arith, e .1 .0), omega (arith, e .1 .1)), omega (arith, e .2))
+
+-- A run that is made leaves a well-formed state, and its answer counts its steps and keeps to the bound.
+pub run-ends-well : (left : ℕ) (p recs : Bytes) (o : RunOutcome) (done work : ℕ) (st out : Bytes) → wellFormed p st ≡ true → Small st
+    → RunMade p recs o left done work st out → RunEnds p left done work o
+run-ends-well zero p recs o done work st out well hs (finished e) =
+    rw e (record { well = well; bytes = hs; answers = (omega arith, omega arith) })
+run-ends-well (suc left) p recs o done work st out well hs (refused r v e) =
+    let f = refused-as p done work st (inputAt recs done) r v in
+    rw e (record {
+      well = well;
+      bytes = hs;
+      answers = ((f .least, f .most), (omega (arith, f .place), omega (arith, f .place)), omega arith);
+    })
+run-ends-well (suc left) p recs o done work st out well hs (stepped v m more) =
+    let f = run-ends-well left p recs o (suc done) (work + m .tally .work) (m .state) (writeAt out (8 * done) (valueBytes (m .output))) (m .well) (m .bytes) more in
+    record { well = f .well; bytes = f .bytes; answers = one-more p left done work (m .tally .work) (m .within) (o .answer) (f .answers) }

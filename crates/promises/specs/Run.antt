@@ -1,0 +1,57 @@
+-- A run, step by step.
+-- Assumes nothing: these are definitions.
+use mathlib.Core.Path.{_≡_}
+use mathlib.Core.Bool.{true}
+use Prim.Native.Nat.{ℕ, zero, suc, _+_, _*_, _/_, _<_, _≤_}
+use lib.ListN.{length}
+use Rattle.rules.specs.Bytes.{Bytes, writeAt}
+use Rattle.rules.specs.Values.{valueBytes}
+use Rattle.rules.specs.Layout.{inputLength, inputAt}
+use Rattle.rules.specs.Answers.{codeOf, placeOf}
+use Rattle.rules.specs.WellFormed.{wellFormed}
+use Rattle.rules.specs.Bound.{bound}
+use Rattle.rules.specs.Calls.{RunOutcome, recordVerdict}
+use Rattle.rules.specs.declared.Refusal.{Refusal}
+use Rattle.rules.specs.declared.Verdict.the-variants.{Fine, Refuse}
+use Rattle.rules.specs.declared.Ran.{Ran}
+use Rattle.rules.specs.declared.Ran.the-variants.{Finished}
+use Rattle.promises.specs.Small.{Small}
+use Rattle.promises.specs.Step.{StepMade}
+
+-- From so many records left, steps done, work, state and output to an outcome: it finishes; or the next record is refused; or its step is made
+-- and the run goes on.
+pub data RunMade (p recs : Bytes) (o : RunOutcome) : ℕ → ℕ → ℕ → Bytes → Bytes → Type 0 where
+  finished : {done work : ℕ} {st out : Bytes} → o ≡ record { answer = Finished done work; state = st; output = out }
+      → RunMade p recs o zero done work st out
+  refused : {left done work : ℕ} {st out : Bytes} (r : Refusal) → recordVerdict p done work st (inputAt recs done) ≡ Refuse r
+      → o ≡ record { answer = Ran.Refused r work; state = st; output = out } → RunMade p recs o (suc left) done work st out
+  stepped : {left done work : ℕ} {st out : Bytes} → recordVerdict p done work st (inputAt recs done) ≡ Fine
+      → (m : StepMade p (inputAt recs done) st)
+      → RunMade p recs o left (suc done) (work + m .tally .work) (m .state) (writeAt out (8 * done) (valueBytes (m .output)))
+      → RunMade p recs o (suc left) done work st out
+
+-- An answer after so many steps and so much work, with so many records left: all of them are done, or one of those left is refused (codes
+-- 12-14, at the number of steps done); and each step works at most the bound.
+abbrev pub AnswersRun : Bytes → ℕ → ℕ → ℕ → Ran → Type 0
+AnswersRun p left done work (Finished steps total) = (steps ≡ done + left) × (total ≤ work + left * bound p)
+AnswersRun p left done work (Ran.Refused r total) =
+    ((12 ≤ codeOf r) × (codeOf r ≤ 14)) × ((done ≤ placeOf r) × (placeOf r < done + left)) × (total ≤ work + left * bound p)
+
+pub record RunEnds (p : Bytes) (left done work : ℕ) (o : RunOutcome) : Type 0 where
+  pub well : wellFormed p (o .state) ≡ true
+  pub bytes : Small (o .state)
+  pub answers : AnswersRun p left done work (o .answer)
+
+-- A run's call: the lengths of records and output are refused (10, 11), and nothing is changed; or it is a run of all its records.
+pub data RunAnswers (p st recs out : Bytes) (o : RunOutcome) : Type 0 where
+  lengths : (r : Refusal) → 10 ≤ codeOf r → codeOf r ≤ 11 → o ≡ record { answer = Ran.Refused r 0; state = st; output = out }
+      → RunAnswers p st recs out o
+  ran : RunMade p recs o (length recs / inputLength) 0 0 st out → RunAnswers p st recs out o
+
+-- A step's call: the lengths or the record are refused (10-13), and nothing is changed; or the step is made.
+pub data StepAnswers (p st rec out : Bytes) (o : RunOutcome) : Type 0 where
+  unfit : (r : Refusal) → 10 ≤ codeOf r → codeOf r ≤ 13 → o ≡ record { answer = Ran.Refused r 0; state = st; output = out }
+      → StepAnswers p st rec out o
+  made : (m : StepMade p rec st)
+      → o ≡ record { answer = Finished 1 (m .tally .work); state = m .state; output = writeAt out 0 (valueBytes (m .output)) }
+      → StepAnswers p st rec out o

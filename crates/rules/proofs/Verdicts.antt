@@ -78,5 +78,13 @@ accepted p e =
 pub fine-verdict : (p : Bytes) → Accepted p → programVerdict p ≡ Fine
 unfolding programVerdict _otherwise_ refuseIf refuseAt
 fine-verdict p a =
-    rw (a .formed .length-right, a .formed .sums-right, a .formed .numbers-right, a .formed .records-right,
-    a .shape-right, a .scope-right, a .types-right, a .ready-right)
+    rw (
+      a .formed .length-right,
+      a .formed .sums-right,
+      a .formed .numbers-right,
+      a .formed .records-right,
+      a .shape-right,
+      a .scope-right,
+      a .types-right,
+      a .ready-right,
+    )

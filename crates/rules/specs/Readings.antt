@@ -84,15 +84,15 @@ abbrev pub counting : ℕ → Bytes
 counting v =
     let used : ℕ = 0 in let one : ℕ = 1 in let sum : ℕ = 2 in let next : ℕ = 3 in let counter : ℕ = 4 in let seen₀ : ℕ = 5 in let shown : ℕ = 6 in let x : ℕ = 7 in
     program (
-      variable x
-      ∷ constant 1
-      ∷ add used one
-      ∷ ext sum
-      ∷ delay next v
-      ∷ variable x
-      ∷ ext seen₀
-      ∷ letSignal counter shown
-      ∷ []
+    variable x
+    ∷ constant 1
+    ∷ add used one
+    ∷ ext sum
+    ∷ delay next v
+    ∷ variable x
+    ∷ ext seen₀
+    ∷ letSignal counter shown
+    ∷ []
     )
 
 -- A: 0, 1, 2; work 13; state 12 bytes.
@@ -118,12 +118,12 @@ abbrev pub selfish : Bytes
 selfish =
     let used : ℕ = 0 in let definition : ℕ = 1 in let seen₀ : ℕ = 2 in let shown : ℕ = 3 in let x : ℕ = 4 in
     program (
-      variable x
-      ∷ ext used
-      ∷ variable x
-      ∷ ext seen₀
-      ∷ letSignal definition shown
-      ∷ []
+    variable x
+    ∷ ext used
+    ∷ variable x
+    ∷ ext seen₀
+    ∷ letSignal definition shown
+    ∷ []
     )
 
 abbrev pub rowC : Row
@@ -138,13 +138,13 @@ abbrev pub switching : Bytes
 switching =
     let nought : ℕ = 0 in let first : ℕ = 1 in let caught : ℕ = 2 in let used : ℕ = 3 in let second : ℕ = 4 in let x : ℕ = 5 in
     program (
-      constant 0
-      ∷ ext nought
-      ∷ input 4
-      ∷ variable x
-      ∷ ext used
-      ∷ switch first caught second
-      ∷ []
+    constant 0
+    ∷ ext nought
+    ∷ input 4
+    ∷ variable x
+    ∷ ext used
+    ∷ switch first caught second
+    ∷ []
     )
 
 abbrev pub rowD : Row
@@ -170,25 +170,25 @@ swaying =
     let one : ℕ = 5 in let high : ℕ = 6 in let fall : ℕ = 7 in let fallen : ℕ = 8 in let upBody : ℕ = 9 in
     let x : ℕ = 10 in let low : ℕ = 11 in let rise : ℕ = 12 in let risen : ℕ = 13 in let downBody : ℕ = 14 in
     program (
-      constant 0
-      ∷ ext nought
-      ∷ input 4
-      ∷ case start noNext down
-      ∷ until still leave
-      ∷ constant 1
-      ∷ ext one
-      ∷ input 4
-      ∷ case fall noNext down
-      ∷ until high fallen
-      ∷ variable down
-      ∷ ext x
-      ∷ input 4
-      ∷ case rise noNext up
-      ∷ until low risen
-      ∷ branch downBody noNext
-      ∷ branch upBody down
-      ∷ letContinue body up
-      ∷ []
+    constant 0
+    ∷ ext nought
+    ∷ input 4
+    ∷ case start noNext down
+    ∷ until still leave
+    ∷ constant 1
+    ∷ ext one
+    ∷ input 4
+    ∷ case fall noNext down
+    ∷ until high fallen
+    ∷ variable down
+    ∷ ext x
+    ∷ input 4
+    ∷ case rise noNext up
+    ∷ until low risen
+    ∷ branch downBody noNext
+    ∷ branch upBody down
+    ∷ letContinue body up
+    ∷ []
     )
 
 -- Events none, 7, 9, none give 0, 0, 7, 1; work 9, 7, 7, 9. N 18, bound 9. At the end the group is in up, with the argument 9.
@@ -206,11 +206,11 @@ abbrev pub dividing : ℕ → ℕ → Bytes
 dividing x y =
     let dividend : ℕ = 0 in let divisor : ℕ = 1 in let quotient : ℕ = 2 in
     program (
-      constant x
-      ∷ constant y
-      ∷ divide dividend divisor
-      ∷ ext quotient
-      ∷ []
+    constant x
+    ∷ constant y
+    ∷ divide dividend divisor
+    ∷ ext quotient
+    ∷ []
     )
 
 abbrev pub divides : ℕ → ℕ → Value → Row
@@ -255,21 +255,21 @@ turning =
     let nought : ℕ = 0 in let still : ℕ = 1 in let onFour : ℕ = 2 in let onFive : ℕ = 3 in let lastCase : ℕ = 4 in let firstCase : ℕ = 5 in
     let body : ℕ = 6 in let y : ℕ = 7 in let starboardBody : ℕ = 8 in let x : ℕ = 10 in let portBody : ℕ = 11 in
     program (
-      constant 0
-      ∷ ext nought
-      ∷ input 4
-      ∷ input 5
-      ∷ case onFive noNext starboard
-      ∷ case onFour lastCase port
-      ∷ until still firstCase
-      ∷ variable starboard
-      ∷ ext y
-      ∷ branch starboardBody noNext
-      ∷ variable port
-      ∷ ext x
-      ∷ branch portBody starboard
-      ∷ letContinue body port
-      ∷ []
+    constant 0
+    ∷ ext nought
+    ∷ input 4
+    ∷ input 5
+    ∷ case onFive noNext starboard
+    ∷ case onFour lastCase port
+    ∷ until still firstCase
+    ∷ variable starboard
+    ∷ ext y
+    ∷ branch starboardBody noNext
+    ∷ variable port
+    ∷ ext x
+    ∷ branch portBody starboard
+    ∷ letContinue body port
+    ∷ []
     )
 
 abbrev pub rowI : Row

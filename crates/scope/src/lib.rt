@@ -1,13 +1,13 @@
 // Code 6: scope, with the binders in scope marked in lent bytes, set and put back.
 ghost use mathlib.Core.Path.{_≡_};
 ghost use mathlib.Core.Bool.{Bool};
-ghost use Prim.Native.Nat.{_+_, _*_, _≤_, _<_};
+ghost use Prim.Native.Nat.{_+_, _-_, _*_, _≤_, _<_};
 ghost use lib.ListN.{length, getD};
 ghost use Rattle.rules.specs.Layout.{nodes};
 ghost use Rattle.rules.specs.Kinds.{isExpression, isSignal, isBranch, isCase};
 ghost use Rattle.rules.specs.Places.{sooner as soonerOf, wrongUnless};
 ghost use Rattle.rules.specs.Tree.{exprAt, signalAt, branchesAt, casesAt};
-ghost use Rattle.rules.specs.Scope.{mark, isMarked, hasBranch, isOffered, scopeE, scopeS, scopeB, scopeC};
+ghost use Rattle.rules.specs.Scope.{mark, isMarked, hasBranch, isOffered, scopeE, scopeS, scopeB, scopeC, scopeFault};
 ghost use Rattle.rules.specs.Shaped.{NodeOf};
 ghost use Rattle.scope.specs.Offers.{offersAt, Ready, Offered};
 use rules::Place;
@@ -164,4 +164,13 @@ fn scope_c(p: &[u8], marks: &mut [u8], j: usize, group: usize) -> Place
     }
     let rest = scope_c(p, marks, n.b, group);
     sooner(here, sooner(event, rest))
+}
+
+// The smallest variable or case out of scope, of a program whose root is a signal: above it no binder is marked, and no group is left for.
+pub fn scope_fault(p: &[u8], count: usize) -> Place
+    requires { ⌜ (count ≡ nodes (now p)) × (0 < count) × NodeOf isSignal (now p) (count - 1) ⌝ }
+    ensures { λ r. ⌜ r ≡ scopeFault (now (p .entry)) ⌝ }
+{
+    let mut marks: [u8; 1008] = [0; 1008];
+    scope_s(p, &mut marks, count - 1, 65535)
 }

@@ -16,9 +16,10 @@ type-s-requires c κs = c .before .pre .2
 returns : tie.Need-returns
 unfolding typeFault root
 returns c =
-    let e = c .before .before .pre .0 in
-    (c .type-s .ensures .0 ∙ ap (λ (k : ℕ). typeS (signalAt (c .before .before .args .p .now) (k - 1))) e,
-    c .type-s .ensures .1 ∙ ap (λ (k : ℕ). typesS (signalAt (c .before .before .args .p .now) (k - 1))) e)
+    let e = c .before .before .pre .0 in (
+      c .type-s .ensures .0 ∙ ap (λ (k : ℕ). typeS (signalAt (c .before .before .args .p .now) (k - 1))) e,
+      c .type-s .ensures .1 ∙ ap (λ (k : ℕ). typesS (signalAt (c .before .before .args .p .now) (k - 1))) e,
+    )
 
 pub type-root-spec : {M : Type 1} → statement M
 type-root-spec = tie.close (tie.spec sub-type-s type-s-requires returns)

@@ -1,0 +1,77 @@
+-- An expression of each kind: its parts and its bound.
+-- Assumes nothing.
+use mathlib.Core.Path.{_≡_, ap}
+use Prim.Native.Nat.{ℕ, _+_, _≤_, max}
+use native.Mathlib.Omega.{arith}
+use Rattle.rules.specs.Bytes.{Bytes}
+use Rattle.rules.specs.Layout.{kindAt, aAt, bAt, cAt}
+use Rattle.rules.specs.Kinds.{isExpression}
+use Rattle.rules.specs.Tree.{exprAt}
+use Rattle.rules.specs.Size.{sizeE}
+use Rattle.rules.specs.Bound.{boundE}
+use Rattle.rules.proofs.Nodes.{expr-variable, expr-constant}
+use Rattle.rules.proofs.Expressions.{IsOperation, negation-kid, just-kid, choice-kids, taking-kids, operation-kids, negation-tree, just-tree, choice-tree, taking-tree, operation-tree}
+use Rattle.bound.specs.Small.{nodesE, Small}
+use Rattle.bound.proofs.Parts.{Part, part}
+
+module _ (p : Bytes) (n : ℕ) (w : Small isExpression nodesE p n) where
+  -- What a part has, the whole has.
+  within : {m : ℕ} → m ≤ sizeE (exprAt p n) → m ≤ 1008
+  within h = omega (arith, w .small)
+
+  pub variable-bound : kindAt p n ≡ 16 → boundE (exprAt p n) ≡ 1
+  unfolding boundE
+  variable-bound e = ap boundE (expr-variable p n e)
+
+  pub constant-bound : kindAt p n ≡ 17 → boundE (exprAt p n) ≡ 1
+  unfolding boundE
+  constant-bound e = ap boundE (expr-constant p n e)
+
+  pub negation-part : kindAt p n ≡ 24 → Part isExpression nodesE p n (aAt p n)
+  unfolding sizeE
+  negation-part e = part (negation-kid p n (w .node) e) (within (omega (arith, ap sizeE (negation-tree p n (w .node) e))))
+
+  pub negation-bound : kindAt p n ≡ 24 → boundE (exprAt p n) ≡ 1 + boundE (exprAt p (aAt p n))
+  unfolding boundE
+  negation-bound e = ap boundE (negation-tree p n (w .node) e)
+
+  pub just-part : kindAt p n ≡ 28 → Part isExpression nodesE p n (aAt p n)
+  unfolding sizeE
+  just-part e = part (just-kid p n (w .node) e) (within (omega (arith, ap sizeE (just-tree p n (w .node) e))))
+
+  pub just-bound : kindAt p n ≡ 28 → boundE (exprAt p n) ≡ 1 + boundE (exprAt p (aAt p n))
+  unfolding boundE
+  just-bound e = ap boundE (just-tree p n (w .node) e)
+
+  pub choice-parts : kindAt p n ≡ 27 → Part isExpression nodesE p n (aAt p n) × Part isExpression nodesE p n (bAt p n) × Part isExpression nodesE p n (cAt p n)
+  unfolding sizeE
+  choice-parts e =
+      let k = choice-kids p n (w .node) e in
+      let s = ap sizeE (choice-tree p n (w .node) e) in
+      (part (k .0) (within (omega arith)), part (k .1) (within (omega arith)), part (k .2) (within (omega arith)))
+
+  pub choice-bound : kindAt p n ≡ 27 → boundE (exprAt p n) ≡ 1 + (boundE (exprAt p (aAt p n)) + max (boundE (exprAt p (bAt p n))) (boundE (exprAt p (cAt p n))))
+  unfolding boundE
+  choice-bound e = ap boundE (choice-tree p n (w .node) e)
+
+  pub taking-parts : kindAt p n ≡ 29 → Part isExpression nodesE p n (aAt p n) × Part isExpression nodesE p n (bAt p n) × Part isExpression nodesE p n (cAt p n)
+  unfolding sizeE
+  taking-parts e =
+      let k = taking-kids p n (w .node) e in
+      let s = ap sizeE (taking-tree p n (w .node) e) in
+      (part (k .0) (within (omega arith)), part (k .1) (within (omega arith)), part (k .2) (within (omega arith)))
+
+  pub taking-bound : kindAt p n ≡ 29 → boundE (exprAt p n) ≡ 1 + (boundE (exprAt p (aAt p n)) + max (boundE (exprAt p (bAt p n))) (boundE (exprAt p (cAt p n))))
+  unfolding boundE
+  taking-bound e = ap boundE (taking-tree p n (w .node) e)
+
+  pub operation-parts : IsOperation (kindAt p n) → Part isExpression nodesE p n (aAt p n) × Part isExpression nodesE p n (bAt p n)
+  unfolding sizeE
+  operation-parts o =
+      let k = operation-kids p n (w .node) o in
+      let s = ap sizeE (operation-tree p n (w .node) o) in
+      (part (k .0) (within (omega arith)), part (k .1) (within (omega arith)))
+
+  pub operation-bound : IsOperation (kindAt p n) → boundE (exprAt p n) ≡ 1 + (boundE (exprAt p (aAt p n)) + boundE (exprAt p (bAt p n)))
+  unfolding boundE
+  operation-bound o = ap boundE (operation-tree p n (w .node) o)

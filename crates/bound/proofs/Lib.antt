@@ -1,0 +1,4 @@
+pub mod Parts
+pub mod ExprBounds
+pub mod SignalBounds
+pub mod RootBounds

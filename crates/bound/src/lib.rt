@@ -1,0 +1,240 @@
+// The bound on the work of a step: that of evaluation and that of update, in one recursion over children that visits each node once.
+ghost use mathlib.Core.Path.{_≡_};
+ghost use Prim.Native.Nat.{_+_, _-_, _≤_, _<_, max};
+ghost use Rattle.rules.specs.Layout.{nodes};
+ghost use Rattle.rules.specs.Kinds.{isExpression, isSignal, isBranch, isCase};
+ghost use Rattle.rules.specs.Tree.{exprAt, signalAt, branchesAt, casesAt, root};
+ghost use Rattle.rules.specs.Size.{sizeS};
+ghost use Rattle.rules.specs.Bound.{boundE, boundS, boundSB, boundSC, boundU, boundUB, boundUC, bound};
+ghost use Rattle.rules.specs.Shaped.{NodeOf};
+ghost use Rattle.bound.specs.Small.{nodesE, nodesS, nodesB, nodesC, Small, Most, BoundsOf};
+use table::fields;
+
+// The bounds of a signal's evaluation and of its update.
+pub struct Bounds {
+    pub eval: u32,
+    pub update: u32,
+}
+
+// The larger of two bounds: either part or arm may be the one that runs.
+fn larger(m: u32, n: u32) -> u32
+    ensures { λ r. ⌜ r ≡ max m n ⌝ }
+{
+    if n <= m { m } else { n }
+}
+
+// One rule over one part.
+fn over(x: u32) -> u32
+    requires { ⌜ x ≤ 1008 ⌝ }
+    ensures { λ r. ⌜ r ≡ 1 + x ⌝ }
+{
+    1 + x
+}
+
+// One rule over two parts that both run.
+fn over_both(x: u32, y: u32) -> u32
+    requires { ⌜ (x ≤ 1008) × (y ≤ 1008) ⌝ }
+    ensures { λ r. ⌜ r ≡ 1 + (x + y) ⌝ }
+{
+    1 + (x + y)
+}
+
+// One rule over a test and either of two arms.
+fn over_arms(test: u32, x: u32, y: u32) -> u32
+    requires { ⌜ (test ≤ 1008) × (x ≤ 1008) × (y ≤ 1008) ⌝ }
+    ensures { λ r. ⌜ r ≡ 1 + (test + max x y) ⌝ }
+{
+    1 + (test + larger(x, y))
+}
+
+// An evaluation alone: the update of such a signal is one rule.
+fn evaluated(x: u32) -> Bounds
+    requires { ⌜ x ≤ 1008 ⌝ }
+    ensures { λ r. ⌜ (r .eval ≡ 1 + x) × (r .update ≡ 1) ⌝ }
+{
+    Bounds {
+        eval: 1 + x,
+        update: 1,
+    }
+}
+
+// A delay answers at once; its update evaluates and updates what it delays.
+fn delayed(s: Bounds) -> Bounds
+    requires { ⌜ Most s ⌝ }
+    ensures { λ r. ⌜ (r .eval ≡ 1) × (r .update ≡ 1 + (s .eval + s .update)) ⌝ }
+{
+    Bounds {
+        eval: 1,
+        update: 1 + (s.eval + s.update),
+    }
+}
+
+// A let runs its definition and its body.
+fn letting(d: Bounds, b: Bounds) -> Bounds
+    requires { ⌜ Most d × Most b ⌝ }
+    ensures { λ r. ⌜ (r .eval ≡ 1 + (d .eval + b .eval)) × (r .update ≡ 1 + (d .eval + (d .update + b .update))) ⌝ }
+{
+    Bounds {
+        eval: 1 + (d.eval + b.eval),
+        update: 1 + (d.eval + (d.update + b.update)),
+    }
+}
+
+// A switch runs either part, and its event at the update.
+fn switching(x: Bounds, e: Bounds, y: Bounds) -> Bounds
+    requires { ⌜ Most x × Most e × Most y ⌝ }
+    ensures { λ r. ⌜ (r .eval ≡ 1 + max (x .eval) (y .eval)) × (r .update ≡ 1 + (e .eval + (e .update + max (x .update) (y .update)))) ⌝ }
+{
+    Bounds {
+        eval: 1 + larger(x.eval, y.eval),
+        update: 1 + (e.eval + (e.update + larger(x.update, y.update))),
+    }
+}
+
+// A group runs its body or one of its branches.
+fn grouping(body: Bounds, brs: Bounds) -> Bounds
+    requires { ⌜ Most body × Most brs ⌝ }
+    ensures { λ r. ⌜ (r .eval ≡ 1 + max (body .eval) (brs .eval)) × (r .update ≡ 1 + max (body .update) (brs .update)) ⌝ }
+{
+    Bounds {
+        eval: 1 + larger(body.eval, brs.eval),
+        update: 1 + larger(body.update, brs.update),
+    }
+}
+
+// An until runs its signal, and all its events at the update.
+fn leaving(s: Bounds, cases: Bounds) -> Bounds
+    requires { ⌜ Most s × Most cases ⌝ }
+    ensures { λ r. ⌜ (r .eval ≡ 1 + s .eval) × (r .update ≡ 1 + (cases .eval + (cases .update + s .update))) ⌝ }
+{
+    Bounds {
+        eval: 1 + s.eval,
+        update: 1 + (cases.eval + (cases.update + s.update)),
+    }
+}
+
+// The largest of a list's branches.
+fn largest(body: Bounds, rest: Bounds) -> Bounds
+    ensures { λ r. ⌜ (r .eval ≡ max (body .eval) (rest .eval)) × (r .update ≡ max (body .update) (rest .update)) ⌝ }
+{
+    Bounds {
+        eval: larger(body.eval, rest.eval),
+        update: larger(body.update, rest.update),
+    }
+}
+
+// The sum over a list's events.
+fn sum(event: Bounds, rest: Bounds) -> Bounds
+    requires { ⌜ Most event × Most rest ⌝ }
+    ensures { λ r. ⌜ (r .eval ≡ event .eval + rest .eval) × (r .update ≡ event .update + rest .update) ⌝ }
+{
+    Bounds {
+        eval: event.eval + rest.eval,
+        update: event.update + rest.update,
+    }
+}
+
+// Expression i.
+pub fn bound_e(p: &[u8], i: usize) -> u32
+    requires { ⌜ Small isExpression nodesE (now p) i ⌝ }
+    ensures { λ r. ⌜ (r ≡ boundE (exprAt (now (p .entry)) i)) × (r ≤ 1008) ⌝ }
+{
+    let n = fields(p, i);
+    let k = n.kind;
+    match k {
+        16 => 1,
+        17 => 1,
+        24 => over(bound_e(p, n.a)),
+        27 => {
+            let test = bound_e(p, n.a);
+            let x = bound_e(p, n.b);
+            let y = bound_e(p, n.c);
+            over_arms(test, x, y)
+        }
+        28 => over(bound_e(p, n.a)),
+        29 => {
+            let m = bound_e(p, n.a);
+            let x = bound_e(p, n.b);
+            let y = bound_e(p, n.c);
+            over_arms(m, x, y)
+        }
+        _ => {
+            let x = bound_e(p, n.a);
+            let y = bound_e(p, n.b);
+            over_both(x, y)
+        }
+    }
+}
+
+// Signal i.
+pub fn bound_s(p: &[u8], i: usize) -> Bounds
+    requires { ⌜ Small isSignal nodesS (now p) i ⌝ }
+    ensures { λ r. ⌜ BoundsOf (boundS (signalAt (now (p .entry)) i)) (boundU (signalAt (now (p .entry)) i)) r ⌝ }
+{
+    let n = fields(p, i);
+    let k = n.kind;
+    match k {
+        1 => Bounds { eval: 1, update: 1 },
+        3 => evaluated(bound_e(p, n.a)),
+        4 => delayed(bound_s(p, n.a)),
+        5 => {
+            let d = bound_s(p, n.a);
+            let b = bound_s(p, n.b);
+            letting(d, b)
+        }
+        6 => {
+            let x = bound_s(p, n.a);
+            let e = bound_s(p, n.b);
+            let y = bound_s(p, n.c);
+            switching(x, e, y)
+        }
+        7 => {
+            let body = bound_s(p, n.a);
+            let brs = bound_b(p, n.b);
+            grouping(body, brs)
+        }
+        8 => {
+            let s = bound_s(p, n.a);
+            let cases = bound_c(p, n.b);
+            leaving(s, cases)
+        }
+        _ => Bounds { eval: 1, update: 1 },
+    }
+}
+
+// The list of branches at node j: the largest of both.
+pub fn bound_b(p: &[u8], j: usize) -> Bounds
+    requires { ⌜ Small isBranch nodesB (now p) j ⌝ }
+    ensures { λ r. ⌜ BoundsOf (boundSB (branchesAt (now (p .entry)) j)) (boundUB (branchesAt (now (p .entry)) j)) r ⌝ }
+{
+    let n = fields(p, j);
+    let body = bound_s(p, n.a);
+    if n.b == 65535 {
+        return largest(body, Bounds { eval: 0, update: 0 });
+    }
+    let rest = bound_b(p, n.b);
+    largest(body, rest)
+}
+
+// The list of cases at node j: the sum of both.
+pub fn bound_c(p: &[u8], j: usize) -> Bounds
+    requires { ⌜ Small isCase nodesC (now p) j ⌝ }
+    ensures { λ r. ⌜ BoundsOf (boundSC (casesAt (now (p .entry)) j)) (boundUC (casesAt (now (p .entry)) j)) r ⌝ }
+{
+    let n = fields(p, j);
+    let event = bound_s(p, n.a);
+    if n.b == 65535 {
+        return sum(event, Bounds { eval: 0, update: 0 });
+    }
+    let rest = bound_c(p, n.b);
+    sum(event, rest)
+}
+
+// The bound of a program whose root is a signal of at most 1008 nodes.
+pub fn bound_of(p: &[u8], count: usize) -> u32
+    requires { ⌜ (count ≡ nodes (now p)) × (0 < count) × NodeOf isSignal (now p) (count - 1) × (sizeS (root (now p)) ≤ 1008) ⌝ }
+    ensures { λ r. ⌜ r ≡ bound (now (p .entry)) ⌝ }
+{
+    let b = bound_s(p, count - 1);
+    b.eval + b.update
+}

@@ -1,0 +1,144 @@
+// The cells of a state and its time, as bytes that are read and written in place; and the table of the cells' numbers.
+ghost use mathlib.Core.Path.{_≡_};
+ghost use Prim.Native.Nat.{_+_, _*_, _≤_, _<_};
+ghost use lib.ListN.{length, getD};
+ghost use Rattle.rules.specs.Bytes.{u64At, bytesOf, writeAt};
+ghost use Rattle.rules.specs.Layout.{nodes, records, kindAt, hasCell, cellsBefore, cellAt, cell as cellIn, setCell, headerLength, lastTime, setTime};
+ghost use Rattle.rules.specs.Shaped.{Shaped};
+ghost use Rattle.cells.specs.Indexed.{Indexed};
+use table::record_at;
+use table::u32_at;
+
+// A 32-bit number as a 64-bit one.
+fn wide(x: u32) -> u64
+    ensures { λ r. ⌜ (r ≡ x) × (r < 4294967296) ⌝ }
+{
+    x as u64
+}
+
+// The number of 8 bytes at a position.
+pub fn u64_at(s: &[u8], at: usize) -> u64
+    requires { ⌜ at + 8 ≤ length (now s) ⌝ }
+    ensures { λ r. ⌜ r ≡ u64At (now (s .entry)) at ⌝ }
+{
+    wide(u32_at(s, at)) + 4294967296 * wide(u32_at(s, at + 4))
+}
+
+// A number written as so many bytes: one loop for every width.
+fn put(s: &mut [u8], at: usize, x: u64, count: usize)
+    requires { ⌜ at + count ≤ length (now s) ⌝ }
+    ensures { λ _. ⌜ now (s .exit) ≡ writeAt (now (s .entry)) at (bytesOf count x) ⌝ }
+{
+    let mut left = x;
+    let mut k: usize = 0;
+    while k < count {
+        s[at + k] = (left % 256) as u8;
+        left = left / 256;
+        k += 1;
+    }
+}
+
+// A number written as 4 bytes.
+pub fn put32(s: &mut [u8], at: usize, x: u32)
+    requires { ⌜ at + 4 ≤ length (now s) ⌝ }
+    ensures { λ _. ⌜ now (s .exit) ≡ writeAt (now (s .entry)) at (bytesOf 4 x) ⌝ }
+{
+    put(s, at, wide(x), 4);
+}
+
+// A number written as 8 bytes.
+pub fn put64(s: &mut [u8], at: usize, x: u64)
+    requires { ⌜ at + 8 ≤ length (now s) ⌝ }
+    ensures { λ _. ⌜ now (s .exit) ≡ writeAt (now (s .entry)) at (bytesOf 8 x) ⌝ }
+{
+    put(s, at, x, 8);
+}
+
+// Where cell k stands: the one place that knows the length of the header.
+pub fn cell_at(k: usize) -> usize
+    requires { ⌜ cellAt k < 18446744073709551616 ⌝ }
+    ensures { λ r. ⌜ r ≡ cellAt k ⌝ }
+{
+    4 + 8 * k
+}
+
+// The content of cell k.
+pub fn cell(st: &[u8], k: usize) -> u64
+    requires { ⌜ cellAt k + 8 ≤ length (now st) ⌝ }
+    ensures { λ r. ⌜ r ≡ cellIn (now (st .entry)) k ⌝ }
+{
+    let at = cell_at(k);
+    u64_at(st, at)
+}
+
+// A content stored in cell k.
+pub fn set_cell(st: &mut [u8], k: usize, m: u64)
+    requires { ⌜ cellAt k + 8 ≤ length (now st) ⌝ }
+    ensures { λ _. ⌜ now (st .exit) ≡ setCell (now (st .entry)) k m ⌝ }
+{
+    let at = cell_at(k);
+    put64(st, at, m);
+}
+
+// The time of the last step; all ones if there was none.
+pub fn last_time(st: &[u8]) -> u32
+    requires { ⌜ headerLength ≤ length (now st) ⌝ }
+    ensures { λ r. ⌜ r ≡ lastTime (now (st .entry)) ⌝ }
+{
+    u32_at(st, 0)
+}
+
+// The time of the last step, stored.
+pub fn set_time(st: &mut [u8], t: u32)
+    requires { ⌜ headerLength ≤ length (now st) ⌝ }
+    ensures { λ _. ⌜ now (st .exit) ≡ setTime (now (st .entry)) t ⌝ }
+{
+    put32(st, 0, t);
+}
+
+// The kind of record i.
+fn kind_of(p: &[u8], i: usize) -> u8
+    requires { ⌜ i < records (now p) ⌝ }
+    ensures { λ k. ⌜ k ≡ kindAt (now (p .entry)) i ⌝ }
+{
+    let at = record_at(p, i);
+    p[at]
+}
+
+// Nodes of kind 4, 6 and 7 have a cell.
+fn has_cell(k: u8) -> bool
+    ensures { λ r. ⌜ r ≡ hasCell k ⌝ }
+{
+    if k == 4 {
+        return true;
+    }
+    if k == 6 {
+        return true;
+    }
+    k == 7
+}
+
+// The number of the cell of node i, from the table.
+pub fn number_of(index: &[u16], i: usize) -> usize
+    requires { ⌜ i < length (now index) ⌝ }
+    ensures { λ r. ⌜ r ≡ getD (now (index .entry)) i 0 ⌝ }
+{
+    index[i] as usize
+}
+
+// The table of the cells' numbers, filled in one pass; the answer is how many cells the nodes passed have.
+pub fn index_cells(p: &[u8], index: &mut [u16], count: usize) -> usize
+    requires { ⌜ Shaped (now p) × (count ≡ nodes (now p)) × (count ≤ length (now index)) ⌝ }
+    ensures { λ r. ⌜ Indexed (now (p .entry)) (now (index .exit)) × (r ≡ cellsBefore (now (p .entry)) count) ⌝ }
+{
+    let mut seen: usize = 0;
+    let mut i: usize = 0;
+    while i < count {
+        index[i] = seen as u16;
+        if has_cell(kind_of(p, i)) {
+            seen += 1;
+        }
+        i += 1;
+    }
+    seen
+}

@@ -1,0 +1,154 @@
+-- An expression of each kind: its children are ready, and what it evaluates to by theirs.
+-- Assumes nothing.
+use mathlib.Core.Path.{_≡_, refl, sym, ap, _∙_, subst}
+use mathlib.Core.List.{List}
+use lib.ListN.{getD, set}
+use lib.Seq.{set-set, set-getD}
+use Prim.Native.Nat.{ℕ, _+_, _≤_, _<_, max}
+use native.Mathlib.Omega.{arith}
+use Rattle.rules.specs.Bytes.{Bytes}
+use Rattle.rules.specs.Layout.{kindAt, typeAt, aAt, bAt, cAt, wordAt}
+use Rattle.rules.specs.Values.{valueFrom}
+use Rattle.rules.specs.Kinds.{isExpression}
+use Rattle.rules.specs.Tree.{exprAt, valueAt}
+use Rattle.rules.specs.Work.{give, after, rule}
+use Rattle.rules.specs.Bound.{boundE}
+use Rattle.rules.specs.Evaluate.{Env, bind, look, operated, negated, chosen, lifted, taken, evalE}
+use Rattle.rules.specs.Shaped.{NodeOf}
+use Rattle.rules.specs.declared.Value.{Value}
+use Rattle.rules.specs.declared.Tally.{Tally}
+use Rattle.rules.specs.declared.Evaluated.{Evaluated}
+use Rattle.rules.specs.declared.Evaluated.the-variants.{Stuck}
+use Rattle.rules.proofs.Nodes.{expr-variable, expr-constant}
+use Rattle.rules.proofs.Expressions.{IsOperation, negation-kid, negation-tree, just-kid, just-tree, choice-kids, choice-tree, taking-kids, taking-tree, operation-kids, operation-tree}
+use Rattle.rules.proofs.Within.{evalE-within}
+use Rattle.values.specs.Combine.{workOf, armOf, partsOf}
+use Rattle.values.specs.declared.Arm.the-variants.{Go, Neither}
+use Rattle.values.specs.declared.Event.{Event}
+use Rattle.values.specs.declared.Event.the-variants.{Occurs, Quiet}
+use Rattle.values.specs.declared.Parts.the-variants.{Maybe, Wrong}
+use Rattle.values.proofs.Outcomes.{work-within, arm-goes, arm-none, arm-one, arm-work, take-present, take-absent, take-wrong, take-work}
+
+-- Node x is an expression below node n, and its tree's bound is small.
+pub record PartE (p : Bytes) (n x : ℕ) : Type 0 where
+  pub less : x < n
+  pub node : NodeOf isExpression p x
+  pub small : boundE (exprAt p x) < 4294967296
+
+-- The same part, by the field that was read.
+pub read : {p : Bytes} {n x y : ℕ} → x ≡ y → PartE p n y → PartE p n x
+read {p} {n} e k = subst (PartE p n) (sym e) k
+
+-- What a part's evaluation counts is small.
+pub part-work : {p : Bytes} {n x : ℕ} {r : Evaluated} (env : Env) → PartE p n x → r ≡ evalE env (exprAt p x) → workOf r < 4294967296
+part-work {p} {n} {x} env k e = rw e (omega (arith, work-within _ (evalE-within env (exprAt p x)), k .small))
+
+module _ (p : Bytes) (n : ℕ) (w : NodeOf isExpression p n) (s : boundE (exprAt p n) < 4294967296) where
+  pub negation-part : kindAt p n ≡ 24 → PartE p n (aAt p n)
+  unfolding boundE
+  negation-part e =
+      let k = negation-kid p n w e in
+      record { less = k .less; node = k .node; small = omega (arith, ap boundE (negation-tree p n w e)) }
+
+  pub just-part : kindAt p n ≡ 28 → PartE p n (aAt p n)
+  unfolding boundE
+  just-part e =
+      let k = just-kid p n w e in
+      record { less = k .less; node = k .node; small = omega (arith, ap boundE (just-tree p n w e)) }
+
+  pub choice-parts : kindAt p n ≡ 27 → PartE p n (aAt p n) × PartE p n (bAt p n) × PartE p n (cAt p n)
+  unfolding boundE
+  choice-parts e =
+      let k = choice-kids p n w e in
+      let b = ap boundE (choice-tree p n w e) in (
+        record { less = k .0 .less; node = k .0 .node; small = omega arith },
+        record { less = k .1 .less; node = k .1 .node; small = omega arith },
+        record { less = k .2 .less; node = k .2 .node; small = omega arith },
+      )
+
+  pub taking-parts : kindAt p n ≡ 29 → PartE p n (aAt p n) × PartE p n (bAt p n) × PartE p n (cAt p n)
+  unfolding boundE
+  taking-parts e =
+      let k = taking-kids p n w e in
+      let b = ap boundE (taking-tree p n w e) in (
+        record { less = k .0 .less; node = k .0 .node; small = omega arith },
+        record { less = k .1 .less; node = k .1 .node; small = omega arith },
+        record { less = k .2 .less; node = k .2 .node; small = omega arith },
+      )
+
+  pub operation-parts : IsOperation (kindAt p n) → PartE p n (aAt p n) × PartE p n (bAt p n)
+  unfolding boundE
+  operation-parts o =
+      let k = operation-kids p n w o in
+      let b = ap boundE (operation-tree p n w o) in (
+        record { less = k .0 .less; node = k .0 .node; small = omega arith },
+        record { less = k .1 .less; node = k .1 .node; small = omega arith },
+      )
+
+  -- the arm that is chosen
+  pub chosen-part : kindAt p n ≡ 27 → {b c m : ℕ} {u : Tally} (r : Evaluated) → b ≡ bAt p n → c ≡ cAt p n → armOf r b c ≡ Go m u → PartE p n m
+  chosen-part e {b} {c} r eb ec g = let k = choice-parts e in arm-one b c (PartE p n) r g (read eb (k .1)) (read ec (k .2))
+
+module _ (p : Bytes) (n : ℕ) (w : NodeOf isExpression p n) (env : Env) where
+  pub variable-eval : kindAt p n ≡ 16 → evalE env (exprAt p n) ≡ rule (look env (aAt p n))
+  unfolding evalE
+  variable-eval e = ap (evalE env) (expr-variable p n e)
+
+  pub constant-eval : kindAt p n ≡ 17 → evalE env (exprAt p n) ≡ rule (give (valueFrom (typeAt p n) (bAt p n) (wordAt p n)))
+  unfolding evalE valueAt
+  constant-eval e = ap (evalE env) (expr-constant p n e)
+
+  pub negation-eval : kindAt p n ≡ 24 → evalE env (exprAt p n) ≡ rule (negated (evalE env (exprAt p (aAt p n))))
+  unfolding evalE
+  negation-eval e = ap (evalE env) (negation-tree p n w e)
+
+  pub just-eval : kindAt p n ≡ 28 → evalE env (exprAt p n) ≡ rule (lifted (evalE env (exprAt p (aAt p n))))
+  unfolding evalE
+  just-eval e = ap (evalE env) (just-tree p n w e)
+
+  pub operation-eval : IsOperation (kindAt p n)
+      → evalE env (exprAt p n) ≡ rule (operated (kindAt p n) (evalE env (exprAt p (aAt p n))) (evalE env (exprAt p (bAt p n))))
+  unfolding evalE
+  operation-eval o = ap (evalE env) (operation-tree p n w o)
+
+  choice-eval : kindAt p n ≡ 27
+      → evalE env (exprAt p n) ≡ rule (chosen (evalE env (exprAt p (aAt p n))) (evalE env (exprAt p (bAt p n))) (evalE env (exprAt p (cAt p n))))
+  unfolding evalE
+  choice-eval e = ap (evalE env) (choice-tree p n w e)
+
+  -- If, by the arm that its test chooses, and by none.
+  pub choice-goes : kindAt p n ≡ 27 → {a b c m : ℕ} {u : Tally} {r : Evaluated} → a ≡ aAt p n → b ≡ bAt p n → c ≡ cAt p n
+      → r ≡ evalE env (exprAt p a) → armOf r b c ≡ Go m u → evalE env (exprAt p n) ≡ rule (after u (evalE env (exprAt p m)))
+  choice-goes e {a} {b} {c} {m} {u} {r} ea eb ec er g =
+      choice-eval e ∙ rw (← ea, ← eb, ← ec, ← er) (ap rule (arm-goes b c r (λ x. evalE env (exprAt p x)) g))
+
+  pub choice-stuck : kindAt p n ≡ 27 → {a : ℕ} {r : Evaluated} (b c : ℕ) → a ≡ aAt p n → r ≡ evalE env (exprAt p a) → armOf r b c ≡ Neither
+      → evalE env (exprAt p n) ≡ Stuck
+  unfolding rule after
+  choice-stuck e {a} {r} b c ea er g = choice-eval e ∙ rw (← ea, ← er) (ap rule (arm-none b c r _ _ g))
+
+  taking-eval : kindAt p n ≡ 29
+      → evalE env (exprAt p n)
+      ≡ rule (taken (evalE env (exprAt p (aAt p n))) (evalE env (exprAt p (bAt p n))) λ v. evalE (bind env n v) (exprAt p (cAt p n)))
+  unfolding evalE
+  taking-eval e = ap (evalE env) (taking-tree p n w e)
+
+  -- Take, by the value that its maybe holds, by none, and of no maybe.
+  pub taking-present : kindAt p n ≡ 29 → {a : ℕ} {q : Event} {v : Value} {u : Tally} {r : Evaluated} → a ≡ aAt p n → r ≡ evalE env (exprAt p a)
+      → partsOf r ≡ Maybe q u → q ≡ Occurs v → evalE env (exprAt p n) ≡ rule (after u (evalE (bind env n v) (exprAt p (cAt p n))))
+  taking-present e {a} {q} {v} {u} {r} ea er g h =
+      taking-eval e ∙ rw (← ea, ← er) (ap rule (take-present _ _ r (g ∙ ap (λ (x : Event). Maybe x u) h)))
+
+  pub taking-absent : kindAt p n ≡ 29 → {a : ℕ} {q : Event} {u : Tally} {r : Evaluated} → a ≡ aAt p n → r ≡ evalE env (exprAt p a)
+      → partsOf r ≡ Maybe q u → q ≡ Quiet → evalE env (exprAt p n) ≡ rule (after u (evalE env (exprAt p (bAt p n))))
+  taking-absent e {a} {q} {u} {r} ea er g h =
+      taking-eval e ∙ rw (← ea, ← er) (ap rule (take-absent _ _ r (g ∙ ap (λ (x : Event). Maybe x u) h)))
+
+  pub taking-stuck : kindAt p n ≡ 29 → {a : ℕ} {r : Evaluated} → a ≡ aAt p n → r ≡ evalE env (exprAt p a)
+      → partsOf r ≡ Wrong → evalE env (exprAt p n) ≡ Stuck
+  unfolding rule after
+  taking-stuck e {a} {r} ea er g = taking-eval e ∙ rw (← ea, ← er) (ap rule (take-wrong _ _ r g))
+
+-- A slot that was set is put back.
+pub put-back : (l : List ℕ) (i v : ℕ) → set (set l i v) i (getD l i 0) ≡ l
+put-back l i v = set-set l i v (getD l i 0) ∙ set-getD l i 0

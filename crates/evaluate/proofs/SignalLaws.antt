@@ -1,0 +1,201 @@
+-- A signal of each kind: its parts are ready, its cell is in the state, and what it evaluates to by its parts.
+-- Assumes nothing.
+use mathlib.Core.Path.{_≡_, refl, sym, ap, _∙_, subst}
+use mathlib.Core.Bool.{Bool, true, false}
+use mathlib.Core.List.{List}
+use Prim.Native.Nat.{ℕ, _+_, _≤_, _<_, max}
+use native.Mathlib.Omega.{arith}
+use lib.ListN.{length, getD}
+use borrow.Author.Tests.{eq-eqb, ne-eqb}
+use Rattle.rules.specs.Bytes.{Bytes, _or_}
+use Rattle.rules.specs.Layout.{kindAt, aAt, bAt, cAt, hasCell, cellsBefore, cells, cellAt, stateLength, cell, held, isClear, branchIn, channelValue, timeIn}
+use Rattle.rules.specs.Values.{intT, unpacked, middleIn}
+use Rattle.rules.specs.Kinds.{isExpression, isSignal, isBranch}
+use Rattle.rules.specs.Tree.{exprAt, signalAt, branchesAt}
+use Rattle.rules.specs.Work.{give, after, rule, _then_}
+use Rattle.rules.specs.Bound.{boundE, boundS, boundSB}
+use Rattle.rules.specs.Scope.{hasBranch}
+use Rattle.rules.specs.Evaluate.{Env, bind, evalE, evalS, evalB}
+use Rattle.rules.specs.Shaped.{NodeOf}
+use Rattle.rules.specs.declared.Value.{Value}
+use Rattle.rules.specs.declared.Value.the-variants.{Plain}
+use Rattle.rules.specs.declared.Tally.{Tally}
+use Rattle.rules.specs.declared.Evaluated.{Evaluated}
+use Rattle.rules.specs.declared.Evaluated.the-variants.{Done, Stuck}
+use Rattle.rules.proofs.Nodes.{signal-input, signal-time}
+use Rattle.rules.proofs.Signals.{ext-kid, ext-tree, delay-tree, let-kids, let-tree, switch-kids, switch-tree, group-kids, group-tree, until-kids, until-tree, branch-kid}
+use Rattle.rules.proofs.Within.{evalS-within}
+use Rattle.rules.proofs.CellNumbers.{cell-below}
+use Rattle.rules.proofs.Branches.{Found, found, missing-evaluates}
+use Rattle.cells.specs.Indexed.{Indexed}
+use Rattle.values.specs.Combine.{workOf}
+use Rattle.values.proofs.Outcomes.{work-within}
+use Rattle.evaluate.proofs.ExprLaws.{PartE}
+
+-- Node x is a signal below node n, and its tree's bound is small.
+pub record PartS (p : Bytes) (n x : ℕ) : Type 0 where
+  pub less : x < n
+  pub node : NodeOf isSignal p x
+  pub small : boundS (signalAt p x) < 4294967296
+
+-- The same part, by the field that was read.
+pub read-s : {p : Bytes} {n x y : ℕ} → x ≡ y → PartS p n y → PartS p n x
+read-s {p} {n} e k = subst (PartS p n) (sym e) k
+
+-- What a part's evaluation counts is small.
+pub part-work-s : {p : Bytes} {n x : ℕ} {r : Evaluated} (rec st : Bytes) (env : Env) → PartS p n x → r ≡ evalS rec st env (signalAt p x)
+    → workOf r < 4294967296
+part-work-s {p} {n} {x} rec st env k e = rw e (omega (arith, work-within _ (evalS-within rec st env (signalAt p x)), k .small))
+
+-- The branch of a group that its cell names: the branch's node, and its body.
+pub record PartB (p : Bytes) (n which : ℕ) : Type 0 where
+  pub less : which < n
+  pub node : NodeOf isBranch p which
+  pub body : PartS p n (aAt p which)
+
+module _ (p : Bytes) (n : ℕ) (w : NodeOf isSignal p n) (s : boundS (signalAt p n) < 4294967296) where
+  pub ext-part : kindAt p n ≡ 3 → PartE p n (aAt p n)
+  unfolding boundS
+  ext-part e =
+      let k = ext-kid p n w e in
+      record { less = k .less; node = k .node; small = omega (arith, ap boundS (ext-tree p n w e)) }
+
+  pub let-parts : kindAt p n ≡ 5 → PartS p n (aAt p n) × PartS p n (bAt p n)
+  unfolding boundS
+  let-parts e =
+      let k = let-kids p n w e in
+      let b = ap boundS (let-tree p n w e) in (
+        record { less = k .0 .less; node = k .0 .node; small = omega arith },
+        record { less = k .1 .less; node = k .1 .node; small = omega arith },
+      )
+
+  pub switch-parts : kindAt p n ≡ 6 → PartS p n (aAt p n) × PartS p n (cAt p n)
+  unfolding boundS
+  switch-parts e =
+      let k = switch-kids p n w e in
+      let b = ap boundS (switch-tree p n w e) in (
+        record { less = k .0 .less; node = k .0 .node; small = omega arith },
+        record { less = k .2 .less; node = k .2 .node; small = omega arith },
+      )
+
+  pub group-part : kindAt p n ≡ 7 → PartS p n (aAt p n)
+  unfolding boundS
+  group-part e =
+      let k = group-kids p n w e in
+      record { less = k .0 .less; node = k .0 .node; small = omega (arith, ap boundS (group-tree p n w e)) }
+
+  pub branch-part : kindAt p n ≡ 7 → {b which : ℕ} {t : Bool} → b ≡ bAt p n → t ≡ hasBranch which (branchesAt p b) → t ≡ true → PartB p n which
+  unfolding boundS
+  branch-part e {b} {which} eb h g =
+      let k = group-kids p n w e in
+      let f = found p (bAt p n) which (k .1 .node) (rw eb at (sym h ∙ g)) in
+      let q = branch-kid p which (f .node) in
+      record {
+        less = omega (arith, f .most, k .1 .less);
+        node = f .node;
+        body = record {
+          less = omega (arith, f .most, k .1 .less, q .less);
+          node = q .node;
+          small = omega (arith, f .evaluation, ap boundS (group-tree p n w e));
+        };
+      }
+
+  pub until-part : kindAt p n ≡ 8 → PartS p n (aAt p n)
+  unfolding boundS
+  until-part e =
+      let k = until-kids p n w e in
+      record { less = k .0 .less; node = k .0 .node; small = omega (arith, ap boundS (until-tree p n w e)) }
+
+-- The cell of a node of kind 4, 6 or 7 is in the state.
+module _ (p : Bytes) (n : ℕ) (w : NodeOf isSignal p n) (index : List ℕ) (x : Indexed p index) (st : Bytes) (h : stateLength p ≤ length st) where
+  pub cell-in : hasCell (kindAt p n) ≡ true → (n < length index) × (cellAt (getD index n 0) + 8 ≤ length st)
+  unfolding stateLength cellAt
+  cell-in e = (omega (arith, w .inside, x .room), omega (arith, x .numbers n (w .inside), cell-below p n (w .inside) e, h))
+
+pub delay-cell : {k : ℕ} → k ≡ 4 → hasCell k ≡ true
+unfolding hasCell _or_
+delay-cell e = ap hasCell e
+
+pub switch-cell : {k : ℕ} → k ≡ 6 → hasCell k ≡ true
+unfolding hasCell _or_
+switch-cell e = ap hasCell e
+
+pub group-cell : {k : ℕ} → k ≡ 7 → hasCell k ≡ true
+unfolding hasCell _or_
+group-cell e = ap hasCell e
+
+module _ (p : Bytes) (n : ℕ) (w : NodeOf isSignal p n) (rec st : Bytes) (env : Env) where
+  pub input-eval : kindAt p n ≡ 1 → evalS rec st env (signalAt p n) ≡ rule (give (channelValue rec (aAt p n)))
+  unfolding evalS
+  input-eval e = ap (evalS rec st env) (signal-input p n e)
+
+  pub time-eval : kindAt p n ≡ 2 → evalS rec st env (signalAt p n) ≡ rule (give (Plain intT (timeIn rec)))
+  unfolding evalS
+  time-eval e = ap (evalS rec st env) (signal-time p n e)
+
+  pub ext-eval : kindAt p n ≡ 3 → evalS rec st env (signalAt p n) ≡ rule (evalE env (exprAt p (aAt p n)))
+  unfolding evalS
+  ext-eval e = ap (evalS rec st env) (ext-tree p n w e)
+
+  pub until-eval : kindAt p n ≡ 8 → evalS rec st env (signalAt p n) ≡ rule (evalS rec st env (signalAt p (aAt p n)))
+  unfolding evalS
+  until-eval e = ap (evalS rec st env) (until-tree p n w e)
+
+  let-eval : kindAt p n ≡ 5
+      → evalS rec st env (signalAt p n)
+      ≡ rule (evalS rec st env (signalAt p (aAt p n)) then λ v. evalS rec st (bind env n v) (signalAt p (bAt p n)))
+  unfolding evalS
+  let-eval e = ap (evalS rec st env) (let-tree p n w e)
+
+  -- Let, by its definition's value, and of a stuck one.
+  pub let-goes : kindAt p n ≡ 5 → {a b : ℕ} {r x y : Evaluated} {v : Value} {u : Tally} {env₁ : Env} → a ≡ aAt p n → b ≡ bAt p n
+      → r ≡ evalS rec st env (signalAt p a) → r ≡ Done v u → env₁ ≡ env → x ≡ evalS rec st (bind env₁ n v) (signalAt p b) → y ≡ rule (after u x)
+      → y ≡ evalS rec st env (signalAt p n)
+  unfolding _then_
+  let-goes e ea eb er g h ex ey = ey ∙ rw (ex, h, eb) (sym (let-eval e ∙ rw (← ea, ← er, g)))
+
+  pub let-stuck : kindAt p n ≡ 5 → {a : ℕ} {r : Evaluated} → a ≡ aAt p n → r ≡ evalS rec st env (signalAt p a) → r ≡ Stuck
+      → evalS rec st env (signalAt p n) ≡ Stuck
+  unfolding _then_ rule after
+  let-stuck e ea er g = let-eval e ∙ rw (← ea, ← er, g)
+
+  -- By the content m of the node's cell.
+  module _ {k m : ℕ} (c : m ≡ cell st k) (q : k ≡ cellsBefore p n) where
+    content-is : m ≡ cell st (cellsBefore p n)
+    content-is = c ∙ ap (cell st) q
+
+    pub delay-eval : kindAt p n ≡ 4 → evalS rec st env (signalAt p n) ≡ rule (give (unpacked m))
+    unfolding evalS held
+    delay-eval e = ap (evalS rec st env) (delay-tree p n w e) ∙ rw (← content-is)
+
+    pub switch-first : kindAt p n ≡ 6 → m ≡ 0 → evalS rec st env (signalAt p n) ≡ rule (evalS rec st env (signalAt p (aAt p n)))
+    unfolding evalS isClear
+    switch-first e z = ap (evalS rec st env) (switch-tree p n w e) ∙ rw (← content-is, eq-eqb m 0 z)
+
+    pub switch-second : kindAt p n ≡ 6 → (m ≡ 0 → ⊥)
+        → evalS rec st env (signalAt p n) ≡ rule (evalS rec st (bind env n (unpacked m)) (signalAt p (cAt p n)))
+    unfolding evalS isClear held
+    switch-second e z = ap (evalS rec st env) (switch-tree p n w e) ∙ rw (← content-is, ne-eqb m 0 z)
+
+    pub group-body : kindAt p n ≡ 7 → m ≡ 0 → evalS rec st env (signalAt p n) ≡ rule (evalS rec st env (signalAt p (aAt p n)))
+    unfolding evalS isClear
+    group-body e z = ap (evalS rec st env) (group-tree p n w e) ∙ rw (← content-is, eq-eqb m 0 z)
+
+    group-eval : kindAt p n ≡ 7 → (m ≡ 0 → ⊥)
+        → evalS rec st env (signalAt p n) ≡ rule (evalB rec st env (middleIn m) (unpacked m) (branchesAt p (bAt p n)))
+    unfolding evalS isClear held branchIn
+    group-eval e z = ap (evalS rec st env) (group-tree p n w e) ∙ rw (← content-is, ne-eqb m 0 z)
+
+    pub group-branch : kindAt p n ≡ 7 → (m ≡ 0 → ⊥) → {b which : ℕ} {t : Bool} → b ≡ bAt p n → which ≡ middleIn m
+        → t ≡ hasBranch which (branchesAt p b) → t ≡ true
+        → evalS rec st env (signalAt p n) ≡ rule (evalS rec st (bind env which (unpacked m)) (signalAt p (aAt p which)))
+    group-branch e z {b} {which} eb ew h g =
+        group-eval e z
+        ∙ rw (← ew) (ap rule (found p (bAt p n) which (group-kids p n w e .1 .node) (rw eb at (sym h ∙ g)) .evaluates rec st env (unpacked m)))
+
+    pub group-stuck : kindAt p n ≡ 7 → (m ≡ 0 → ⊥) → {b which : ℕ} {t : Bool} → b ≡ bAt p n → which ≡ middleIn m
+        → t ≡ hasBranch which (branchesAt p b) → t ≡ false → evalS rec st env (signalAt p n) ≡ Stuck
+    unfolding rule after
+    group-stuck e z {b} {which} eb ew h g =
+        group-eval e z
+        ∙ rw (← ew) (ap rule (missing-evaluates rec st env which (unpacked m) (branchesAt p (bAt p n)) (rw eb at (sym h ∙ g))))

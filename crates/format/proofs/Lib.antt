@@ -1,0 +1,3 @@
+pub mod SearchLaws
+pub mod SumLaws
+pub mod RecordLaws

@@ -1,0 +1,276 @@
+// Codes 1-4: the program's length, each block's check, number and count, each record.
+ghost use mathlib.Core.Path.{_≡_};
+ghost use mathlib.Core.Bool.{Bool, false};
+ghost use Prim.Native.Nat.{suc, _+_, _*_, _≤_, _<_};
+ghost use lib.ListN.{length, take, drop};
+ghost use Rattle.rules.specs.Bytes.{first};
+ghost use Rattle.rules.specs.Values.{isPlain, isMaybe, isType, valueFits};
+ghost use Rattle.rules.specs.Kinds.{isKind};
+ghost use Rattle.rules.specs.Layout.{blocks, records, nodes, kindAt};
+ghost use Rattle.rules.specs.Format.{lengthWrong, checkOf, sumWrong, numberWrong, fieldWrong, typeFieldWrong, nodeWrong, isZero, mayEnd, afterEnd, recordWrong};
+use kinds::both;
+use kinds::either;
+use kinds::fields_of;
+use kinds::is_expression;
+use kinds::is_signal;
+use rules::Field;
+use rules::Place;
+use rules::TypeField;
+use table::fields;
+use table::record_at;
+use table::u16_at;
+use table::u32_at;
+
+// Code 1: length 0, above 12,288 or not whole blocks.
+pub fn length_wrong(p: &[u8]) -> bool
+    ensures { λ r. ⌜ r ≡ lengthWrong (now (p .entry)) ⌝ }
+{
+    either(either(p.len() == 0, 12288 < p.len()), p.len() % 512 != 0)
+}
+
+// What byte i of a block adds to its check.
+fn weight(i: usize, x: u8) -> u32
+    requires { ⌜ i < 508 ⌝ }
+    ensures { λ r. ⌜ (r ≡ suc i * x) × (r ≤ 129540) ⌝ }
+{
+    (i as u32 + 1) * (x as u32)
+}
+
+// The check of the block that starts at a place: the sum of (i+1) times byte i for i = 0..507.
+pub fn check_sum(p: &[u8], at: usize) -> u32
+    requires { ⌜ at + 508 ≤ length (now p) ⌝ }
+    ensures { λ r. ⌜ r ≡ checkOf (take 508 (drop at (now (p .entry)))) ⌝ }
+{
+    let mut sum: u32 = 0;
+    let mut i: usize = 0;
+    while i < 508 {
+        sum += weight(i, p[at + i]);
+        i += 1;
+    }
+    sum
+}
+
+// Code 2 at block j: its check is not that sum.
+fn sum_wrong(p: &[u8], j: usize) -> bool
+    requires { ⌜ j < blocks (now p) ⌝ }
+    ensures { λ r. ⌜ r ≡ sumWrong (now (p .entry)) j ⌝ }
+{
+    let at = 512 * j;
+    u32_at(p, at + 508) != check_sum(p, at)
+}
+
+// The first block whose check is wrong.
+pub fn first_sum(p: &[u8]) -> Place
+    requires { ⌜ lengthWrong (now p) ≡ false ⌝ }
+    ensures { λ r. ⌜ r ≡ first (sumWrong (now (p .entry))) (blocks (now (p .entry))) ⌝ }
+{
+    let count = p.len() / 512;
+    let mut j: usize = 0;
+    while j < count {
+        if sum_wrong(p, j) {
+            return Place::At(j as u32);
+        }
+        j += 1;
+    }
+    Place::Nowhere
+}
+
+// Code 3 at block j: its number is not j, or its count not that of the blocks.
+fn number_wrong(p: &[u8], j: usize) -> bool
+    requires { ⌜ j < blocks (now p) ⌝ }
+    ensures { λ r. ⌜ r ≡ numberWrong (now (p .entry)) j ⌝ }
+{
+    let at = 512 * j;
+    !both(u16_at(p, at) == j, u16_at(p, at + 2) == p.len() / 512)
+}
+
+// The first block whose number or count is wrong.
+pub fn first_number(p: &[u8]) -> Place
+    requires { ⌜ lengthWrong (now p) ≡ false ⌝ }
+    ensures { λ r. ⌜ r ≡ first (numberWrong (now (p .entry))) (blocks (now (p .entry))) ⌝ }
+{
+    let count = p.len() / 512;
+    let mut j: usize = 0;
+    while j < count {
+        if number_wrong(p, j) {
+            return Place::At(j as u32);
+        }
+        j += 1;
+    }
+    Place::Nowhere
+}
+
+// Types 1-3 are plain.
+pub fn is_plain(t: u8) -> bool
+    ensures { λ r. ⌜ r ≡ isPlain t ⌝ }
+{
+    both(1 <= t, t <= 3)
+}
+
+// Types 5-7 are maybe of these.
+pub fn is_maybe(t: u8) -> bool
+    ensures { λ r. ⌜ r ≡ isMaybe t ⌝ }
+{
+    both(5 <= t, t <= 7)
+}
+
+// The types are the plain ones and maybe of these.
+pub fn is_type(t: u8) -> bool
+    ensures { λ r. ⌜ r ≡ isType t ⌝ }
+{
+    either(is_plain(t), is_maybe(t))
+}
+
+// A type, a present byte and a word are those of a value.
+pub fn value_fits(t: u8, present: usize, word: u32) -> bool
+    ensures { λ r. ⌜ r ≡ valueFits t present word ⌝ }
+{
+    let there = either(present == 1, both(present == 0, is_maybe(t)));
+    let absent = either(word == 0, present == 1);
+    let unit = either(word == 0, !either(t == 1, t == 5));
+    let truth = either(word <= 1, !either(t == 2, t == 6));
+    both(both(both(there, absent), unit), truth)
+}
+
+// A field not named for its kind is zero; a channel is 0-7.
+fn field_wrong(f: Field, x: usize) -> bool
+    ensures { λ r. ⌜ r ≡ fieldWrong f x ⌝ }
+{
+    match f {
+        Field::Unused => x != 0,
+        Field::Channel => 7 < x,
+        Field::PresentByte => false,
+        Field::Signal => false,
+        Field::Expression => false,
+        Field::FirstBranch => false,
+        Field::NextBranch => false,
+        Field::FirstCase => false,
+        Field::NextCase => false,
+        Field::Binder => false,
+        Field::Target => false,
+    }
+}
+
+// The type is as named, and with it the word: zero but in a value.
+fn type_field_wrong(f: TypeField, t: u8, b: usize, w: u32) -> bool
+    ensures { λ r. ⌜ r ≡ typeFieldWrong f t b w ⌝ }
+{
+    match f {
+        TypeField::NoType => !both(t == 0, w == 0),
+        TypeField::AnyType => !both(is_type(t), w == 0),
+        TypeField::PlainType => !both(is_plain(t), w == 0),
+        TypeField::ValueType => !both(is_type(t), value_fits(t, b, w)),
+    }
+}
+
+// The kinds are signals, branch, case and expressions.
+fn is_kind(k: u8) -> bool
+    ensures { λ r. ⌜ r ≡ isKind k ⌝ }
+{
+    either(
+        either(either(is_signal(k), k == 9), k == 10),
+        is_expression(k),
+    )
+}
+
+// A record of a kind is not as the table says.
+fn node_wrong(p: &[u8], r: usize) -> bool
+    requires { ⌜ r < records (now p) ⌝ }
+    ensures { λ wrong. ⌜ wrong ≡ nodeWrong (now (p .entry)) r ⌝ }
+{
+    let n = fields(p, r);
+    let row = fields_of(n.kind);
+    let ft = row.ty;
+    let fa = row.a;
+    let fb = row.b;
+    let fc = row.c;
+    let kind = !is_kind(n.kind);
+    let ty = type_field_wrong(ft, n.ty, n.b, n.word);
+    let a = field_wrong(fa, n.a);
+    let b = field_wrong(fb, n.b);
+    let c = field_wrong(fc, n.c);
+    either(either(either(either(kind, ty), a), b), c)
+}
+
+// All 12 bytes of a record are zero.
+fn is_zero(p: &[u8], r: usize) -> bool
+    requires { ⌜ r < records (now p) ⌝ }
+    ensures { λ zero. ⌜ zero ≡ isZero (now (p .entry)) r ⌝ }
+{
+    let at = record_at(p, r);
+    both(
+        both(u32_at(p, at) == 0, u32_at(p, at + 4) == 0),
+        u32_at(p, at + 8) == 0,
+    )
+}
+
+// Kind 0 stands only in the last block, not as its first record.
+fn may_end(p: &[u8], r: usize) -> bool
+    requires { ⌜ r < records (now p) ⌝ }
+    ensures { λ may. ⌜ may ≡ mayEnd (now (p .entry)) r ⌝ }
+{
+    both(r / 42 + 1 == p.len() / 512, r % 42 != 0)
+}
+
+// The kind of record r.
+fn kind_at(p: &[u8], r: usize) -> u8
+    requires { ⌜ r < records (now p) ⌝ }
+    ensures { λ k. ⌜ k ≡ kindAt (now (p .entry)) r ⌝ }
+{
+    let at = record_at(p, r);
+    p[at]
+}
+
+// The record before is of kind 0.
+fn after_end(p: &[u8], r: usize) -> bool
+    requires { ⌜ r < records (now p) ⌝ }
+    ensures { λ ended. ⌜ ended ≡ afterEnd (now (p .entry)) r ⌝ }
+{
+    if r == 0 {
+        return false;
+    }
+    kind_at(p, r - 1) == 0
+}
+
+// Code 4 at record r. A record of kind 0, and every later one, is all zero.
+fn record_wrong(p: &[u8], r: usize) -> bool
+    requires { ⌜ r < records (now p) ⌝ }
+    ensures { λ wrong. ⌜ wrong ≡ recordWrong (now (p .entry)) r ⌝ }
+{
+    if kind_at(p, r) == 0 {
+        return !both(may_end(p, r), is_zero(p, r));
+    }
+    either(after_end(p, r), node_wrong(p, r))
+}
+
+// The first record that is wrong.
+pub fn first_record(p: &[u8]) -> Place
+    requires { ⌜ lengthWrong (now p) ≡ false ⌝ }
+    ensures { λ r. ⌜ r ≡ first (recordWrong (now (p .entry))) (records (now (p .entry))) ⌝ }
+{
+    let count = 42 * (p.len() / 512);
+    let mut r: usize = 0;
+    while r < count {
+        if record_wrong(p, r) {
+            return Place::At(r as u32);
+        }
+        r += 1;
+    }
+    Place::Nowhere
+}
+
+// How many nodes there are: the records before the first of kind 0.
+pub fn count_nodes(p: &[u8]) -> usize
+    requires { ⌜ lengthWrong (now p) ≡ false ⌝ }
+    ensures { λ n. ⌜ (n ≡ nodes (now (p .entry))) × (n ≤ 1008) ⌝ }
+{
+    let count = 42 * (p.len() / 512);
+    let mut r: usize = 0;
+    while r < count {
+        if kind_at(p, r) == 0 {
+            return r;
+        }
+        r += 1;
+    }
+    count
+}

@@ -1,0 +1,12 @@
+pub mod Outcomes
+pub mod ExpressionsSound
+pub mod ExpressionsComplete
+pub mod SignalsSound
+pub mod SignalsComplete
+pub mod UpdatesSound
+pub mod Moves
+pub mod UpdatesComplete
+pub mod Sets
+pub mod ExpressionsOnly
+pub mod SignalsOnly
+pub mod UpdatesOnly

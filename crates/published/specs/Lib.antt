@@ -1,0 +1,3 @@
+pub mod Expressions
+pub mod Signals
+pub mod Updates

@@ -1,0 +1,134 @@
+// Putting cells to start, and the start state.
+ghost use mathlib.Core.Path.{_≡_};
+ghost use Prim.Native.Nat.{_+_, _-_, _≤_, _<_};
+ghost use lib.ListN.{length, getD, replicate};
+ghost use Rattle.rules.specs.Bytes.{writeAt};
+ghost use Rattle.rules.specs.Values.{packed, valueFrom};
+ghost use Rattle.rules.specs.Layout.{nodes, cellAt, cell as cellIn, setCell, headerLength, stateLength, startHeader};
+ghost use Rattle.rules.specs.Kinds.{isSignal, isBranch, isCase};
+ghost use Rattle.rules.specs.Shaped.{NodeOf};
+ghost use Rattle.rules.specs.Tree.{signalAt, branchesAt, casesAt};
+ghost use Rattle.rules.specs.Reset.{resetS, resetB, resetC, startState};
+ghost use Rattle.cells.specs.Indexed.{Indexed};
+ghost use Rattle.state.specs.Stated.{Stated};
+use cells::cell;
+use cells::number_of;
+use cells::put32;
+use cells::set_cell;
+use rules::Node;
+use table::fields;
+use values::pack;
+use values::value_from;
+
+// The content of the first value of a delay.
+pub fn first_value(n: Node) -> u64
+    ensures { λ r. ⌜ r ≡ packed (valueFrom (n .ty) (n .b) (n .word)) ⌝ }
+{
+    pack(value_from(n.ty, n.b, n.word))
+}
+
+// The content of the cell of node i.
+pub fn own_cell(index: &[u16], st: &[u8], i: usize) -> u64
+    requires { ⌜ (i < length (now index)) × (cellAt (getD (now index) i 0) + 8 ≤ length (now st)) ⌝ }
+    ensures { λ r. ⌜ r ≡ cellIn (now (st .entry)) (getD (now (index .entry)) i 0) ⌝ }
+{
+    let k = number_of(index, i);
+    cell(st, k)
+}
+
+// A content stored in the cell of node i.
+fn set_own(index: &[u16], st: &mut [u8], i: usize, m: u64)
+    requires { ⌜ (i < length (now index)) × (cellAt (getD (now index) i 0) + 8 ≤ length (now st)) ⌝ }
+    ensures { λ _. ⌜ now (st .exit) ≡ setCell (now (st .entry)) (getD (now (index .entry)) i 0) m ⌝ }
+{
+    let k = number_of(index, i);
+    set_cell(st, k, m);
+}
+
+// All cells of the signal at node i put to start.
+pub fn reset_s(p: &[u8], index: &[u16], st: &mut [u8], i: usize)
+    requires { ⌜ Stated isSignal (now p) (now index) (length (now st)) i ⌝ }
+    ensures { λ _. ⌜ now (st .exit) ≡ resetS (signalAt (now (p .entry)) i) (now (st .entry)) ⌝ }
+{
+    let n = fields(p, i);
+    let k = n.kind;
+    match k {
+        4 => {
+            set_own(index, st, i, first_value(n));
+            reset_s(p, index, st, n.a);
+        }
+        5 => {
+            reset_s(p, index, st, n.a);
+            reset_s(p, index, st, n.b);
+        }
+        6 => {
+            set_own(index, st, i, 0);
+            reset_s(p, index, st, n.a);
+            reset_s(p, index, st, n.b);
+            reset_s(p, index, st, n.c);
+        }
+        7 => {
+            set_own(index, st, i, 0);
+            reset_s(p, index, st, n.a);
+            reset_b(p, index, st, n.b);
+        }
+        8 => {
+            reset_s(p, index, st, n.a);
+            reset_c(p, index, st, n.b);
+        }
+        _ => {}
+    }
+}
+
+// All cells of the list of branches at node j put to start.
+pub fn reset_b(p: &[u8], index: &[u16], st: &mut [u8], j: usize)
+    requires { ⌜ Stated isBranch (now p) (now index) (length (now st)) j ⌝ }
+    ensures { λ _. ⌜ now (st .exit) ≡ resetB (branchesAt (now (p .entry)) j) (now (st .entry)) ⌝ }
+{
+    let n = fields(p, j);
+    reset_s(p, index, st, n.a);
+    if n.b != 65535 {
+        reset_b(p, index, st, n.b);
+    }
+}
+
+// All cells of the list of cases at node j put to start.
+pub fn reset_c(p: &[u8], index: &[u16], st: &mut [u8], j: usize)
+    requires { ⌜ Stated isCase (now p) (now index) (length (now st)) j ⌝ }
+    ensures { λ _. ⌜ now (st .exit) ≡ resetC (casesAt (now (p .entry)) j) (now (st .entry)) ⌝ }
+{
+    let n = fields(p, j);
+    reset_s(p, index, st, n.a);
+    if n.b != 65535 {
+        reset_c(p, index, st, n.b);
+    }
+}
+
+// Every byte zero.
+fn clear_all(st: &mut [u8])
+    ensures { λ _. ⌜ now (st .exit) ≡ replicate (length (now (st .entry))) 0 ⌝ }
+{
+    let mut k: usize = 0;
+    while k < st.len() {
+        st[k] = 0;
+        k += 1;
+    }
+}
+
+// The header of a start state, with no time, over the first bytes.
+fn put_header(p: &[u8], st: &mut [u8])
+    requires { ⌜ headerLength ≤ length (now st) ⌝ }
+    ensures { λ _. ⌜ now (st .exit) ≡ writeAt (now (st .entry)) 0 (startHeader (now (p .entry))) ⌝ }
+{
+    put32(st, 0, 4294967295);
+}
+
+// The start state of a program of so many nodes, in memory of its length.
+pub fn fill_start(p: &[u8], index: &[u16], st: &mut [u8], count: usize)
+    requires { ⌜ NodeOf isSignal (now p) (nodes (now p) - 1) × Indexed (now p) (now index) × (count ≡ nodes (now p)) × (length (now st) ≡ stateLength (now p)) ⌝ }
+    ensures { λ _. ⌜ now (st .exit) ≡ startState (now (p .entry)) ⌝ }
+{
+    clear_all(st);
+    put_header(p, st);
+    reset_s(p, index, st, count - 1);
+}

@@ -1,0 +1,3 @@
+pub mod RestLaws
+pub mod WellLaws
+pub mod Lengths

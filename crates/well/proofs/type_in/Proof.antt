@@ -1,0 +1,19 @@
+use mathlib.Core.Path.{refl}
+use Rattle.rules.specs.Values.{typeIn}
+use borrow.Author.Needs.{needs}
+use Rattle.well.proofs.type_in.Statement.{statement}
+use Rattle.well.proofs.type_in.Tie as tie
+use Rattle.well.proofs.type_in.Reads as reads
+use Rattle.well.proofs.type_in.Lts as lts
+
+-- src/lib.rt:38:5
+cast-result : tie.Need-cast-result
+cast-result c = search needs
+
+-- src/lib.rt:35:1
+returns : tie.Need-returns
+unfolding typeIn
+returns c = refl
+
+pub type-in-spec : {M : Type 1} → statement M
+type-in-spec = tie.close (tie.spec cast-result returns)

@@ -1,0 +1,220 @@
+// Which states are well-formed.
+ghost use mathlib.Core.Path.{_≡_};
+ghost use Prim.Native.Nat.{_-_};
+ghost use lib.ListN.{length};
+ghost use Rattle.rules.specs.Bytes.{_and_, _or_};
+ghost use Rattle.rules.specs.Values.{typeIn, middleIn, valueFits};
+ghost use Rattle.rules.specs.Layout.{nodes, cells as cellsOf};
+ghost use Rattle.rules.specs.Kinds.{isSignal, isBranch, isCase};
+ghost use Rattle.rules.specs.Shaped.{NodeOf};
+ghost use Rattle.rules.specs.Tree.{signalAt, branchesAt, casesAt};
+ghost use Rattle.rules.specs.Reset.{restsS, restsB, restsC};
+ghost use Rattle.rules.specs.WellFormed.{contentFits, wellS, wellB, wellC, wellFormed};
+ghost use Rattle.cells.specs.Indexed.{Indexed};
+ghost use Rattle.state.specs.Stated.{Stated};
+use cells::cell_at;
+use cells::last_time;
+use state::first_value;
+use state::own_cell;
+use table::fields;
+use values::is_maybe;
+
+// Both, as the rules have it.
+fn both(x: bool, y: bool) -> bool
+    ensures { λ r. ⌜ r ≡ (x and y) ⌝ }
+{
+    if x { y } else { false }
+}
+
+// Either, as the rules have it.
+fn either(x: bool, y: bool) -> bool
+    ensures { λ r. ⌜ r ≡ (x or y) ⌝ }
+{
+    if x { true } else { y }
+}
+
+// The type in a content.
+fn type_in(m: u64) -> u8
+    ensures { λ r. ⌜ r ≡ typeIn m ⌝ }
+{
+    (m % 256) as u8
+}
+
+// The number in bytes 2-3 of a content.
+fn middle_in(m: u64) -> usize
+    ensures { λ r. ⌜ r ≡ middleIn m ⌝ }
+{
+    (m / 65536 % 65536) as usize
+}
+
+// A present byte and a word are those of a value of type t.
+fn value_fits(t: u8, present: u64, word: u64) -> bool
+    ensures { λ r. ⌜ r ≡ valueFits t present word ⌝ }
+{
+    let there = either(present == 1, both(present == 0, is_maybe(t)));
+    let absent = either(word == 0, present == 1);
+    let unit = either(word == 0, !either(t == 1, t == 5));
+    let truth = either(word <= 1, !either(t == 2, t == 6));
+    both(both(both(there, absent), unit), truth)
+}
+
+// A content is a value of type t, with a number in bytes 2-3.
+fn content_fits(t: u8, middle: usize, m: u64) -> bool
+    ensures { λ r. ⌜ r ≡ contentFits t middle m ⌝ }
+{
+    let fits = value_fits(t, m / 256 % 256, m / 4294967296);
+    both(both(type_in(m) == t, middle_in(m) == middle), fits)
+}
+
+// All cells of the signal at node i hold their start content.
+fn rests_s(p: &[u8], index: &[u16], st: &[u8], i: usize) -> bool
+    requires { ⌜ Stated isSignal (now p) (now index) (length (now st)) i ⌝ }
+    ensures { λ r. ⌜ r ≡ restsS (now (st .entry)) (signalAt (now (p .entry)) i) ⌝ }
+{
+    let n = fields(p, i);
+    let k = n.kind;
+    match k {
+        4 => {
+            let m = own_cell(index, st, i);
+            let s = rests_s(p, index, st, n.a);
+            both(m == first_value(n), s)
+        }
+        5 => both(rests_s(p, index, st, n.a), rests_s(p, index, st, n.b)),
+        6 => {
+            let m = own_cell(index, st, i);
+            let x = rests_s(p, index, st, n.a);
+            let e = rests_s(p, index, st, n.b);
+            let y = rests_s(p, index, st, n.c);
+            both(both(both(m == 0, x), e), y)
+        }
+        7 => {
+            let m = own_cell(index, st, i);
+            let body = rests_s(p, index, st, n.a);
+            let brs = rests_b(p, index, st, n.b);
+            both(both(m == 0, body), brs)
+        }
+        8 => both(rests_s(p, index, st, n.a), rests_c(p, index, st, n.b)),
+        _ => true,
+    }
+}
+
+// All cells of the list of branches at node j hold their start content.
+fn rests_b(p: &[u8], index: &[u16], st: &[u8], j: usize) -> bool
+    requires { ⌜ Stated isBranch (now p) (now index) (length (now st)) j ⌝ }
+    ensures { λ r. ⌜ r ≡ restsB (now (st .entry)) (branchesAt (now (p .entry)) j) ⌝ }
+{
+    let n = fields(p, j);
+    let body = rests_s(p, index, st, n.a);
+    if n.b == 65535 {
+        return both(body, true);
+    }
+    let next = rests_b(p, index, st, n.b);
+    both(body, next)
+}
+
+// All cells of the list of cases at node j hold their start content.
+fn rests_c(p: &[u8], index: &[u16], st: &[u8], j: usize) -> bool
+    requires { ⌜ Stated isCase (now p) (now index) (length (now st)) j ⌝ }
+    ensures { λ r. ⌜ r ≡ restsC (now (st .entry)) (casesAt (now (p .entry)) j) ⌝ }
+{
+    let n = fields(p, j);
+    let event = rests_s(p, index, st, n.a);
+    if n.b == 65535 {
+        return both(event, true);
+    }
+    let next = rests_c(p, index, st, n.b);
+    both(event, next)
+}
+
+// The cells of the signal at node i are valid, and start where they are not current.
+fn well_s(p: &[u8], index: &[u16], st: &[u8], i: usize) -> bool
+    requires { ⌜ Stated isSignal (now p) (now index) (length (now st)) i ⌝ }
+    ensures { λ r. ⌜ r ≡ wellS (now (st .entry)) (signalAt (now (p .entry)) i) ⌝ }
+{
+    let n = fields(p, i);
+    let k = n.kind;
+    match k {
+        4 => {
+            let m = own_cell(index, st, i);
+            let s = well_s(p, index, st, n.a);
+            both(content_fits(n.ty, 0, m), s)
+        }
+        5 => both(well_s(p, index, st, n.a), well_s(p, index, st, n.b)),
+        6 => {
+            let m = own_cell(index, st, i);
+            let e = well_s(p, index, st, n.b);
+            if m == 0 {
+                let x = well_s(p, index, st, n.a);
+                let y = rests_s(p, index, st, n.c);
+                return both(e, both(x, y));
+            }
+            let x = rests_s(p, index, st, n.a);
+            let y = well_s(p, index, st, n.c);
+            both(e, both(both(content_fits(n.ty, 0, m), x), y))
+        }
+        7 => {
+            let m = own_cell(index, st, i);
+            if m == 0 {
+                let body = well_s(p, index, st, n.a);
+                let brs = rests_b(p, index, st, n.b);
+                return both(body, brs);
+            }
+            let body = rests_s(p, index, st, n.a);
+            let brs = well_b(p, index, st, n.b, m);
+            both(body, brs)
+        }
+        8 => both(well_s(p, index, st, n.a), well_c(p, index, st, n.b)),
+        _ => true,
+    }
+}
+
+// One branch of the list at node j is the one that the content m of its group's cell names.
+fn well_b(p: &[u8], index: &[u16], st: &[u8], j: usize, m: u64) -> bool
+    requires { ⌜ Stated isBranch (now p) (now index) (length (now st)) j ⌝ }
+    ensures { λ r. ⌜ r ≡ wellB (now (st .entry)) m (branchesAt (now (p .entry)) j) ⌝ }
+{
+    let n = fields(p, j);
+    if j == middle_in(m) {
+        let body = well_s(p, index, st, n.a);
+        let here = both(content_fits(n.ty, j, m), body);
+        if n.b == 65535 {
+            return both(here, true);
+        }
+        let next = rests_b(p, index, st, n.b);
+        return both(here, next);
+    }
+    let body = rests_s(p, index, st, n.a);
+    if n.b == 65535 {
+        return both(body, false);
+    }
+    let next = well_b(p, index, st, n.b, m);
+    both(body, next)
+}
+
+// The cells of the list of cases at node j are valid, and start where they are not current.
+fn well_c(p: &[u8], index: &[u16], st: &[u8], j: usize) -> bool
+    requires { ⌜ Stated isCase (now p) (now index) (length (now st)) j ⌝ }
+    ensures { λ r. ⌜ r ≡ wellC (now (st .entry)) (casesAt (now (p .entry)) j) ⌝ }
+{
+    let n = fields(p, j);
+    let event = well_s(p, index, st, n.a);
+    if n.b == 65535 {
+        return both(event, true);
+    }
+    let next = well_c(p, index, st, n.b);
+    both(event, next)
+}
+
+// A state of any length is well-formed, for a program of so many nodes and cells.
+pub fn well_formed(p: &[u8], index: &[u16], st: &[u8], count: usize, cells: usize) -> bool
+    requires { ⌜ NodeOf isSignal (now p) (nodes (now p) - 1) × Indexed (now p) (now index) × (count ≡ nodes (now p)) × (cells ≡ cellsOf (now p)) ⌝ }
+    ensures { λ r. ⌜ r ≡ wellFormed (now (p .entry)) (now (st .entry)) ⌝ }
+{
+    if st.len() != cell_at(cells) {
+        return false;
+    }
+    let time = last_time(st);
+    let timed = either(time == 4294967295, time <= 2147483647);
+    let well = well_s(p, index, st, count - 1);
+    both(timed, well)
+}

@@ -1,9 +1,8 @@
 -- An expression that the definition does not leave stuck has a derivation, of the definition's value and work.
 -- Assumes nothing.
-use mathlib.Core.Path.{_≡_, refl, subst}
+use mathlib.Core.Path.{_≡_, refl}
 use mathlib.Core.Bool.{Bool, true, false}
-use Prim.Native.Nat.{ℕ, _+_}
-use native.Mathlib.Omega.{arith}
+use Prim.Native.Nat.{ℕ}
 use lib.Dec.{eqb}
 use lib.ListN.{getD}
 use borrow.Author.Tests.{eq-eqb}
@@ -25,6 +24,7 @@ use Rattle.rules.specs.declared.Evaluated.the-variants.{Done, Stuck}
 use Rattle.published.specs.Expressions.{Evaluates, ev-variable, ev-constant, ev-operation, ev-not, ev-if-true, ev-if-false, ev-just, ev-take-absent, ev-take-present}
 use Rattle.published.proofs.Outcomes.{Derived, derived, stuck, derivation, rule-give, rule-after, rule-after-give, rule-stuck, after-stuck}
 
+-- each kind of expression: it has a derivation where its parts have, and is stuck with them
 variable-derived : (env : Env) (i b t : ℕ) → Derived (Evaluates env (variable i b t)) (rule (look env b))
 unfolding look
 variable-derived env i b t = go (eqb (getD env b 0) 0) refl
@@ -107,5 +107,6 @@ deriveE (just i x) env = just-derived env i x (deriveE x env)
 deriveE (taking i t e x y) env =
     take-derived env i t e x y (λ v. evalE (bind env i v) y) (deriveE e env) (deriveE x env) (λ c. deriveE y (bind env i c))
 
+-- so of the definition's value and work there is a derivation
 pub completeE : {env : Env} {e : Expr} {v : Value} {w : Tally} → evalE env e ≡ Done v w → Evaluates env e v (w .work)
 completeE {env} {e} h = derivation (deriveE e env) h

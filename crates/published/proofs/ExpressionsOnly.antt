@@ -8,7 +8,7 @@ use lib.Dec.{eqb}
 use Rattle.rules.specs.Values.{boolT, maybeOf}
 use Rattle.rules.specs.Operations.{truth, isTrue, operandType, meaning}
 use Rattle.rules.specs.Work.{give}
-use Rattle.rules.specs.Tree.{Expr, variable, constant, operation, negation, choice, just, taking}
+use Rattle.rules.specs.Tree.{Expr, variable, operation, negation, choice, just, taking}
 use Rattle.rules.specs.Evaluate.{Env, bind, look, plainWord, opened}
 use Rattle.rules.specs.declared.Value.{Value}
 use Rattle.rules.specs.declared.Value.the-variants.{Present}
@@ -90,5 +90,6 @@ onlyE (ev-take-present d g f) (ev-take-absent d₁ g₁ f₁) = absurd (not-both
 onlyE (ev-take-present d g f) (ev-take-present d₁ g₁ f₁) =
     along by-take-present (Σ-prop-path (λ q. here-prop _) (onlyE d d₁)) (_, f) (λ q. onlyE f (q .1)) (_, f₁)
 
+-- and so are two of one value and size
 pub oneE : (env : Env) (e : Expr) (v : Value) (n : ℕ) → IsProp (Evaluates env e v n)
 oneE env e v n = each-prop Result-set (λ p q. onlyE (p .1) (q .1)) (v, n)

@@ -10,8 +10,8 @@ use Rattle.rules.specs.Bytes.{if_then_else_}
 use Rattle.rules.specs.Values.{boolT, maybeOf, isPlain}
 use Rattle.rules.specs.Operations.{truth, isTrue, operandType, meaning}
 use Rattle.rules.specs.Work.{nothing, oneRule, _plus_, give, after, rule}
-use Rattle.rules.specs.Tree.{Expr, variable, constant, operation, negation, choice, just, taking}
-use Rattle.rules.specs.Evaluate.{Env, bind, look, plainWord, opened, onWords, operate, operated, notOf, negated, armOf, chosen, justOf, lifted, takeArm, taken, evalE}
+use Rattle.rules.specs.Tree.{Expr}
+use Rattle.rules.specs.Evaluate.{Env, plainWord, opened, onWords, operate, operated, notOf, negated, armOf, chosen, justOf, lifted, takeArm, taken, evalE}
 use Rattle.rules.specs.declared.Value.{Value}
 use Rattle.rules.specs.declared.Value.the-variants.{Plain, Absent, Present}
 use Rattle.rules.specs.declared.Word.{Word}
@@ -21,7 +21,7 @@ use Rattle.rules.specs.declared.Evaluated.{Evaluated}
 use Rattle.published.specs.Expressions.{Evaluates, ev-variable, ev-constant, ev-operation, ev-not, ev-if-true, ev-if-false, ev-just, ev-take-absent, ev-take-present}
 use Rattle.published.proofs.Outcomes.{done, sized}
 
--- a value whose word is asked for
+-- the value that has a word of a type
 abbrev IsNow : Word → ℕ → Type 0
 IsNow (Is w) a = w ≡ a
 IsNow Not a = ⊥
@@ -39,10 +39,10 @@ plain-of t a (Plain s w) e = go (eqb s t) refl (is-now e)
 plain-of t a (Absent s) e = absurd (is-now e)
 plain-of t a (Present s w) e = absurd (is-now e)
 
--- one rule more
-pub variable-done : {r : Evaluated} {v : Value} → r ≡ give v → rule r ≡ done v 1
+-- one rule, of each kind of expression: what its premises gave, and one more counted
+pub give-done : {r : Evaluated} {v : Value} → r ≡ give v → rule r ≡ done v 1
 unfolding rule after give oneRule nothing _plus_
-variable-done {v = v} e = rw e (sized v (omega arith))
+give-done {v = v} e = rw e (sized v (omega arith))
 
 operated-done : (k : ℕ) {r s : Evaluated} {u v : Value} {a b m n : ℕ} → r ≡ done u m → s ≡ done v n
     → plainWord (operandType k) u ≡ Is a → plainWord (operandType k) v ≡ Is b → rule (operated k r s) ≡ done (meaning k a b) (1 + (m + n))
@@ -82,8 +82,8 @@ taken-present r f e g h = rw (e, g, h)
 -- a derivation gives the definition's outcome, and its size is the work
 pub soundE : {env : Env} {e : Expr} {v : Value} {n : ℕ} → Evaluates env e v n → evalE env e ≡ done v n
 unfolding evalE
-soundE (ev-variable e) = variable-done e
-soundE (ev-constant) = variable-done refl
+soundE (ev-variable e) = give-done e
+soundE (ev-constant) = give-done refl
 soundE (ev-operation {k = k} d f g h) = operated-done k (soundE d) (soundE f) g h
 soundE (ev-not d g) = negated-done (soundE d) g
 soundE (ev-if-true d g h f) = chosen-true _ (soundE d) g h (soundE f)

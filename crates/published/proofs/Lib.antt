@@ -10,3 +10,6 @@ pub mod Sets
 pub mod ExpressionsOnly
 pub mod SignalsOnly
 pub mod UpdatesOnly
+pub mod Sizes
+pub mod Exactly
+pub mod OneStep

@@ -1,6 +1,6 @@
 -- Outcomes of updates, and what a derivation says of one.
 -- Assumes nothing.
-use mathlib.Core.Path.{_≡_, refl, sym, ap, subst, _∙_}
+use mathlib.Core.Path.{_≡_, subst}
 use Prim.Native.Nat.{ℕ, _+_}
 use Rattle.rules.specs.Bytes.{Bytes}
 use Rattle.rules.specs.Work.{nothing, oneRule, _plus_, Updated, Next, Jump, Halted, stays, leave, afterᵘ, ruleᵘ}

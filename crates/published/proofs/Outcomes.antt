@@ -1,29 +1,32 @@
--- Outcomes of evaluations, and what a derivation says of one.
+-- Outcomes with their work, and what a derivation says of an evaluation's.
 -- Assumes nothing.
-use mathlib.Core.Path.{_≡_, refl, sym, ap, subst, _∙_}
+use mathlib.Core.Path.{_≡_, sym, ap, subst, _∙_}
 use Prim.Native.Nat.{ℕ, _+_}
 use native.Mathlib.Omega.{arith}
 use Rattle.rules.specs.Bytes.{Bytes}
-use Rattle.rules.specs.Work.{nothing, oneRule, _plus_, give, after, rule, Updated, Next, Jump, Halted}
+use Rattle.rules.specs.Work.{nothing, oneRule, _plus_, give, after, rule, Updated, Next, Jump}
 use Rattle.rules.specs.declared.Tally.{Tally}
 use Rattle.rules.specs.declared.Value.{Value}
-use Rattle.rules.specs.declared.Value.the-variants.{Plain}
 use Rattle.rules.specs.declared.Evaluated.{Evaluated}
 use Rattle.rules.specs.declared.Evaluated.the-variants.{Done, Stuck}
 
+-- so much counted, and nothing else
+abbrev pub counted : ℕ → Tally
+counted n = record { work = n }
+
 -- the outcome with a value and so much work
 abbrev pub done : Value → ℕ → Evaluated
-done v n = Done v (record { work = n })
+done v n = Done v (counted n)
 
 pub sized : (v : Value) {m n : ℕ} → m ≡ n → done v m ≡ done v n
 sized v e = ap (done v) e
 
 -- an update's outcomes with so much work
 abbrev pub next : Bytes → ℕ → Updated
-next st n = Next st (record { work = n })
+next st n = Next st (counted n)
 
 abbrev pub jump : ℕ → Value → Bytes → ℕ → Updated
-jump aim v st n = Jump aim v st (record { work = n })
+jump aim v st n = Jump aim v st (counted n)
 
 pub nextSized : (st : Bytes) {m n : ℕ} → m ≡ n → next st m ≡ next st n
 nextSized st e = ap (next st) e
@@ -78,21 +81,7 @@ IsDone Stuck = ⊥
 pub done-not-stuck : {r : Evaluated} {v : Value} {w : Tally} → r ≡ Done v w → r ≡ Stuck → ⊥
 done-not-stuck e f = subst IsDone (sym e ∙ f) tt
 
--- the value and the work of an outcome that has one
-abbrev valueIn : Evaluated → Value
-valueIn (Done v w) = v
-valueIn Stuck = Plain 0 0
-
-abbrev workIn : Evaluated → ℕ
-workIn (Done v w) = w .work
-workIn Stuck = 0
-
-pub same-value : {r : Evaluated} {u v : Value} {x y : Tally} → r ≡ Done u x → r ≡ Done v y → u ≡ v
-same-value e f = ap valueIn (sym e ∙ f)
-
-pub same-work : {r : Evaluated} {u v : Value} {x y : Tally} → r ≡ Done u x → r ≡ Done v y → x .work ≡ y .work
-same-work e f = ap workIn (sym e ∙ f)
-
+-- the derivation of an outcome
 from-derived : {D : Value → ℕ → Type 0} {v : Value} {w : Tally} → Derived D (Done v w) → D v (w .work)
 from-derived (derived d) = d
 

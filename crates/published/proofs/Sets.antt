@@ -7,9 +7,8 @@ use Prim.Native.Nat.{ℕ, zero, suc}
 use native.Mathlib.Nat.{ℕ-set}
 use ghost.Sets.{retract-set}
 use Rattle.rules.specs.Values.{isPlain}
-use Rattle.rules.specs.Work.{nothing, give}
-use Rattle.rules.specs.Evaluate.{Env, look, plainWord, opened}
-use Rattle.rules.specs.declared.Tally.{Tally}
+use Rattle.rules.specs.Work.{give}
+use Rattle.rules.specs.Evaluate.{Env, look, plainWord}
 use Rattle.rules.specs.declared.Value.{Value}
 use Rattle.rules.specs.declared.Value.the-variants.{Plain, Absent, Present}
 use Rattle.rules.specs.declared.Word.{Word}

@@ -1,20 +1,20 @@
 -- A signal that the definition does not leave stuck has a derivation, of the definition's value and work.
 -- Assumes nothing.
-use mathlib.Core.Path.{_≡_, refl, sym, subst}
+use mathlib.Core.Path.{_≡_, refl}
 use mathlib.Core.Bool.{Bool, true, false}
-use Prim.Native.Nat.{ℕ, _+_}
+use Prim.Native.Nat.{ℕ}
 use lib.Dec.{eqb}
 use borrow.Author.Tests.{eqb-true}
 use Rattle.rules.specs.Bytes.{Bytes, if_then_else_}
 use Rattle.rules.specs.Layout.{held, isClear, branchIn}
 use Rattle.rules.specs.Work.{rule, _then_}
-use Rattle.rules.specs.Tree.{Signal, input, time, ext, delay, letSignal, switch, group, until, Branches, noBranch, branch, Cases}
+use Rattle.rules.specs.Tree.{Signal, input, time, ext, delay, letSignal, switch, group, until, Branches, noBranch, branch}
 use Rattle.rules.specs.Evaluate.{Env, bind, evalS, evalB}
 use Rattle.rules.specs.declared.Tally.{Tally}
 use Rattle.rules.specs.declared.Value.{Value}
 use Rattle.rules.specs.declared.Evaluated.{Evaluated}
-use Rattle.rules.specs.declared.Evaluated.the-variants.{Done, Stuck}
-use Rattle.published.specs.Signals.{BodyOf, here, later, CurrentOfSwitch, first, second, CurrentOfGroup, in-body, in-branch, EvaluatesS, ev-input, ev-time, ev-ext, ev-delay, ev-signal, ev-switch, ev-continue, ev-until}
+use Rattle.rules.specs.declared.Evaluated.the-variants.{Done}
+use Rattle.published.specs.Signals.{BodyOf, here, later, first, second, in-body, in-branch, EvaluatesS, ev-input, ev-time, ev-ext, ev-delay, ev-signal, ev-switch, ev-continue, ev-until}
 use Rattle.published.proofs.Outcomes.{Derived, derived, stuck, derivation, mapped, rule-give, rule-one, rule-after, rule-stuck}
 use Rattle.published.proofs.ExpressionsComplete.{deriveE}
 
@@ -24,6 +24,7 @@ record InBranch (rec st : Bytes) (env : Env) (k : ℕ) (u : Value) (brs : Branch
   body : BodyOf k brs part
   runs : EvaluatesS rec st (bind env k u) part v n
 
+-- each kind of signal with parts: it has a derivation where they have, and is stuck with them
 let-derived : (rec st : Bytes) (env : Env) (i t : ℕ) (d b : Signal) {r : Evaluated} (f : Value → Evaluated) → Derived (EvaluatesS rec st env d) r
     → ((u : Value) → Derived (EvaluatesS rec st (bind env i u) b) (f u)) → Derived (EvaluatesS rec st env (letSignal i t d b)) (rule (r then f))
 unfolding _then_
@@ -73,6 +74,7 @@ mutual
   deriveB (branch n t body next) rec st env k u =
       branch-derived rec st env k u n t body next (eqb n k) refl (deriveS body rec st (bind env n u)) (deriveB next rec st env k u)
 
+-- so of the definition's value and work there is a derivation
 pub completeS : {rec st : Bytes} {env : Env} {s : Signal} {v : Value} {w : Tally} → evalS rec st env s ≡ Done v w
     → EvaluatesS rec st env s v (w .work)
 completeS {rec} {st} {env} {s} h = derivation (deriveS s rec st env) h

@@ -3,10 +3,9 @@
 use mathlib.Core.Path.{_≡_, refl, ap}
 use mathlib.Core.Bool.{true, false, Bool-set}
 use Prim.Native.Nat.{ℕ, _+_}
-use lib.Dec.{eqb}
 use Rattle.rules.specs.Bytes.{Bytes}
-use Rattle.rules.specs.Layout.{held, isClear, branchIn}
-use Rattle.rules.specs.Tree.{Expr, Signal, ext, letSignal, switch, group, until, Branches, branch, Cases}
+use Rattle.rules.specs.Layout.{held, branchIn}
+use Rattle.rules.specs.Tree.{Expr, Signal, ext, letSignal, switch, group, until, Branches, Cases}
 use Rattle.rules.specs.Evaluate.{Env, bind}
 use Rattle.rules.specs.declared.Value.{Value}
 use Rattle.published.specs.Signals.{BodyOf, here, later, CurrentOfSwitch, first, second, CurrentOfGroup, in-body, in-branch, EvaluatesS, ev-input, ev-time, ev-ext, ev-delay, ev-signal, ev-switch, ev-continue, ev-until}
@@ -88,5 +87,6 @@ onlyS (ev-switch c d) (ev-switch c₁ d₁) = along by-switch (switch-only (_, c
 onlyS (ev-continue c d) (ev-continue c₁ d₁) = along by-continue (group-only (_, c) (_, c₁)) (_, d) (λ q. onlyS d (q .1)) (_, d₁)
 onlyS (ev-until d) (ev-until d₁) = ap by-until (onlyS d d₁)
 
+-- and so are two of one value and size
 pub oneS : (rec st : Bytes) (env : Env) (s : Signal) (v : Value) (n : ℕ) → IsProp (EvaluatesS rec st env s v n)
 oneS rec st env s v n = each-prop Result-set (λ p q. onlyS (p .1) (q .1)) (v, n)

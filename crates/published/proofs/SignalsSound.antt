@@ -1,10 +1,7 @@
 -- A derivation of a signal's evaluation gives the definition's outcome.
 -- Assumes nothing.
-use mathlib.Core.Path.{_≡_, refl, sym, ap, _∙_}
-use mathlib.Core.Bool.{Bool, true, false}
+use mathlib.Core.Path.{_≡_, refl, ap, _∙_}
 use Prim.Native.Nat.{ℕ, _+_}
-use native.Mathlib.Omega.{arith}
-use lib.Dec.{eqb}
 use borrow.Author.Tests.{eqb-true}
 use Rattle.rules.specs.Bytes.{Bytes, if_then_else_}
 use Rattle.rules.specs.Layout.{held, isClear, branchIn}
@@ -14,8 +11,8 @@ use Rattle.rules.specs.Evaluate.{Env, bind, evalS, evalB}
 use Rattle.rules.specs.declared.Value.{Value}
 use Rattle.rules.specs.declared.Evaluated.{Evaluated}
 use Rattle.published.specs.Signals.{BodyOf, here, later, CurrentOfSwitch, first, second, CurrentOfGroup, in-body, in-branch, EvaluatesS, ev-input, ev-time, ev-ext, ev-delay, ev-signal, ev-switch, ev-continue, ev-until}
-use Rattle.published.proofs.Outcomes.{done, sized}
-use Rattle.published.proofs.ExpressionsSound.{variable-done, soundE}
+use Rattle.published.proofs.Outcomes.{done}
+use Rattle.published.proofs.ExpressionsSound.{give-done, soundE}
 
 -- one rule, and one rule after another evaluation
 rule-done : {r : Evaluated} {v : Value} {n : ℕ} → r ≡ done v n → rule r ≡ done v (1 + n)
@@ -26,31 +23,32 @@ then-done : {r : Evaluated} (f : Value → Evaluated) {u v : Value} {m n : ℕ} 
 unfolding rule after oneRule _plus_ _then_
 then-done f e h = rw (e, h)
 
--- the definition goes to the current part
-pub branch-body : (rec st : Bytes) (env : Env) (v : Value) {k : ℕ} {brs : Branches} {s : Signal} → BodyOf k brs s
+-- a definition by the state's cell goes to the current part
+pub switch-part : {A : Type 0} (f : Env → Signal → A) {st : Bytes} {env E : Env} {i k : ℕ} {x y s : Signal} → CurrentOfSwitch st env i k x y E s
+    → (if isClear st k then f env x else f (bind env i (held st k)) y) ≡ f E s
+switch-part f (first e) = rw e
+switch-part f (second e) = rw e
+
+pub group-part : {A : Type 0} (f : Env → Signal → A) (b : A) {st : Bytes} {env E : Env} {k : ℕ} {body s : Signal} {brs : Branches}
+    → ((t : Signal) → BodyOf (branchIn st k) brs t → b ≡ f (bind env (branchIn st k) (held st k)) t) → CurrentOfGroup st env k body brs E s
+    → (if isClear st k then f env body else b) ≡ f E s
+group-part f b h (in-body e) = rw e
+group-part f b h (in-branch {s = s} e c) = rw e (h s c)
+
+branch-body : (rec st : Bytes) (env : Env) (v : Value) {k : ℕ} {brs : Branches} {s : Signal} → BodyOf k brs s
     → evalB rec st env k v brs ≡ evalS rec st (bind env k v) s
 unfolding evalB
 branch-body rec st env v {k} (here {n = n} {body = s} e) = rw e (ap (λ (b : ℕ). evalS rec st (bind env b v) s) (eqb-true n k e))
 branch-body rec st env v (later e b) = rw e (branch-body rec st env v b)
 
-switch-part : (rec : Bytes) {st : Bytes} {env E : Env} {i k : ℕ} {x y s : Signal} → CurrentOfSwitch st env i k x y E s
-    → (if isClear st k then evalS rec st env x else evalS rec st (bind env i (held st k)) y) ≡ evalS rec st E s
-switch-part rec (first e) = rw e
-switch-part rec (second e) = rw e
-
-group-part : (rec : Bytes) {st : Bytes} {env E : Env} {k : ℕ} {body s : Signal} {brs : Branches} → CurrentOfGroup st env k body brs E s
-    → (if isClear st k then evalS rec st env body else evalB rec st env (branchIn st k) (held st k) brs) ≡ evalS rec st E s
-group-part rec (in-body e) = rw e
-group-part rec {st} {env} (in-branch e b) = rw e (branch-body rec st env _ b)
-
 -- a derivation gives the definition's outcome, and its size is the work
 pub soundS : {rec st : Bytes} {env : Env} {s : Signal} {v : Value} {n : ℕ} → EvaluatesS rec st env s v n → evalS rec st env s ≡ done v n
 unfolding evalS
-soundS ev-input = variable-done refl
-soundS ev-time = variable-done refl
+soundS ev-input = give-done refl
+soundS ev-time = give-done refl
 soundS (ev-ext d) = rule-done (soundE d)
-soundS ev-delay = variable-done refl
+soundS ev-delay = give-done refl
 soundS (ev-signal d b) = then-done _ (soundS d) (soundS b)
-soundS {rec} (ev-switch c d) = rule-done (switch-part rec c ∙ soundS d)
-soundS {rec} (ev-continue c d) = rule-done (group-part rec c ∙ soundS d)
+soundS {rec} {st} (ev-switch c d) = rule-done (switch-part (evalS rec st) c ∙ soundS d)
+soundS {rec} {st} {env} (ev-continue c d) = rule-done (group-part (evalS rec st) _ (λ t. branch-body rec st env _) c ∙ soundS d)
 soundS (ev-until d) = rule-done (soundS d)

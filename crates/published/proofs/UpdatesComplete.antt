@@ -2,15 +2,15 @@
 -- Assumes nothing.
 use mathlib.Core.Path.{_≡_, refl, sym, subst}
 use mathlib.Core.Bool.{Bool, true, false}
-use Prim.Native.Nat.{ℕ, _+_}
+use Prim.Native.Nat.{ℕ}
 use lib.Dec.{eqb}
 use borrow.Author.Tests.{eqb-true}
 use Rattle.rules.specs.Bytes.{Bytes, if_then_else_}
 use Rattle.rules.specs.Layout.{held, hold, holdBranch, isClear, branchIn}
-use Rattle.rules.specs.Work.{nothing, oneRule, _plus_, Updated, Next, Jump, Halted, stays, leave, afterᵘ, ruleᵘ, _with_, _thenᵘ_}
+use Rattle.rules.specs.Work.{nothing, oneRule, _plus_, Updated, Next, Jump, stays, leave, afterᵘ, ruleᵘ, _with_, _thenᵘ_}
 use Rattle.rules.specs.Tree.{Signal, input, time, ext, delay, letSignal, switch, group, until, Branches, noBranch, branch, Cases, noCase, case}
 use Rattle.rules.specs.Scope.{hasBranch}
-use Rattle.rules.specs.Evaluate.{Env, bind, opened, evalS}
+use Rattle.rules.specs.Evaluate.{Env, bind, opened}
 use Rattle.rules.specs.Reset.{resetS, resetB}
 use Rattle.rules.specs.Update.{laterᵒ, occursIf, occurs, firstPresent, onOccurrence, caught, onEvent, updS, updB, updC}
 use Rattle.rules.specs.declared.Tally.{Tally}
@@ -57,7 +57,7 @@ deriveO (case i event target t next) rec st env =
     case-derived rec st env i target t event next (deriveS event rec st env) (deriveO next rec st env)
 
 -- transitions of a part
-abbrev DerivedT : Bytes → Env → Bytes → Part → Updated → Type 0
+abbrev pub DerivedT : Bytes → Env → Bytes → Part → Updated → Type 0
 DerivedT rec env st x u = DerivedU (λ st₁ n. Transition rec env st x (becomes st₁) n) (λ aim v st₁ n. Transition rec env st x (leaves aim v st₁) n) u
 
 -- transitions of a part that is current
@@ -77,7 +77,7 @@ current-runs {E = E} {s} c d =
 data OfBranch (env : Env) (k : ℕ) (u : Value) (brs : Branches) : Env → Signal → Type 0 where
   of : {s : Signal} → BodyOf k brs s → OfBranch env k u brs (bind env k u) s
 
--- each kind of signal
+-- each kind of signal: it has a derivation where its parts have, and halts with them
 delay-derived : (rec : Bytes) (env : Env) (st : Bytes) (i k : ℕ) (v : Value) (s : Signal) {r : Evaluated} {u : Updated}
     → Derived (EvaluatesS rec st env s) r → DerivedT rec env st (sig s) u
     → DerivedT rec env st (sig (delay i k v s)) (ruleᵘ (r with λ w. u thenᵘ λ st₁. leave (hold st₁ k w)))
@@ -216,6 +216,7 @@ mutual
   deriveTC (case i event target t next) rec env st =
       events-derived rec env st i target t event next (λ st₁. updS rec env event st₁) (deriveTC next rec env st) (λ st₁. deriveT event rec env st₁)
 
+-- so of the definition's outcome and work there is a derivation
 pub completeT : {rec : Bytes} {env : Env} {st : Bytes} {s : Signal} {st₁ : Bytes} {w : Tally} → updS rec env s st ≡ Next st₁ w
     → Transition rec env st (sig s) (becomes st₁) (w .work)
 completeT {rec} {env} {st} {s} h = next-of (deriveT s rec env st) h

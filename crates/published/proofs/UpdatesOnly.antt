@@ -15,18 +15,17 @@ use Rattle.rules.specs.Tree.{Signal, delay, letSignal, switch, group, until, Br
 use Rattle.rules.specs.Scope.{hasBranch}
 use Rattle.rules.specs.Evaluate.{Env, bind, opened}
 use Rattle.rules.specs.Reset.{resetS, resetB}
-use Rattle.rules.specs.declared.Tally.{Tally}
 use Rattle.rules.specs.declared.Value.{Value}
 use Rattle.rules.specs.declared.Value.the-variants.{Plain}
-use Rattle.rules.specs.declared.Opened.the-variants.{Here, Gone}
+use Rattle.rules.specs.declared.Opened.the-variants.{Gone}
 use Rattle.rules.specs.declared.Occurrence.{Occurrence}
 use Rattle.rules.specs.declared.Occurrence.the-variants.{Took, Quiet}
-use Rattle.published.specs.Signals.{CurrentOfSwitch, CurrentOfGroup, EvaluatesS}
+use Rattle.published.specs.Signals.{CurrentOfGroup}
 use Rattle.published.specs.Updates.{NoneOccurs, none-of-none, none-of-case, FirstOccurs, occurs-here, occurs-later, Part, sig, evs, Result, becomes, leaves, Transition, tr-input, tr-time, tr-ext, tr-delay, tr-signal′, tr-switch-occ, tr-switch-noc, tr-continue, tr-continue-taken, tr-continue-left, tr-until-noc, tr-until-occ, tr-no-case, tr-case}
 use Rattle.published.proofs.Sets.{Value-set, here-prop, gone-prop, true-not-false, along, each-prop}
 use Rattle.published.proofs.ExpressionsOnly.{HeldBy, not-both-takes}
 use Rattle.published.proofs.SignalsOnly.{SwitchPart, switch-only, GroupPart, group-only, SomeS, seen-path, onlyS}
-use Rattle.published.proofs.UpdatesSound.{none-sound, first-sound, group-part, soundT}
+use Rattle.published.proofs.UpdatesSound.{none-sound, first-sound, current-part, soundT}
 
 -- the events of a list
 abbrev SomeNone : Bytes → Bytes → Env → Cases → Type 0
@@ -71,13 +70,13 @@ none-not-first p q = subst IsQuiet (sym (none-sound p) ∙ first-sound q) tt
 abbrev pub SomeT : Bytes → Env → Bytes → Part → Type 0
 SomeT rec env st x = (r : Result × ℕ) × Transition rec env st x (r .0) (r .1)
 
-abbrev Going : Bytes → Env → Bytes → Part → Type 0
+abbrev pub Going : Bytes → Env → Bytes → Part → Type 0
 Going rec env st x = (r : Bytes × ℕ) × Transition rec env st x (becomes (r .0)) (r .1)
 
 abbrev Leaving : Bytes → Env → Bytes → Part → Type 0
 Leaving rec env st x = (r : (ℕ × Value × Bytes) × ℕ) × Transition rec env st x (leaves (r .0 .0) (r .0 .1) (r .0 .2)) (r .1)
 
-abbrev going : {rec : Bytes} {env : Env} {st : Bytes} {x : Part} → Going rec env st x → (r : Result) (n : ℕ) → Transition rec env st x r n → Going rec env st x
+abbrev pub going : {rec : Bytes} {env : Env} {st : Bytes} {x : Part} → Going rec env st x → (r : Result) (n : ℕ) → Transition rec env st x r n → Going rec env st x
 going p (becomes st) n d = ((st, n), d)
 going p (leaves aim v st) n d = p
 
@@ -85,7 +84,7 @@ abbrev leaving : {rec : Bytes} {env : Env} {st : Bytes} {x : Part} → Leaving r
 leaving p (becomes st) n d = p
 leaving p (leaves aim v st) n d = (((aim, v, st), n), d)
 
-going-path : {rec : Bytes} {env : Env} {st : Bytes} {x : Part} {p q : Going rec env st x}
+pub going-path : {rec : Bytes} {env : Env} {st : Bytes} {x : Part} {p q : Going rec env st x}
     → _≡_ {A = SomeT rec env st x} ((becomes (p .0 .0), p .0 .1), p .1) ((becomes (q .0 .0), q .0 .1), q .1) → p ≡ q
 going-path {rec} {env} {st} {x} {p} h = ap (λ (t : SomeT rec env st x). going p (t .0 .0) (t .0 .1) (t .1)) h
 
@@ -166,13 +165,13 @@ aimOf Halted = 0
 stays-not-leaves : {rec st st₁ st₂ : Bytes} {env E F : Env} {k aim m n : ℕ} {body s t : Signal} {brs : Branches} {v : Value}
     → CurrentOfGroup st env k body brs E s → Transition rec E st (sig s) (becomes st₁) m
     → CurrentOfGroup st env k body brs F t → Transition rec F st (sig t) (leaves aim v st₂) n → ⊥
-stays-not-leaves {rec} c d e f = subst IsNext (sym (group-part rec c ∙ soundT d) ∙ (group-part rec e ∙ soundT f)) tt
+stays-not-leaves {rec} c d e f = subst IsNext (sym (current-part rec c ∙ soundT d) ∙ (current-part rec e ∙ soundT f)) tt
 
 taken-not-left : {rec st st₁ st₂ : Bytes} {env E F : Env} {k aim bim m n : ℕ} {body s t : Signal} {brs : Branches} {v w : Value}
     → CurrentOfGroup st env k body brs E s → Transition rec E st (sig s) (leaves aim v st₁) m → hasBranch aim brs ≡ true
     → CurrentOfGroup st env k body brs F t → Transition rec F st (sig t) (leaves bim w st₂) n → hasBranch bim brs ≡ false → ⊥
 taken-not-left {rec} {brs = brs} c d g e f h =
-    let same = ap aimOf (sym (group-part rec c ∙ soundT d) ∙ (group-part rec e ∙ soundT f)) in
+    let same = ap aimOf (sym (current-part rec c ∙ soundT d) ∙ (current-part rec e ∙ soundT f)) in
     true-not-false (sym (ap (λ (k : ℕ). hasBranch k brs) same) ∙ g) h
 
 -- two derivations are one
@@ -232,5 +231,6 @@ Result-set =
     Σ-set (retract-set resultCode (λ p. resultFrom (p .0 .0) (p .0 .1) (p .1 .0) (p .1 .1)) result-back
     (Σ-set (Σ-set ℕ-set (λ a. ℕ-set)) (λ a. Σ-set Value-set (λ v. List·isSet ℕ-set)))) (λ r. ℕ-set)
 
+-- and so are two transitions of one result and size
 pub oneT : (rec : Bytes) (env : Env) (st : Bytes) (x : Part) (r : Result) (n : ℕ) → IsProp (Transition rec env st x r n)
 oneT rec env st x r n = each-prop Result-set (λ p q. onlyT (p .1) (q .1)) (r, n)

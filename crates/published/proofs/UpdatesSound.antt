@@ -1,16 +1,16 @@
 -- A derivation of a signal's update gives the definition's outcome.
 -- Assumes nothing.
-use mathlib.Core.Path.{_≡_, refl, sym, ap, _∙_}
-use mathlib.Core.Bool.{Bool, true, false}
+use mathlib.Core.Path.{_≡_, refl, ap, _∙_}
+use mathlib.Core.Bool.{true, false}
 use Prim.Native.Nat.{ℕ, _+_}
 use native.Mathlib.Omega.{arith}
 use borrow.Author.Tests.{eqb-true}
 use Rattle.rules.specs.Bytes.{Bytes, if_then_else_}
 use Rattle.rules.specs.Layout.{held, hold, holdBranch, isClear, branchIn}
-use Rattle.rules.specs.Work.{nothing, oneRule, _plus_, Updated, Next, Jump, Halted, stays, leave, afterᵘ, ruleᵘ, _with_, _thenᵘ_}
+use Rattle.rules.specs.Work.{nothing, oneRule, _plus_, Updated, stays, leave, afterᵘ, ruleᵘ, _with_, _thenᵘ_}
 use Rattle.rules.specs.Tree.{Signal, Branches, Cases}
 use Rattle.rules.specs.Scope.{hasBranch}
-use Rattle.rules.specs.Evaluate.{Env, bind, opened, evalS}
+use Rattle.rules.specs.Evaluate.{Env, bind, opened}
 use Rattle.rules.specs.Reset.{resetS, resetB}
 use Rattle.rules.specs.Update.{laterᵒ, occursIf, occurs, firstPresent, onOccurrence, caught, onEvent, updS, updB, updC}
 use Rattle.rules.specs.declared.Value.{Value}
@@ -18,10 +18,10 @@ use Rattle.rules.specs.declared.Opened.the-variants.{Here, Gone}
 use Rattle.rules.specs.declared.Evaluated.{Evaluated}
 use Rattle.rules.specs.declared.Occurrence.{Occurrence}
 use Rattle.rules.specs.declared.Occurrence.the-variants.{Took, Quiet}
-use Rattle.published.specs.Signals.{BodyOf, here, later, CurrentOfSwitch, first, second, CurrentOfGroup, in-body, in-branch, EvaluatesS}
+use Rattle.published.specs.Signals.{BodyOf, here, later, CurrentOfGroup}
 use Rattle.published.specs.Updates.{NoneOccurs, none-of-none, none-of-case, FirstOccurs, occurs-here, occurs-later, Part, sig, evs, Result, becomes, leaves, Transition, tr-input, tr-time, tr-ext, tr-delay, tr-signal′, tr-switch-occ, tr-switch-noc, tr-continue, tr-continue-taken, tr-continue-left, tr-until-noc, tr-until-occ, tr-no-case, tr-case}
-use Rattle.published.proofs.Outcomes.{done, next, jump, nextSized}
-use Rattle.published.proofs.SignalsSound.{soundS}
+use Rattle.published.proofs.Outcomes.{counted, done, next, jump, nextSized}
+use Rattle.published.proofs.SignalsSound.{switch-part, group-part, soundS}
 
 -- the definition of a part, and the outcome of a result
 abbrev pub updatedBy : Bytes → Env → Bytes → Part → Updated
@@ -34,28 +34,28 @@ outcome (leaves aim v st) n = jump aim v st n
 
 -- the events of a list
 occurs-gone : {r : Evaluated} {o : Occurrence} {u : Value} {m n : ℕ} (target : ℕ) → r ≡ done u m → opened u ≡ Gone
-    → o ≡ Quiet (record { work = n }) → occurs r target o ≡ Quiet (record { work = m + n })
+    → o ≡ Quiet (counted n) → occurs r target o ≡ Quiet (counted (m + n))
 unfolding occurs occursIf laterᵒ _plus_
 occurs-gone target e g h = rw (e, g, h)
 
 occurs-on : {r : Evaluated} {o : Occurrence} {u v : Value} {m n aim : ℕ} (target : ℕ) → r ≡ done u m → opened u ≡ Gone
-    → o ≡ Took aim v (record { work = n }) → occurs r target o ≡ Took aim v (record { work = m + n })
+    → o ≡ Took aim v (counted n) → occurs r target o ≡ Took aim v (counted (m + n))
 unfolding occurs occursIf laterᵒ _plus_
 occurs-on target e g h = rw (e, g, h)
 
 occurs-now : {r : Evaluated} (o : Occurrence) {u v : Value} {n : ℕ} (target : ℕ) → r ≡ done u n → opened u ≡ Here v
-    → occurs r target o ≡ Took target v (record { work = n })
+    → occurs r target o ≡ Took target v (counted n)
 unfolding occurs occursIf
 occurs-now o target e g = rw (e, g)
 
 pub none-sound : {rec st : Bytes} {env : Env} {cs : Cases} {n : ℕ} → NoneOccurs rec st env cs n
-    → firstPresent rec st env cs ≡ Quiet (record { work = n })
+    → firstPresent rec st env cs ≡ Quiet (counted n)
 unfolding firstPresent nothing
 none-sound none-of-none = refl
 none-sound (none-of-case d g c) = occurs-gone _ (soundS d) g (none-sound c)
 
 pub first-sound : {rec st : Bytes} {env : Env} {cs : Cases} {aim n : ℕ} {v : Value} → FirstOccurs rec st env cs aim v n
-    → firstPresent rec st env cs ≡ Took aim v (record { work = n })
+    → firstPresent rec st env cs ≡ Took aim v (counted n)
 unfolding firstPresent
 first-sound (occurs-here d g) = occurs-now _ _ (soundS d) g
 first-sound (occurs-later d g c) = occurs-on _ (soundS d) g (first-sound c)
@@ -107,12 +107,12 @@ group-left : (k : ℕ) (body : Signal) (brs : Branches) {r : Updated} {st₁ : B
 unfolding ruleᵘ afterᵘ oneRule _plus_ caught
 group-left k body brs e h = rw (e, h)
 
-until-next : {o : Occurrence} (st : Bytes) {u : Updated} (f : Bytes → Updated) {st₁ st₂ : Bytes} {l m n : ℕ} → o ≡ Quiet (record { work = l })
+until-next : {o : Occurrence} (st : Bytes) {u : Updated} (f : Bytes → Updated) {st₁ st₂ : Bytes} {l m n : ℕ} → o ≡ Quiet (counted l)
     → u ≡ next st₁ m → f st₁ ≡ next st₂ n → ruleᵘ (onOccurrence o st (u thenᵘ λ st₁. stays (f st₁))) ≡ next st₂ (1 + (l + (m + n)))
 unfolding ruleᵘ afterᵘ oneRule _plus_ onOccurrence _thenᵘ_ stays
 until-next st f e h p = rw (e, h, p)
 
-until-leaves : {o : Occurrence} (st : Bytes) (u : Updated) {v : Value} {aim n : ℕ} → o ≡ Took aim v (record { work = n })
+until-leaves : {o : Occurrence} (st : Bytes) (u : Updated) {v : Value} {aim n : ℕ} → o ≡ Took aim v (counted n)
     → ruleᵘ (onOccurrence o st u) ≡ jump aim v st (1 + n)
 unfolding ruleᵘ afterᵘ oneRule _plus_ onOccurrence
 until-leaves st u e = rw e
@@ -122,22 +122,16 @@ case-next : {u : Updated} (f : Bytes → Updated) {st₁ st₂ : Bytes} {m n : �
 unfolding afterᵘ _plus_ _thenᵘ_ stays
 case-next f e h = rw (e, h)
 
--- the definition goes to the current part
+-- the definition goes to the current part of a group
 branch-body : (rec st : Bytes) (env : Env) (v : Value) {k : ℕ} {brs : Branches} {s : Signal} → BodyOf k brs s
     → updB rec env k v brs st ≡ updS rec (bind env k v) s st
 unfolding updB
 branch-body rec st env v {k} (here {n = n} {body = s} e) = rw e (ap (λ (b : ℕ). updS rec (bind env b v) s st) (eqb-true n k e))
 branch-body rec st env v (later e b) = rw e (branch-body rec st env v b)
 
-switch-part : (rec : Bytes) {st : Bytes} {env E : Env} {i k : ℕ} {x y s : Signal} → CurrentOfSwitch st env i k x y E s
-    → (if isClear st k then updS rec env x st else updS rec (bind env i (held st k)) y st) ≡ updS rec E s st
-switch-part rec (first e) = rw e
-switch-part rec (second e) = rw e
-
-pub group-part : (rec : Bytes) {st : Bytes} {env E : Env} {k : ℕ} {body s : Signal} {brs : Branches} → CurrentOfGroup st env k body brs E s
+pub current-part : (rec : Bytes) {st : Bytes} {env E : Env} {k : ℕ} {body s : Signal} {brs : Branches} → CurrentOfGroup st env k body brs E s
     → (if isClear st k then updS rec env body st else updB rec env (branchIn st k) (held st k) brs st) ≡ updS rec E s st
-group-part rec (in-body e) = rw e
-group-part rec {st} {env} (in-branch e b) = rw e (branch-body rec st env _ b)
+current-part rec {st} {env} c = group-part (λ E s. updS rec E s st) _ (λ t. branch-body rec st env _) c
 
 -- a derivation gives the definition's outcome, and its size is the work
 pub soundT : {rec : Bytes} {env : Env} {st : Bytes} {x : Part} {r : Result} {n : ℕ} → Transition rec env st x r n
@@ -149,11 +143,11 @@ soundT tr-ext = leave-next _
 soundT (tr-delay d u) = delay-next _ (soundS d) (soundT u)
 soundT (tr-signal′ {n = n} {r = r} d u b) = let-result r _ _ n (soundS d) (soundT u) (soundT b)
 soundT (tr-switch-occ {k = k} {x = x} {y = y} d u o) = occ-next (λ st₁ v. resetS y (resetS x (hold st₁ k v))) _ (soundS d) (soundT u) o
-soundT {rec} (tr-switch-noc {k = k} {x = x} {y = y} d u o c p) =
-    noc-next (λ st₁ v. resetS y (resetS x (hold st₁ k v))) _ (soundS d) (soundT u) o (switch-part rec c ∙ soundT p)
-soundT {rec} (tr-continue c u) = group-next _ _ _ (group-part rec c ∙ soundT u)
-soundT {rec} (tr-continue-taken c j h) = group-taken _ _ _ (group-part rec c ∙ soundT j) h
-soundT {rec} (tr-continue-left c j h) = group-left _ _ _ (group-part rec c ∙ soundT j) h
+soundT {rec} (tr-switch-noc {st₁ = st₁} {k = k} {x = x} {y = y} d u o c p) =
+    noc-next (λ st₁ v. resetS y (resetS x (hold st₁ k v))) _ (soundS d) (soundT u) o (switch-part (λ E s. updS rec E s st₁) c ∙ soundT p)
+soundT {rec} (tr-continue c u) = group-next _ _ _ (current-part rec c ∙ soundT u)
+soundT {rec} (tr-continue-taken c j h) = group-taken _ _ _ (current-part rec c ∙ soundT j) h
+soundT {rec} (tr-continue-left c j h) = group-left _ _ _ (current-part rec c ∙ soundT j) h
 soundT (tr-until-noc q c u) = until-next _ _ (none-sound q) (soundT c) (soundT u)
 soundT (tr-until-occ o) = until-leaves _ _ (first-sound o)
 soundT tr-no-case = leave-no _

@@ -1,3 +1,4 @@
 pub mod Expressions
 pub mod Signals
 pub mod Updates
+pub mod Steps

@@ -1,5 +1,5 @@
--- How a signal evaluates, as inference rules: document 000's figure 3, and figure 7's ev-rules of let continue and until. The last index is
--- the number of rules in the derivation.
+-- How a signal evaluates, as inference rules, named as in document 000's figure 3. (Figure 7, with let continue and until, is missing in our
+-- copy: ev-continue and ev-until follow section 4.2 and figure 3's way of naming.) The last index is the number of rules in the derivation.
 -- Assumes nothing: these are definitions.
 use mathlib.Core.Path.{_≡_}
 use mathlib.Core.Bool.{true, false}

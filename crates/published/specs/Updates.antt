@@ -1,4 +1,6 @@
--- How a signal updates, as inference rules: document 000's figures 4, 5 and 7. The last index is the number of rules in the derivation.
+-- How a signal updates, as inference rules. Of document 000's transition rules our copy has tr-signal' only (figure 5): figures 4 and 7 are
+-- missing, so the others follow sections 3.3, 4.1 and 4.2 and are named on the same pattern. The last index is the number of rules in the
+-- derivation.
 -- Document 000's transition E; K ⊢ s → s' replaces a term; here the term stays and the state st becomes st'. An until that occurs leaves
 -- its place for a branch, K(k), of the group around it: it hands the jump up, and the group takes it.
 -- Assumes nothing: these are definitions.
@@ -69,7 +71,7 @@ pub data Transition (rec : Bytes) : Env → Bytes → Part → Result → ℕ �
   tr-switch-noc : {env E : Env} {st st₁ st₂ : Bytes} {i k t l m n : ℕ} {x e y s : Signal} {u : Value} → EvaluatesS rec st env e u l
       → Transition rec env st (sig e) (becomes st₁) m → opened u ≡ Gone → CurrentOfSwitch st₁ env i k x y E s
       → Transition rec E st₁ (sig s) (becomes st₂) n → Transition rec env st (sig (switch i k t x e y)) (becomes st₂) (1 + (l + (m + n)))
-  --  E; {kⱼ ↦ (xⱼ, sⱼ)} ⊢ s → s'
+  --  E; K, {kⱼ ↦ (xⱼ, sⱼ)} ⊢ s → s'
   -- ────────────────────────────────────────────────────────────────────────────  s the current part
   --  E; K ⊢ let continue {kⱼ xⱼ = sⱼ} in s → let continue {kⱼ xⱼ = sⱼ} in s'
   -- Three rules, since the jump is handed up: no until of s leaves it; one leaves for a branch of this group, which takes that branch and

@@ -1,0 +1,28 @@
+// Standard input and output in large pieces, by buffers that the program lends. No function has a `requires` that depends on what is read.
+mod input;
+mod output;
+
+pub use input::fill;
+pub use input::first;
+pub use input::header;
+pub use output::append;
+pub use output::flush;
+pub use output::rested;
+
+// What is unread of the piece of input in the buffer: its bytes from `at` up to `end`.
+pub struct Place {
+    pub at: usize,
+    pub end: usize,
+}
+
+// A line that was read: its length, and what is unread after it.
+pub struct Line {
+    pub place: Place,
+    pub length: usize,
+}
+
+// A room that was filled, whole unless the input ended, and what is unread after it.
+pub struct Filled {
+    pub place: Place,
+    pub whole: bool,
+}

@@ -1,0 +1,67 @@
+-- The lines of the answers, and the header lines of the requests. Assumes nothing.
+use Prim.Native.Nat.{ℕ}
+use mathlib.Core.List.{List, [], _∷_, _++_}
+use Rattle.rules.specs.declared.Refusal.{Refusal}
+use Rattle.rules.specs.declared.Checked.{Checked}
+use Rattle.rules.specs.declared.Checked.the-variants.{Accepted, Refused}
+use Rattle.rules.specs.Answers.{codeOf, placeOf}
+use Rattle.wire.specs.declared.Request.{Request}
+use Rattle.wire.specs.declared.Request.the-variants.{Check, Start, Step, Run, Broken}
+use Rattle.wire.specs.Text.{field}
+
+-- "OK "
+abbrev pub ok : List ℕ
+ok = 79 ∷ 75 ∷ 32 ∷ []
+
+-- "REFUSED "
+abbrev pub refused : List ℕ
+refused = 82 ∷ 69 ∷ 70 ∷ 85 ∷ 83 ∷ 69 ∷ 68 ∷ 32 ∷ []
+
+-- REFUSED code place work
+unfoldable pub refusedLine : Refusal → ℕ → List ℕ
+refusedLine r work = refused ++ field (codeOf r) 32 ++ field (placeOf r) 32 ++ field work 10
+
+-- OK nodes cells bound type
+unfoldable pub acceptedLine : ℕ → ℕ → ℕ → ℕ → List ℕ
+acceptedLine n cells bound ty = ok ++ field n 32 ++ field cells 32 ++ field bound 32 ++ field ty 10
+
+-- the answer of check: accepted, or the refusal with no work
+unfoldable pub checkedLine : Checked → List ℕ
+checkedLine (Accepted n cells bound ty) = acceptedLine n cells bound ty
+checkedLine (Refused r) = refusedLine r 0
+
+-- "check "
+abbrev pub check : List ℕ
+check = 99 ∷ 104 ∷ 101 ∷ 99 ∷ 107 ∷ 32 ∷ []
+
+-- "start "
+abbrev pub start : List ℕ
+start = 115 ∷ 116 ∷ 97 ∷ 114 ∷ 116 ∷ 32 ∷ []
+
+-- "step "
+abbrev pub step : List ℕ
+step = 115 ∷ 116 ∷ 101 ∷ 112 ∷ 32 ∷ []
+
+-- "run "
+abbrev pub run : List ℕ
+run = 114 ∷ 117 ∷ 110 ∷ 32 ∷ []
+
+unfoldable pub checkLine : ℕ → List ℕ
+checkLine p = check ++ field p 10
+
+unfoldable pub startLine : ℕ → ℕ → List ℕ
+startLine p s = start ++ field p 32 ++ field s 10
+
+unfoldable pub stepLine : ℕ → ℕ → ℕ → ℕ → List ℕ
+stepLine p s r o = step ++ field p 32 ++ field s 32 ++ field r 32 ++ field o 10
+
+unfoldable pub runLine : ℕ → ℕ → ℕ → ℕ → List ℕ
+runLine p s r o = run ++ field p 32 ++ field s 32 ++ field r 32 ++ field o 10
+
+-- the header line of a request
+unfoldable pub headerLine : Request → List ℕ
+headerLine (Check p) = checkLine p
+headerLine (Start p s) = startLine p s
+headerLine (Step p s r o) = stepLine p s r o
+headerLine (Run p s r o) = runLine p s r o
+headerLine Broken = []

@@ -1,0 +1,45 @@
+// The lines of the answers.
+ghost use mathlib.Core.Path.{_≡_};
+ghost use lib.ListN.{take};
+ghost use Rattle.io.specs.Counts.{Counts};
+ghost use Rattle.wire.specs.Lines.{acceptedLine, checkedLine, refusedLine};
+use crate::text::put;
+use crate::text::put_field;
+use rules::Checked;
+use rules::Refusal;
+
+// Puts `REFUSED code place work` at the start of line, and answers its length.
+pub(crate) fn refused_line(r: Refusal, work: u32, line: &mut [u8; 64]) -> usize
+    ensures { λ n. ⌜ Counts n (now (line .exit)) ⌝ }
+    ensures { λ n. ⌜ take n (now (line .exit)) ≡ refusedLine r work ⌝ }
+{
+    let code = rules::code_of(r) as u32;
+    let place = rules::place_of(r);
+    let a = put(b"REFUSED ", line, 0);
+    let b = put_field(code, b' ', line, a);
+    let c = put_field(place, b' ', line, b);
+    put_field(work, b'\n', line, c)
+}
+
+// Puts the answer of a check, `OK nodes cells bound type`, at the start of line, and answers its length.
+fn accepted_line(n: u32, cells: u32, bound: u32, ty: u8, line: &mut [u8; 64]) -> usize
+    ensures { λ r. ⌜ Counts r (now (line .exit)) ⌝ }
+    ensures { λ r. ⌜ take r (now (line .exit)) ≡ acceptedLine n cells bound ty ⌝ }
+{
+    let a = put(b"OK ", line, 0);
+    let b = put_field(n, b' ', line, a);
+    let c = put_field(cells, b' ', line, b);
+    let d = put_field(bound, b' ', line, c);
+    put_field(ty as u32, b'\n', line, d)
+}
+
+// Puts the answer of a check at the start of line, and answers its length.
+pub fn checked_line(answer: Checked, line: &mut [u8; 64]) -> usize
+    ensures { λ r. ⌜ Counts r (now (line .exit)) ⌝ }
+    ensures { λ r. ⌜ take r (now (line .exit)) ≡ checkedLine answer ⌝ }
+{
+    match answer {
+        Checked::Accepted(n, cells, bound, ty) => accepted_line(n, cells, bound, ty, line),
+        Checked::Refused(r) => refused_line(r, 0, line),
+    }
+}

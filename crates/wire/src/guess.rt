@@ -1,0 +1,95 @@
+// What request a line may be the header of. `header` writes the guess out again and compares, so nothing is owed here but safety.
+ghost use Prim.Native.Nat.{_≤_};
+use crate::Request;
+
+// A number that was read, and the index after the byte that ended it.
+struct Found {
+    value: u32,
+    next: usize,
+}
+
+// The value of a digit; 10 for any other byte.
+fn digit_of(b: u8) -> u32
+    ensures { λ r. ⌜ r ≤ 10 ⌝ }
+{
+    if b < 48 {
+        return 10;
+    }
+    if b > 57 {
+        return 10;
+    }
+    (b - 48) as u32
+}
+
+// The number whose digits begin at index `at`, up to nine of them.
+fn number(line: &[u8], at: usize) -> Found {
+    let mut value: u32 = 0;
+    let mut i = at;
+    while i < line.len() {
+        let d = digit_of(line[i]);
+        if d > 9 {
+            return Found {
+                value: value,
+                next: i + 1,
+            };
+        }
+        if value > 99999999 {
+            return Found {
+                value: value,
+                next: i + 1,
+            };
+        }
+        value = value * 10 + d;
+        i += 1;
+    }
+    Found {
+        value: value,
+        next: i,
+    }
+}
+
+// The byte at index i, or 0 past the end.
+fn byte_at(line: &[u8], i: usize) -> u8 {
+    if i < line.len() {
+        return line[i];
+    }
+    0
+}
+
+fn guess_start(line: &[u8]) -> Request {
+    let p = number(line, 6);
+    let s = number(line, p.next);
+    Request::Start(p.value, s.value)
+}
+
+fn guess_step(line: &[u8]) -> Request {
+    let p = number(line, 5);
+    let s = number(line, p.next);
+    let r = number(line, s.next);
+    let o = number(line, r.next);
+    Request::Step(p.value, s.value, r.value, o.value)
+}
+
+fn guess_run(line: &[u8]) -> Request {
+    let p = number(line, 4);
+    let s = number(line, p.next);
+    let r = number(line, s.next);
+    let o = number(line, r.next);
+    Request::Run(p.value, s.value, r.value, o.value)
+}
+
+// The call goes by the first byte, and start and step by the third.
+pub(crate) fn guess(line: &[u8]) -> Request {
+    let first = byte_at(line, 0);
+    if first == b'c' {
+        let p = number(line, 6);
+        return Request::Check(p.value);
+    }
+    if first == b'r' {
+        return guess_run(line);
+    }
+    if byte_at(line, 2) == b'a' {
+        return guess_start(line);
+    }
+    guess_step(line)
+}

@@ -1,0 +1,76 @@
+// The header line of a request.
+ghost use mathlib.Core.Path.{_≡_};
+ghost use lib.ListN.{take};
+ghost use Rattle.io.specs.Counts.{Counts};
+ghost use Rattle.wire.specs.declared.Request.the-variants.{Broken};
+ghost use Rattle.wire.specs.Lines.{headerLine, checkLine, startLine, stepLine, runLine};
+use crate::Request;
+use crate::guess::guess;
+use crate::text::put;
+use crate::text::put_field;
+
+fn check_header(p: u32, line: &mut [u8; 64]) -> usize
+    ensures { λ n. ⌜ Counts n (now (line .exit)) ⌝ }
+    ensures { λ n. ⌜ take n (now (line .exit)) ≡ checkLine p ⌝ }
+{
+    let a = put(b"check ", line, 0);
+    put_field(p, b'\n', line, a)
+}
+
+fn start_header(p: u32, s: u32, line: &mut [u8; 64]) -> usize
+    ensures { λ n. ⌜ Counts n (now (line .exit)) ⌝ }
+    ensures { λ n. ⌜ take n (now (line .exit)) ≡ startLine p s ⌝ }
+{
+    let a = put(b"start ", line, 0);
+    let b = put_field(p, b' ', line, a);
+    put_field(s, b'\n', line, b)
+}
+
+fn step_header(p: u32, s: u32, r: u32, o: u32, line: &mut [u8; 64]) -> usize
+    ensures { λ n. ⌜ Counts n (now (line .exit)) ⌝ }
+    ensures { λ n. ⌜ take n (now (line .exit)) ≡ stepLine p s r o ⌝ }
+{
+    let a = put(b"step ", line, 0);
+    let b = put_field(p, b' ', line, a);
+    let c = put_field(s, b' ', line, b);
+    let d = put_field(r, b' ', line, c);
+    put_field(o, b'\n', line, d)
+}
+
+fn run_header(p: u32, s: u32, r: u32, o: u32, line: &mut [u8; 64]) -> usize
+    ensures { λ n. ⌜ Counts n (now (line .exit)) ⌝ }
+    ensures { λ n. ⌜ take n (now (line .exit)) ≡ runLine p s r o ⌝ }
+{
+    let a = put(b"run ", line, 0);
+    let b = put_field(p, b' ', line, a);
+    let c = put_field(s, b' ', line, b);
+    let d = put_field(r, b' ', line, c);
+    put_field(o, b'\n', line, d)
+}
+
+// Puts a request's header line at the start of line, and answers its length.
+pub fn header(request: Request, line: &mut [u8; 64]) -> usize
+    ensures { λ n. ⌜ Counts n (now (line .exit)) ⌝ }
+    ensures { λ n. ⌜ take n (now (line .exit)) ≡ headerLine request ⌝ }
+{
+    match request {
+        Request::Check(p) => check_header(p, line),
+        Request::Start(p, s) => start_header(p, s, line),
+        Request::Step(p, s, r, o) => step_header(p, s, r, o, line),
+        Request::Run(p, s, r, o) => run_header(p, s, r, o, line),
+        Request::Broken => 0,
+    }
+}
+
+// The request whose header line `line` is, byte for byte; or broken.
+pub fn request_of(line: &[u8]) -> Request
+    ensures { λ r. ⌜ ((r ≡ Broken → ⊥) → now (line .entry) ≡ headerLine r) ⌝ }
+{
+    let likely = guess(line);
+    let mut text = [0u8; 64];
+    let n = header(likely, &mut text);
+    if check::same(line, &text[..n]) {
+        return likely;
+    }
+    Request::Broken
+}

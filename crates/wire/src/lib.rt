@@ -1,0 +1,17 @@
+// The requests and the answers of the programs as bytes: header lines, answer lines, numbers in decimal.
+mod answer;
+mod guess;
+mod header;
+mod text;
+
+pub use answer::checked_line;
+pub use header::request_of;
+
+// A request by its header line: the call and the lengths of its lent memory.
+pub enum Request {
+    Check(u32),
+    Start(u32, u32),
+    Step(u32, u32, u32, u32),
+    Run(u32, u32, u32, u32),
+    Broken,
+}

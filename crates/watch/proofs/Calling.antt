@@ -1,9 +1,14 @@
 -- What an accepted program gives the calls, and the calls by what was found.
 -- Assumes nothing.
 use mathlib.Core.Path.{_≡_, refl, sym, ap, _∙_}
-use Prim.Native.Nat.{ℕ, _-_, _<_, _≤_}
+use mathlib.Core.Bool.{Bool, true, not}
+use Prim.Native.Nat.{ℕ, _-_, _*_, _/_, _%_, _<_, _≤_}
+use native.Mathlib.Omega.{arith}
+use lib.Dec.{eqb}
+use lib.ListN.{length}
+use borrow.Author.Tests.{eq-eqb, ne-eqb, eqb-true, leb-true}
 use Rattle.rules.specs.Bytes.{Bytes}
-use Rattle.rules.specs.Layout.{nodes, cells, cellsBefore}
+use Rattle.rules.specs.Layout.{nodes, cells, cellsBefore, cellAt, stateLength, inputLength}
 use Rattle.rules.specs.Kinds.{isSignal}
 use Rattle.rules.specs.Shaped.{Shaped, NodeOf}
 use Rattle.rules.specs.Size.{sizeS}
@@ -11,12 +16,30 @@ use Rattle.rules.specs.Tree.{root}
 use Rattle.rules.specs.Typing.{typeS}
 use Rattle.rules.specs.Bound.{bound}
 use Rattle.rules.specs.Accepted.{Accepted}
-use Rattle.rules.specs.Calls.{programVerdict, checkAnswer, checkCall}
+use Rattle.rules.specs.Calls.{_otherwise_, refuseIf, programVerdict, checkAnswer, checkCall, startOutcome, startCall, lentVerdict, runFrom, runOutcome, runCall, stepVerdict, stepOutcome, stepCall}
+use Rattle.rules.specs.Reset.{startState}
+use Rattle.rules.specs.WellFormed.{wellFormed}
+use Rattle.rules.specs.Update.{Stepped, stepOf}
 use Rattle.rules.specs.declared.Refusal.{Refusal}
+use Rattle.rules.specs.declared.Refusal.the-variants.{StateFault}
+use Rattle.rules.specs.declared.Verdict.{Verdict}
 use Rattle.rules.specs.declared.Verdict.the-variants.{Fine, Refuse}
 use Rattle.rules.specs.declared.Checked.{Checked}
+use Rattle.rules.specs.declared.Started.{Started}
+use Rattle.rules.specs.declared.Started.the-variants.{Ready}
+use Rattle.rules.specs.declared.Ran.{Ran}
+use Rattle.rules.proofs.Static.{and-both}
+use Rattle.rules.proofs.Kids.{not-not}
+use Rattle.rules.proofs.Verdicts.{both-fine, if-fine}
+use Rattle.steps.specs.Going.{Leaves}
+use Rattle.watch.specs.Lent.{lentRest, runFits}
 use Rattle.rules.proofs.Rooted.{some-node, root-of, shaped-of}
 use Rattle.rules.proofs.Once.{tree-small}
+
+-- no fault first
+pub fine-first : (v : Verdict) → (Fine otherwise v) ≡ v
+unfolding _otherwise_
+fine-first v = refl
 
 -- the facts of an accepted program of so many nodes
 pub record Counted (p : Bytes) (count : ℕ) : Type 0 where
@@ -42,6 +65,11 @@ pub all-cells : (p : Bytes) (count : ℕ) → count ≡ nodes p → cellsBefore 
 unfolding cells
 all-cells p count e = ap (cellsBefore p) e
 
+-- a state of the right length, by its cells
+pub right-length : (p : Bytes) (count held size : ℕ) → count ≡ nodes p → held ≡ cellsBefore p count → size ≡ cellAt held → size ≡ stateLength p
+unfolding stateLength
+right-length p count held size e f g = g ∙ ap cellAt (f ∙ all-cells p count e)
+
 -- check, by the verdict
 pub check-refused : (p : Bytes) (r : Refusal) → programVerdict p ≡ Refuse r → checkCall p ≡ Checked.Refused r
 unfolding checkCall checkAnswer
@@ -50,3 +78,93 @@ check-refused p r e = rw e
 pub check-accepted : (p : Bytes) → programVerdict p ≡ Fine → checkCall p ≡ Checked.Accepted (nodes p) (cells p) (bound p) (typeS (root p))
 unfolding checkCall checkAnswer
 check-accepted p e = rw e
+
+-- start, by the verdict and by the room's length
+pub start-refused : (p st : Bytes) (r : Refusal) → programVerdict p ≡ Refuse r → startCall p st ≡ record { answer = Started.Refused r; state = st }
+unfolding startCall startOutcome _otherwise_
+start-refused p st r e = rw e
+
+pub start-accepted : (p st : Bytes) → programVerdict p ≡ Fine
+    → startCall p st ≡ startOutcome p st (refuseIf (not (eqb (length st) (stateLength p))) StateFault)
+unfolding startCall _otherwise_
+start-accepted p st e = rw e
+
+pub start-short : (p st : Bytes) → (length st ≡ stateLength p → ⊥)
+    → startOutcome p st (refuseIf (not (eqb (length st) (stateLength p))) StateFault) ≡ record { answer = Started.Refused StateFault; state = st }
+unfolding refuseIf startOutcome
+start-short p st d = rw (ne-eqb _ _ d)
+
+pub start-made : (p st : Bytes) → length st ≡ stateLength p
+    → startOutcome p st (refuseIf (not (eqb (length st) (stateLength p))) StateFault) ≡ record { answer = Ready; state = startState p }
+unfolding refuseIf startOutcome
+start-made p st e = rw (eq-eqb _ _ e)
+
+-- run and step, by the verdict
+pub run-refused : (p st recs out : Bytes) (r : Refusal) → programVerdict p ≡ Refuse r
+    → runCall p st recs out ≡ record { answer = Ran.Refused r 0; state = st; output = out }
+unfolding runCall runOutcome lentVerdict _otherwise_
+run-refused p st recs out r e = rw e
+
+pub run-accepted : (p st recs out : Bytes) → programVerdict p ≡ Fine
+    → runCall p st recs out ≡ runOutcome p st recs out (lentRest p st recs out (runFits recs))
+unfolding runCall lentVerdict lentRest runFits
+run-accepted p st recs out e = rw (e, fine-first)
+
+pub step-refused : (p st rec out : Bytes) (r : Refusal) → programVerdict p ≡ Refuse r
+    → stepCall p st rec out ≡ record { answer = Ran.Refused r 0; state = st; output = out }
+unfolding stepCall stepOutcome lentVerdict _otherwise_
+step-refused p st rec out r e = rw e
+
+pub step-accepted : (p st rec out : Bytes) → programVerdict p ≡ Fine
+    → stepCall p st rec out ≡ stepOutcome st out (lentRest p st rec out (eqb (length rec) inputLength) otherwise stepVerdict st rec) (stepOf p rec st)
+unfolding stepCall lentVerdict lentRest
+step-accepted p st rec out e = rw (e, fine-first)
+
+-- codes 9-11 found nothing
+pub record Fits (p st recs out : Bytes) (fit : Bool) : Type 0 where
+  pub well : wellFormed p st ≡ true
+  pub fitting : fit ≡ true
+  pub room : length out ≡ 8 * (length recs / 40)
+
+pub lent-fine : (p st recs out : Bytes) (fit : Bool) → lentRest p st recs out fit ≡ Fine → Fits p st recs out fit
+unfolding lentRest
+lent-fine p st recs out fit e =
+    let a = both-fine _ _ e in
+    let b = both-fine _ _ (a .1) in
+    record {
+      well = not-not _ (if-fine _ _ (a .0));
+      fitting = not-not _ (if-fine _ _ (b .0));
+      room = eqb-true _ _ (not-not _ (if-fine _ _ (b .1)));
+    }
+
+pub fits-most : (recs : Bytes) → runFits recs ≡ true → length recs ≤ 163840
+unfolding runFits
+fits-most recs e =
+    let a = and-both _ _ e in
+    let b : length recs % 40 ≡ 0 = eqb-true _ _ (a .0) in
+    let d : length recs / 40 ≤ 4096 = leb-true _ _ (a .1) in
+    omega arith
+
+-- what run and step leave where one of them found something
+pub run-lent : (p st recs out : Bytes) (v : Verdict) {r : Refusal} → v ≡ Refuse r → Leaves (runOutcome p st recs out v) (Ran.Refused r 0) st out
+unfolding runOutcome
+run-lent p st recs out v e = rw e (record { answer-is = refl; state-is = refl; output-is = refl })
+
+pub run-fits : (p st recs out : Bytes) (v : Verdict) → v ≡ Fine → runOutcome p st recs out v ≡ runFrom p recs (length recs / 40) 0 0 st out
+unfolding runOutcome
+run-fits p st recs out v e = rw e
+
+pub step-lent : (st out : Bytes) (v w : Verdict) (s : Stepped) {r : Refusal} → v ≡ Refuse r → Leaves (stepOutcome st out (v otherwise w) s) (Ran.Refused r 0) st out
+unfolding stepOutcome _otherwise_
+step-lent st out v w s e = rw e (record { answer-is = refl; state-is = refl; output-is = refl })
+
+pub step-fits : (v w : Verdict) → v ≡ Fine → (v otherwise w) ≡ w
+unfolding _otherwise_
+step-fits v w e = rw e
+
+-- the record and the output room of a step
+pub one-record : (p st rec out : Bytes) → Fits p st rec out (eqb (length rec) 40) → (40 ≤ length rec) × (8 ≤ length out)
+one-record p st rec out f =
+    let l : length rec ≡ 40 = eqb-true _ _ (f .fitting) in
+    let o : length out ≡ 8 * (length rec / 40) = f .room in
+    (omega arith, omega arith)

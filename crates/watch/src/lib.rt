@@ -1,20 +1,36 @@
 // The four public calls. Each answers for every byte string that it is handed: none has a requires.
 ghost use mathlib.Core.Path.{_≡_};
-ghost use mathlib.Core.Bool.{Bool};
-ghost use Prim.Native.Nat.{_≤_, _<_, _/_};
+ghost use mathlib.Core.Bool.{Bool, not};
+ghost use Prim.Native.Nat.{_-_};
+ghost use lib.Dec.{eqb};
 ghost use lib.ListN.{length};
-ghost use Rattle.rules.specs.Layout.{nodes, cells};
-ghost use Rattle.rules.specs.Bound.{bound};
+ghost use Rattle.rules.specs.Layout.{nodes, cells as cellsOf, stateLength, inputLength};
+ghost use Rattle.rules.specs.Bound.{bound as boundOf};
+ghost use Rattle.rules.specs.Kinds.{isSignal};
+ghost use Rattle.rules.specs.Shaped.{NodeOf};
 ghost use Rattle.rules.specs.Tree.{root};
 ghost use Rattle.rules.specs.Typing.{typeS};
 ghost use Rattle.rules.specs.Accepted.{Accepted};
-ghost use Rattle.rules.specs.Calls.{checkCall, startCall, stepCall, runCall};
+ghost use Rattle.rules.specs.Update.{stepOf};
+ghost use Rattle.rules.specs.Calls.{checkCall, startCall, stepCall, runCall, startOutcome, stepOutcome, runOutcome, stepVerdict, refuseIf, _otherwise_};
+ghost use Rattle.cells.specs.Indexed.{Indexed};
+ghost use Rattle.steps.specs.Going.{Leaves};
+ghost use Rattle.watch.specs.Lent.{lentRest, runFits};
+use answers::otherwise;
+use answers::refuse_if;
 use bound::bound_of;
+use cells::cell_at;
 use cells::index_cells;
 use rules::Checked;
+use rules::Ran;
 use rules::Refusal;
+use rules::Started;
 use rules::Verdict;
+use state::fill_start;
+use steps::run_records;
+use steps::step_record;
 use verdict::judge;
+use well::well_formed;
 
 // Accepted: nodes, cells, bound, root type.
 fn accepted(count: u32, held: u32, most: u32, ty: u8) -> Checked
@@ -33,7 +49,7 @@ fn refused(fault: Refusal) -> Checked
 // The answer for a program that has no fault.
 fn accept(p: &[u8], count: usize, ty: u8) -> Checked
     requires { ⌜ Accepted (now p) × (count ≡ nodes (now p)) × (ty ≡ typeS (root (now p))) ⌝ }
-    ensures { λ r. ⌜ r ≡ Checked.Accepted (nodes (now (p .entry))) (cells (now (p .entry))) (bound (now (p .entry))) (typeS (root (now (p .entry)))) ⌝ }
+    ensures { λ r. ⌜ r ≡ Checked.Accepted (nodes (now (p .entry))) (cellsOf (now (p .entry))) (boundOf (now (p .entry))) (typeS (root (now (p .entry)))) ⌝ }
 {
     let mut index: [u16; 1008] = [0; 1008];
     let held = index_cells(p, &mut index, count);
@@ -50,5 +66,124 @@ pub fn check(program: &[u8]) -> Checked
     match fault {
         Verdict::Refuse(r) => refused(r),
         Verdict::Fine => accept(program, found.count, found.ty),
+    }
+}
+
+// The start state of an accepted program, if the room for it is of the right length.
+fn start_accepted(p: &[u8], st: &mut [u8], count: usize) -> Started
+    requires { ⌜ Accepted (now p) × (count ≡ nodes (now p)) ⌝ }
+    ensures { λ r. ⌜ (r ≡ startOutcome (now (p .entry)) (now (st .entry)) (refuseIf (not (eqb (length (now (st .entry))) (stateLength (now (p .entry))))) Refusal.StateFault) .answer) × (now (st .exit) ≡ startOutcome (now (p .entry)) (now (st .entry)) (refuseIf (not (eqb (length (now (st .entry))) (stateLength (now (p .entry))))) Refusal.StateFault) .state) ⌝ }
+{
+    let mut index: [u16; 1008] = [0; 1008];
+    let held = index_cells(p, &mut index, count);
+    if st.len() != cell_at(held) {
+        return Started::Refused(Refusal::StateFault);
+    }
+    fill_start(p, &index, st, count);
+    Started::Ready
+}
+
+// Start a state: the room becomes the start state, or is as before where the call refuses.
+pub fn start(program: &[u8], state: &mut [u8]) -> Started
+    ensures { λ r. ⌜ (r ≡ startCall (now (program .entry)) (now (state .entry)) .answer) × (now (state .exit) ≡ startCall (now (program .entry)) (now (state .entry)) .state) ⌝ }
+{
+    let found = judge(program);
+    let fault = found.verdict;
+    match fault {
+        Verdict::Refuse(r) => Started::Refused(r),
+        Verdict::Fine => start_accepted(program, state, found.count),
+    }
+}
+
+// Codes 9-11.
+fn lent_verdict(
+    p: &[u8],
+    index: &[u16],
+    st: &[u8],
+    recs: &[u8],
+    out: &[u8],
+    count: usize,
+    held: usize,
+    fit: bool,
+) -> Verdict
+    requires { ⌜ NodeOf isSignal (now p) (nodes (now p) - 1) × Indexed (now p) (now index) × (count ≡ nodes (now p)) × (held ≡ cellsOf (now p)) ⌝ }
+    ensures { λ r. ⌜ r ≡ lentRest (now (p .entry)) (now (st .entry)) (now (recs .entry)) (now (out .entry)) fit ⌝ }
+{
+    let well = well_formed(p, index, st, count, held);
+    let state = refuse_if(!well, Refusal::StateFault);
+    let records = refuse_if(!fit, Refusal::RecordsLength);
+    let output = refuse_if(out.len() != 8 * (recs.len() / 40), Refusal::OutputLength);
+    otherwise(state, otherwise(records, output))
+}
+
+// A run has 0 to 4,096 records of 40 bytes.
+fn run_fits(recs: &[u8]) -> bool
+    ensures { λ r. ⌜ r ≡ runFits (now (recs .entry)) ⌝ }
+{
+    if recs.len() % 40 == 0 {
+        recs.len() / 40 <= 4096
+    } else {
+        false
+    }
+}
+
+// A run of an accepted program.
+fn run_accepted(p: &[u8], st: &mut [u8], recs: &[u8], out: &mut [u8], count: usize) -> Ran
+    requires { ⌜ Accepted (now p) × (count ≡ nodes (now p)) ⌝ }
+    ensures { λ r. ⌜ Leaves (runOutcome (now (p .entry)) (now (st .entry)) (now (recs .entry)) (now (out .entry)) (lentRest (now (p .entry)) (now (st .entry)) (now (recs .entry)) (now (out .entry)) (runFits (now (recs .entry))))) r (now (st .exit)) (now (out .exit)) ⌝ }
+{
+    let mut index: [u16; 1008] = [0; 1008];
+    let held = index_cells(p, &mut index, count);
+    let fit = run_fits(recs);
+    let fault = lent_verdict(p, &index, st, recs, out, count, held, fit);
+    match fault {
+        Verdict::Refuse(r) => Ran::Refused(r, 0),
+        Verdict::Fine => {
+            let mut env: [u64; 1008] = [0; 1008];
+            let most = bound_of(p, count);
+            run_records(p, &index, recs, st, &mut env, out, count, most)
+        }
+    }
+}
+
+// Run a list of records: each step's value goes to its 8 bytes of the output room and the state goes on, until a record is refused.
+pub fn run(program: &[u8], state: &mut [u8], records: &[u8], output: &mut [u8]) -> Ran
+    ensures { λ r. ⌜ (r ≡ runCall (now (program .entry)) (now (state .entry)) (now (records .entry)) (now (output .entry)) .answer) × (now (state .exit) ≡ runCall (now (program .entry)) (now (state .entry)) (now (records .entry)) (now (output .entry)) .state) × (now (output .exit) ≡ runCall (now (program .entry)) (now (state .entry)) (now (records .entry)) (now (output .entry)) .output) ⌝ }
+{
+    let found = judge(program);
+    let fault = found.verdict;
+    match fault {
+        Verdict::Refuse(r) => Ran::Refused(r, 0),
+        Verdict::Fine => run_accepted(program, state, records, output, found.count),
+    }
+}
+
+// A step of an accepted program.
+fn step_accepted(p: &[u8], st: &mut [u8], rec: &[u8], out: &mut [u8], count: usize) -> Ran
+    requires { ⌜ Accepted (now p) × (count ≡ nodes (now p)) ⌝ }
+    ensures { λ r. ⌜ Leaves (stepOutcome (now (st .entry)) (now (out .entry)) (lentRest (now (p .entry)) (now (st .entry)) (now (rec .entry)) (now (out .entry)) (eqb (length (now (rec .entry))) inputLength) otherwise stepVerdict (now (st .entry)) (now (rec .entry))) (stepOf (now (p .entry)) (now (rec .entry)) (now (st .entry)))) r (now (st .exit)) (now (out .exit)) ⌝ }
+{
+    let mut index: [u16; 1008] = [0; 1008];
+    let held = index_cells(p, &mut index, count);
+    let fit = rec.len() == 40;
+    let fault = lent_verdict(p, &index, st, rec, out, count, held, fit);
+    match fault {
+        Verdict::Refuse(r) => Ran::Refused(r, 0),
+        Verdict::Fine => {
+            let mut env: [u64; 1008] = [0; 1008];
+            step_record(p, &index, rec, st, &mut env, out, count)
+        }
+    }
+}
+
+// Make one step.
+pub fn step(program: &[u8], state: &mut [u8], input: &[u8], output: &mut [u8]) -> Ran
+    ensures { λ r. ⌜ (r ≡ stepCall (now (program .entry)) (now (state .entry)) (now (input .entry)) (now (output .entry)) .answer) × (now (state .exit) ≡ stepCall (now (program .entry)) (now (state .entry)) (now (input .entry)) (now (output .entry)) .state) × (now (output .exit) ≡ stepCall (now (program .entry)) (now (state .entry)) (now (input .entry)) (now (output .entry)) .output) ⌝ }
+{
+    let found = judge(program);
+    let fault = found.verdict;
+    match fault {
+        Verdict::Refuse(r) => Ran::Refused(r, 0),
+        Verdict::Fine => step_accepted(program, state, input, output, found.count),
     }
 }

@@ -35,6 +35,10 @@ stored {a} {b} {t} {before} {mid} x p h = record {
   holds = ap (λ (k : ℕ). take k (set mid b x)) (add-one b) ∙ take-suc-set mid b x h ∙ ap (λ (l : List ℕ). l ++ (x ∷ [])) (p .holds) ∙ append-assoc (take a before) t (x ∷ []);
 }
 
+-- a count within a list, as `&line[..n]` asks it
+pub counts : (n : ℕ) (l : List ℕ) → n ≤ length l → Counts n l
+counts n l h = (h, sym (length-take-le n l h))
+
 -- what is put from the start is the line
 pub line-is : {t before after : List ℕ} {r : ℕ} → Put 0 t before after r → r ≤ length after → Counts r after × (take r after ≡ t)
-line-is {t} {before} {after} {r} p h = ((h, sym (length-take-le r after h)), p .holds)
+line-is {t} {before} {after} {r} p h = (counts r after h, p .holds)

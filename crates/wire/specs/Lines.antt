@@ -4,6 +4,10 @@ use mathlib.Core.List.{List, [], _∷_, _++_}
 use Rattle.rules.specs.declared.Refusal.{Refusal}
 use Rattle.rules.specs.declared.Checked.{Checked}
 use Rattle.rules.specs.declared.Checked.the-variants.{Accepted, Refused}
+use Rattle.rules.specs.declared.Started.{Started}
+use Rattle.rules.specs.declared.Started.the-variants.{Ready}
+use Rattle.rules.specs.declared.Ran.{Ran}
+use Rattle.rules.specs.declared.Ran.the-variants.{Finished}
 use Rattle.rules.specs.Answers.{codeOf, placeOf}
 use Rattle.wire.specs.declared.Request.{Request}
 use Rattle.wire.specs.declared.Request.the-variants.{Check, Start, Step, Run, Broken}
@@ -29,6 +33,20 @@ acceptedLine n cells bound ty = ok ++ field n 32 ++ field cells 32 ++ field boun
 unfoldable pub checkedLine : Checked → List ℕ
 checkedLine (Accepted n cells bound ty) = acceptedLine n cells bound ty
 checkedLine (Refused r) = refusedLine r 0
+
+-- the answer of start: OK and no number, or the refusal with no work
+unfoldable pub startedLine : Started → List ℕ
+startedLine Ready = 79 ∷ 75 ∷ 10 ∷ []
+startedLine (Started.Refused r) = refusedLine r 0
+
+-- OK steps work
+unfoldable pub finishedLine : ℕ → ℕ → List ℕ
+finishedLine steps work = ok ++ field steps 32 ++ field work 10
+
+-- the answer of step and run: OK steps work, or the refusal with the work of the steps done
+unfoldable pub ranLine : Ran → List ℕ
+ranLine (Finished steps work) = finishedLine steps work
+ranLine (Ran.Refused r work) = refusedLine r work
 
 -- "check "
 abbrev pub check : List ℕ

@@ -1,11 +1,11 @@
 -- Numbers in decimal, and what it is to put text into a line. Assumes nothing.
-use Prim.Native.Nat.{ℕ, zero, suc, _+_, _/_}
+use Prim.Native.Nat.{ℕ, zero, suc, _+_, _/_, _%_}
 use mathlib.Core.Path.{_≡_}
 use mathlib.Core.Bool.{cond}
 use mathlib.Core.List.{List, [], _∷_, _++_}
 use lib.Dec.{ltb}
 use lib.ListN.{length, take}
-use Rattle.io.specs.Digits.{digits}
+use Rattle.io.specs.Digits.{digits, glyph}
 
 -- how many decimal digits n has, where it has at most suc f
 unfoldable pub places : ℕ → ℕ → ℕ
@@ -24,3 +24,8 @@ field n end = decimal n ++ (end ∷ [])
 pub record Put (at : ℕ) (text before after : List ℕ) (r : ℕ) : Type 0 where
   pub place : r ≡ at + length text
   pub holds : take r after ≡ take at before ++ text
+
+-- bytes as two hex digits each, the high one first
+unfoldable pub hexes : List ℕ → List ℕ
+hexes [] = []
+hexes (b ∷ bs) = glyph (b / 16) ∷ glyph (b % 16) ∷ hexes bs

@@ -2,11 +2,14 @@
 ghost use mathlib.Core.Path.{_≡_};
 ghost use lib.ListN.{take};
 ghost use Rattle.io.specs.Counts.{Counts};
-ghost use Rattle.wire.specs.Lines.{acceptedLine, checkedLine, refusedLine};
+ghost use Rattle.rules.specs.declared.Started.the-variants.{Ready};
+ghost use Rattle.wire.specs.Lines.{acceptedLine, checkedLine, finishedLine, ranLine, refusedLine, startedLine};
 use crate::text::put;
 use crate::text::put_field;
 use rules::Checked;
+use rules::Ran;
 use rules::Refusal;
+use rules::Started;
 
 // Puts `REFUSED code place work` at the start of line, and answers its length.
 pub(crate) fn refused_line(r: Refusal, work: u32, line: &mut [u8; 64]) -> usize
@@ -41,5 +44,45 @@ pub fn checked_line(answer: Checked, line: &mut [u8; 64]) -> usize
     match answer {
         Checked::Accepted(n, cells, bound, ty) => accepted_line(n, cells, bound, ty, line),
         Checked::Refused(r) => refused_line(r, 0, line),
+    }
+}
+
+// Puts the answer of a start that is done, `OK`, at the start of line, and answers its length.
+fn ready_line(line: &mut [u8; 64]) -> usize
+    ensures { λ r. ⌜ Counts r (now (line .exit)) ⌝ }
+    ensures { λ r. ⌜ take r (now (line .exit)) ≡ startedLine Ready ⌝ }
+{
+    put(b"OK\n", line, 0)
+}
+
+// Puts the answer of a start at the start of line, and answers its length.
+pub fn started_line(answer: Started, line: &mut [u8; 64]) -> usize
+    ensures { λ r. ⌜ Counts r (now (line .exit)) ⌝ }
+    ensures { λ r. ⌜ take r (now (line .exit)) ≡ startedLine answer ⌝ }
+{
+    match answer {
+        Started::Ready => ready_line(line),
+        Started::Refused(r) => refused_line(r, 0, line),
+    }
+}
+
+// Puts the answer of steps that are done, `OK steps work`, at the start of line, and answers its length.
+fn finished_line(steps: u32, work: u32, line: &mut [u8; 64]) -> usize
+    ensures { λ r. ⌜ Counts r (now (line .exit)) ⌝ }
+    ensures { λ r. ⌜ take r (now (line .exit)) ≡ finishedLine steps work ⌝ }
+{
+    let a = put(b"OK ", line, 0);
+    let b = put_field(steps, b' ', line, a);
+    put_field(work, b'\n', line, b)
+}
+
+// Puts the answer of a step or a run at the start of line, and answers its length.
+pub fn ran_line(answer: Ran, line: &mut [u8; 64]) -> usize
+    ensures { λ r. ⌜ Counts r (now (line .exit)) ⌝ }
+    ensures { λ r. ⌜ take r (now (line .exit)) ≡ ranLine answer ⌝ }
+{
+    match answer {
+        Ran::Finished(steps, work) => finished_line(steps, work, line),
+        Ran::Refused(r, work) => refused_line(r, work, line),
     }
 }

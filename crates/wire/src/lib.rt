@@ -1,10 +1,14 @@
 // The requests and the answers of the programs as bytes: header lines, answer lines, numbers in decimal.
 mod answer;
+mod digits;
 mod guess;
 mod header;
 mod text;
 
 pub use answer::checked_line;
+pub use answer::ran_line;
+pub use answer::started_line;
+pub use digits::hex;
 pub use header::request_of;
 
 // A request by its header line: the call and the lengths of its lent memory.

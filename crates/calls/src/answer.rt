@@ -1,0 +1,168 @@
+// The calls, and their answers: the line, then the state and the output room in hex, a line each.
+ghost use Prim.Native.Nat.{_≤_};
+ghost use lib.ListN.{length};
+use rules::Ran;
+use wire::Request;
+
+// Puts at most 2,048 bytes in hex to the output, and answers how many bytes of output wait.
+fn hex_piece(s: &[u8], full: usize, out: &mut [u8]) -> usize
+    requires { ⌜ length (now s) ≤ 2048 ⌝ }
+{
+    let mut text = [0u8; 4096];
+    let n = wire::hex(s, &mut text);
+    feed::append(&text[..n], out, full)
+}
+
+// How much of what is left goes into a piece: some, where any is left.
+fn piece_of(left: usize) -> usize
+    requires { ⌜ 1 ≤ left ⌝ }
+    ensures { λ r. ⌜ (1 ≤ r) × (r ≤ left) × (r ≤ 2048) ⌝ }
+{
+    if left < 2048 { left } else { 2048 }
+}
+
+// Puts s in hex to the output, piece by piece.
+fn hex_all(s: &[u8], full: usize, out: &mut [u8]) -> usize {
+    let mut waits = full;
+    let mut at = 0;
+    while at < s.len() {
+        let stop = at + piece_of(s.len() - at);
+        waits = hex_piece(&s[at..stop], waits, out);
+        at = stop;
+    }
+    waits
+}
+
+// Puts s in hex and a line end to the output.
+fn hex_line(s: &[u8], full: usize, out: &mut [u8]) -> usize {
+    let waits = hex_all(s, full, out);
+    feed::append(b"\n", out, waits)
+}
+
+// Makes a check.
+fn check_answer(program: &[u8], full: usize, out: &mut [u8]) -> usize {
+    let mut line = [0u8; 64];
+    let n = wire::checked_line(watch::check(program), &mut line);
+    feed::append(&line[..n], out, full)
+}
+
+// Makes a start.
+fn start_answer(program: &[u8], state: &mut [u8], full: usize, out: &mut [u8]) -> usize {
+    let mut line = [0u8; 64];
+    let n = wire::started_line(watch::start(program, state), &mut line);
+    let waits = feed::append(&line[..n], out, full);
+    hex_line(state, waits, out)
+}
+
+// Makes a run, or a step.
+fn ran(is_run: bool, program: &[u8], state: &mut [u8], records: &[u8], room: &mut [u8]) -> Ran {
+    if is_run {
+        return watch::run(program, state, records, room);
+    }
+    watch::step(program, state, records, room)
+}
+
+// Makes a run, or a step, and puts the answer to the output.
+fn steps_answer(
+    is_run: bool,
+    program: &[u8],
+    state: &mut [u8],
+    records: &[u8],
+    room: &mut [u8],
+    full: usize,
+    out: &mut [u8],
+) -> usize {
+    let mut line = [0u8; 64];
+    let n = wire::ran_line(ran(is_run, program, state, records, room), &mut line);
+    let waits = feed::append(&line[..n], out, full);
+    let more = hex_line(state, waits, out);
+    hex_line(room, more, out)
+}
+
+// A start with the first n bytes of state.
+fn start_call(program: &[u8], n: usize, state: &mut [u8], full: usize, out: &mut [u8]) -> usize {
+    if n > state.len() {
+        return full;
+    }
+    start_answer(program, &mut state[..n], full, out)
+}
+
+// A run, or a step, with the first n bytes of state and the first m of the output room.
+fn steps_call(
+    is_run: bool,
+    program: &[u8],
+    n: usize,
+    state: &mut [u8],
+    records: &[u8],
+    m: usize,
+    room: &mut [u8],
+    full: usize,
+    out: &mut [u8],
+) -> usize {
+    if n > state.len() {
+        return full;
+    }
+    if m > room.len() {
+        return full;
+    }
+    steps_answer(
+        is_run,
+        program,
+        &mut state[..n],
+        records,
+        &mut room[..m],
+        full,
+        out,
+    )
+}
+
+// Makes the call of a request whose memory is read, and puts the answer to the output.
+pub fn call(
+    request: Request,
+    program: &[u8],
+    state: &mut [u8],
+    records: &[u8],
+    room: &mut [u8],
+    full: usize,
+    out: &mut [u8],
+) -> usize {
+    match request {
+        Request::Check(p) => check_answer(feed::first(program, p as usize), full, out),
+        Request::Start(p, s) => start_call(
+            feed::first(program, p as usize),
+            s as usize,
+            state,
+            full,
+            out,
+        ),
+        Request::Step(p, s, r, o) => {
+            let of = feed::first(program, p as usize);
+            steps_call(
+                false,
+                of,
+                s as usize,
+                state,
+                feed::first(records, r as usize),
+                o as usize,
+                room,
+                full,
+                out,
+            )
+        }
+        Request::Run(p, s, r, o) => {
+            let of = feed::first(program, p as usize);
+            steps_call(
+                true,
+                of,
+                s as usize,
+                state,
+                feed::first(records, r as usize),
+                o as usize,
+                room,
+                full,
+                out,
+            )
+        }
+        Request::Broken => full,
+    }
+}

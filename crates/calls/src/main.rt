@@ -1,0 +1,144 @@
+// Answers a stream of requests to the four calls on standard input: see second/README.md, `calls serve`.
+mod answer;
+mod rooms;
+
+use feed::Place;
+use wire::Request;
+
+// After a request: what is unread, how many bytes of output wait, and whether to go on.
+struct After {
+    at: usize,
+    end: usize,
+    full: usize,
+    more: bool,
+}
+
+// What is no request ends the stream.
+fn no_request(full: usize, out: &mut [u8]) -> After {
+    let waits = feed::append(b"NO REQUEST\n", out, full);
+    After {
+        at: 0,
+        end: 0,
+        full: waits,
+        more: false,
+    }
+}
+
+// Reads the memory of a request, makes the call, and puts the answer to the output.
+fn serve_one(
+    request: Request,
+    place: Place,
+    full: usize,
+    input: &mut [u8],
+    program: &mut [u8],
+    state: &mut [u8],
+    records: &mut [u8],
+    room: &mut [u8],
+    out: &mut [u8],
+) -> After {
+    let filled = rooms::read(request, place, input, program, state, records, room);
+    if !filled.whole {
+        return no_request(full, out);
+    }
+    let waits = answer::call(request, program, state, records, room, full, out);
+    let after = filled.place;
+    After {
+        at: after.at,
+        end: after.end,
+        full: waits,
+        more: true,
+    }
+}
+
+// One request; none at the end of the input.
+fn turn(
+    place: Place,
+    waiting: usize,
+    input: &mut [u8],
+    program: &mut [u8],
+    state: &mut [u8],
+    records: &mut [u8],
+    room: &mut [u8],
+    out: &mut [u8],
+) -> After {
+    let full = feed::rested(place, out, waiting);
+    let mut text = [0u8; 64];
+    let line = feed::header(place, input, &mut text);
+    let n = line.length;
+    if n == 0 {
+        return After {
+            at: 0,
+            end: 0,
+            full: full,
+            more: false,
+        };
+    }
+    let after = line.place;
+    match wire::request_of(&text[..n]) {
+        Request::Broken => no_request(full, out),
+        request => serve_one(
+            request,
+            after,
+            full,
+            input,
+            program,
+            state,
+            records,
+            room,
+            out,
+        ),
+    }
+}
+
+// Nothing says that the input ends, so the loop counts its turns down from a number that no run uses up.
+fn serve(
+    input: &mut [u8],
+    program: &mut [u8],
+    state: &mut [u8],
+    records: &mut [u8],
+    room: &mut [u8],
+    out: &mut [u8],
+) {
+    let mut at = 0;
+    let mut end = 0;
+    let mut full = 0;
+    let mut turns = u64::MAX;
+    while turns > 0 {
+        let t = turn(
+            Place { at: at, end: end },
+            full,
+            input,
+            program,
+            state,
+            records,
+            room,
+            out,
+        );
+        full = t.full;
+        if !t.more {
+            feed::flush(out, full);
+            return;
+        }
+        at = t.at;
+        end = t.end;
+        turns -= 1;
+    }
+    feed::flush(out, full);
+}
+
+fn main() {
+    let mut input = io::large_buffer();
+    let mut program = io::large_buffer();
+    let mut state = [0u8; 16384];
+    let mut records = [0u8; 196608];
+    let mut room = io::large_buffer();
+    let mut out = io::large_buffer();
+    serve(
+        &mut input,
+        &mut program,
+        &mut state,
+        &mut records,
+        &mut room,
+        &mut out,
+    );
+}

@@ -1,0 +1,12 @@
+pub mod Needs
+pub mod Contexts
+pub mod TypedE
+pub mod TypedS
+pub mod Formats
+pub mod Shapes
+pub mod WayUp
+pub mod NeedsAt
+pub mod HasType
+pub mod Meets
+pub mod MeetsTable
+pub mod Exactly

@@ -1,0 +1,315 @@
+-- An update of each kind, by what its parts did.
+-- Assumes nothing.
+use mathlib.Core.Path.{_≡_, refl, sym, ap, _∙_}
+use mathlib.Core.Bool.{Bool, true, false}
+use Prim.Native.Nat.{ℕ, _≤_}
+use native.Mathlib.Omega.{arith}
+use lib.Dec.{eqb}
+use Rattle.rules.proofs.Static.{and-both}
+use borrow.Author.Tests.{leb-true, eqb-true, eqb-false, eq-eqb, ne-eqb}
+use Rattle.rules.specs.Bytes.{Bytes, if_then_else_}
+use Rattle.rules.specs.Layout.{kindAt, aAt, bAt, cellsBefore, cell, held, hold, isClear, branchIn}
+use Rattle.rules.specs.Values.{unpacked, middleIn}
+use Rattle.rules.specs.Kinds.{isSignal}
+use Rattle.rules.specs.Node.{IsNode}
+use Rattle.rules.specs.Shaped.{NodeOf}
+use Rattle.rules.specs.Tree.{Signal, signalAt, branchesAt}
+use Rattle.rules.specs.Scope.{hasBranch}
+use Rattle.rules.specs.Work.{nothing, oneRule, _plus_, Updated, Next, Jump, Halted, moved, stays, leave, afterᵘ, ruleᵘ, _with_, _thenᵘ_}
+use Rattle.rules.specs.Evaluate.{Env, bind, opened, evalS}
+use Rattle.rules.specs.Update.{caught, onEvent, updS, updB}
+use Rattle.rules.specs.declared.Node.{Node}
+use Rattle.rules.specs.declared.Tally.{Tally}
+use Rattle.rules.specs.declared.Value.{Value}
+use Rattle.rules.specs.declared.Opened.{Opened}
+use Rattle.rules.specs.declared.Opened.the-variants.{Here, Gone, Amiss}
+use Rattle.rules.specs.declared.Moved.{Moved}
+use Rattle.rules.specs.declared.Moved.the-variants.{Stay}
+use Rattle.rules.specs.declared.Evaluated.{Evaluated}
+use Rattle.rules.specs.declared.Evaluated.the-variants.{Done, Stuck}
+use Rattle.rules.proofs.Nodes.{signal-input, signal-time}
+use Rattle.rules.proofs.Signals.{less, ext-tree, delay-tree, let-tree, switch-tree, group-tree, group-kids}
+use Rattle.rules.proofs.Branches.{found, missing-updates}
+use Rattle.values.specs.Combine.{partsBy, partsOf}
+use Rattle.values.specs.declared.Event.{Event}
+use Rattle.values.specs.declared.Event.the-variants.{Occurs, Quiet}
+use Rattle.values.specs.declared.Parts.the-variants.{Maybe, Wrong}
+use Rattle.moves.specs.Outcomes.{calmOf}
+use Rattle.moves.specs.Parts.{inSwitch, switched, inGroup}
+use Rattle.moves.specs.declared.Calm.the-variants.{Still, Broken}
+use Rattle.moves.proofs.OutcomeLaws.{then-still, then-broken}
+
+-- An evaluation, then an update with its value, then what goes on from there: where the first is stuck, where the second does not stay, and
+-- where both go on.
+module _ {r E : Evaluated} (q : r ≡ E) where
+  pub first-stuck : (f : Value → Updated) → r ≡ Stuck → Halted ≡ ruleᵘ (E with f)
+  unfolding _with_ ruleᵘ afterᵘ
+  first-stuck f d = rw (← q, d)
+
+  module _ {v : Value} {u : Tally} (d : r ≡ Done v u) (X : Value → Updated) (f : Value → Bytes → Updated) (m : Moved) (st : Bytes) (x : moved m st ≡ X v) where
+    pub second-broken : calmOf m ≡ Broken → Halted ≡ ruleᵘ (E with λ a. X a thenᵘ f a)
+    unfolding _with_ ruleᵘ afterᵘ
+    second-broken c = rw (← q, d, ← x, then-broken m st (f v) c)
+
+    pub both-go : {w : Tally} → calmOf m ≡ Still w → ruleᵘ (afterᵘ u (afterᵘ w (f v st))) ≡ ruleᵘ (E with λ a. X a thenᵘ f a)
+    unfolding _with_
+    both-go c = rw (← q, d, ← x, then-still m st (f v) c)
+
+-- No constructor is another.
+pub wrong-maybe : {e : Event} {w : Tally} → Wrong ≡ Maybe e w → ⊥
+wrong-maybe e = let z : _≡_ {A = ℕ} 0 1 = cc in omega arith
+
+pub maybe-wrong : {e : Event} {w : Tally} → Maybe e w ≡ Wrong → ⊥
+maybe-wrong e = let z : _≡_ {A = ℕ} 0 1 = cc in omega arith
+
+pub quiet-occurs : {v : Value} {w u : Tally} → Maybe Quiet w ≡ Maybe (Occurs v) u → ⊥
+quiet-occurs e = let z : _≡_ {A = ℕ} 0 1 = cc in omega arith
+
+pub occurs-quiet : {v : Value} {w u : Tally} → Maybe (Occurs v) u ≡ Maybe Quiet w → ⊥
+occurs-quiet e = let z : _≡_ {A = ℕ} 0 1 = cc in omega arith
+
+-- A switch's event: no maybe, present, or absent.
+module _ (X : Updated) (C : Bytes → Value → Updated) (Q : Bytes → Updated) where
+  on : Opened → Bytes → Updated
+  on o st = onEvent o (λ v. C st v) (Q st)
+
+  halts : (u : Tally) (Y : Updated) → afterᵘ u (Y thenᵘ λ st. Halted) ≡ Halted
+  unfolding afterᵘ _thenᵘ_
+  halts u (Next st w) = refl
+  halts u (Jump target v st w) = refl
+  halts u Halted = refl
+
+  wrong-by : (o : Opened) (u : Tally) → partsBy o u ≡ Wrong → afterᵘ u (X thenᵘ on o) ≡ Halted
+  unfolding partsBy on onEvent
+  wrong-by (Here v) u e = absurd (maybe-wrong e)
+  wrong-by Gone u e = absurd (maybe-wrong e)
+  wrong-by Amiss u e = halts u X
+
+  event-wrong : (r : Evaluated) → partsOf r ≡ Wrong → (r with λ a. X thenᵘ on (opened a)) ≡ Halted
+  unfolding partsOf _with_
+  event-wrong (Done v u) e = wrong-by (opened v) u e
+  event-wrong Stuck e = refl
+
+  here-by : (o : Opened) (u₀ : Tally) {v : Value} {u : Tally} → partsBy o u₀ ≡ Maybe (Occurs v) u → afterᵘ u₀ (X thenᵘ on o) ≡ afterᵘ u (X thenᵘ λ st. C st v)
+  unfolding partsBy on onEvent
+  here-by (Here v₀) u₀ {v} {u} e =
+      let a : v₀ ≡ v = cc in
+      let b : u₀ ≡ u = cc in
+      λ i. afterᵘ (b i) (X thenᵘ λ st. C st (a i))
+  here-by Gone u₀ e = absurd (quiet-occurs e)
+  here-by Amiss u₀ e = absurd (wrong-maybe e)
+
+  event-here : (r : Evaluated) {v : Value} {u : Tally} → partsOf r ≡ Maybe (Occurs v) u → (r with λ a. X thenᵘ on (opened a)) ≡ afterᵘ u (X thenᵘ λ st. C st v)
+  unfolding partsOf _with_
+  event-here (Done v u) e = here-by (opened v) u e
+  event-here Stuck e = absurd (wrong-maybe e)
+
+  gone-by : (o : Opened) (u₀ : Tally) {u : Tally} → partsBy o u₀ ≡ Maybe Quiet u → afterᵘ u₀ (X thenᵘ on o) ≡ afterᵘ u (X thenᵘ λ st. Q st)
+  unfolding partsBy on onEvent
+  gone-by (Here v) u₀ e = absurd (occurs-quiet e)
+  gone-by Gone u₀ {u} e = let b : u₀ ≡ u = cc in λ i. afterᵘ (b i) (X thenᵘ λ st. Q st)
+  gone-by Amiss u₀ e = absurd (wrong-maybe e)
+
+  event-gone : (r : Evaluated) {u : Tally} → partsOf r ≡ Maybe Quiet u → (r with λ a. X thenᵘ on (opened a)) ≡ afterᵘ u (X thenᵘ λ st. Q st)
+  unfolding partsOf _with_
+  event-gone (Done v u) e = gone-by (opened v) u e
+  event-gone Stuck e = absurd (wrong-maybe e)
+
+-- Where an update does not stay, nothing goes on.
+with-broken : (r : Evaluated) (m : Moved) (st : Bytes) {X : Updated} (F : Value → Bytes → Updated) → moved m st ≡ X → calmOf m ≡ Broken → (r with λ a. X thenᵘ F a) ≡ Halted
+unfolding _with_ afterᵘ
+with-broken (Done v u) m st F x c = rw (← x, then-broken m st (F v) c)
+with-broken Stuck m st F x c = refl
+
+-- By the content m of a cell: zeros, or not.
+module _ {A : Type 0} (st : Bytes) {k k′ m : ℕ} (c : m ≡ cell st k′) (q : k′ ≡ k) {x : A} (a b : A) where
+  pub pick-clear : m ≡ 0 → x ≡ a → x ≡ (if isClear st k then a else b)
+  unfolding isClear
+  pick-clear z e = rw (← q, ← c, eq-eqb m 0 z) e
+
+  pub pick-held : (m ≡ 0 → ⊥) → x ≡ b → x ≡ (if isClear st k then a else b)
+  unfolding isClear
+  pick-held z e = rw (← q, ← c, ne-eqb m 0 z) e
+
+pub held-is : (st : Bytes) {k k′ m : ℕ} → m ≡ cell st k′ → k′ ≡ k → unpacked m ≡ held st k
+unfolding held
+held-is st c q = rw (← q, ← c)
+
+pub branch-is : (st : Bytes) {k k′ m : ℕ} → m ≡ cell st k′ → k′ ≡ k → middleIn m ≡ branchIn st k
+unfolding branchIn
+branch-is st c q = rw (← q, ← c)
+
+one-rule : (st : Bytes) → Next st (record { work = 1 }) ≡ ruleᵘ (leave st)
+unfolding ruleᵘ afterᵘ oneRule _plus_ leave nothing
+one-rule st = refl
+
+module _ (p : Bytes) (i : ℕ) (w : NodeOf isSignal p i) {n : Node} (f : IsNode p i n) (rec : Bytes) (env : Env) (st : Bytes) where
+  delay-law : kindAt p i ≡ 4
+      → updS rec env (signalAt p i) st
+      ≡ ruleᵘ (evalS rec st env (signalAt p (n .a)) with λ v. updS rec env (signalAt p (n .a)) st thenᵘ λ st₁. leave (hold st₁ (cellsBefore p i) v))
+  unfolding updS
+  delay-law e = rw (f .a-is) (ap (λ (s : Signal). updS rec env s st) (delay-tree p i w e))
+
+  let-law : kindAt p i ≡ 5
+      → updS rec env (signalAt p i) st
+      ≡ ruleᵘ (evalS rec st env (signalAt p (n .a)) with λ v. updS rec (bind env i v) (signalAt p (n .a)) st thenᵘ λ st₁. updS rec (bind env i v) (signalAt p (n .b)) st₁)
+  unfolding updS
+  let-law e = rw (f .a-is, f .b-is) (ap (λ (s : Signal). updS rec env s st) (let-tree p i w e))
+
+  group-law : kindAt p i ≡ 7
+      → updS rec env (signalAt p i) st
+      ≡ ruleᵘ (caught (cellsBefore p i) (signalAt p (aAt p i)) (branchesAt p (bAt p i)) (inGroup p i rec env st))
+  unfolding updS
+  group-law e = ap (λ (s : Signal). updS rec env s st) (group-tree p i w e)
+
+  switch-law : kindAt p i ≡ 6
+      → updS rec env (signalAt p i) st
+      ≡ ruleᵘ (evalS rec st env (signalAt p (n .b)) with λ a. updS rec env (signalAt p (n .b)) st
+      thenᵘ on (updS rec env (signalAt p (n .b)) st) (λ s v. leave (switched p i s v)) (λ s. stays (inSwitch p i rec env s)) (opened a))
+  unfolding updS on
+  switch-law e = rw (f .b-is) (ap (λ (s : Signal). updS rec env s st) (switch-tree p i w e))
+
+  -- Delay.
+  module _ (k : kindAt p i ≡ 4) {r : Evaluated} (q : r ≡ evalS rec st env (signalAt p (n .a))) where
+    pub delay-stuck : r ≡ Stuck → Halted ≡ updS rec env (signalAt p i) st
+    delay-stuck d = first-stuck q _ d ∙ sym (delay-law k)
+
+    module _ {v : Value} {u : Tally} (d : r ≡ Done v u) {env₁ : Env} (h : env₁ ≡ env) (m : Moved) (st₁ : Bytes) (x : moved m st₁ ≡ updS rec env₁ (signalAt p (n .a)) st) where
+      pub delay-broken : calmOf m ≡ Broken → Halted ≡ updS rec env (signalAt p i) st
+      delay-broken c =
+          second-broken q d (λ a. updS rec env (signalAt p (n .a)) st) (λ a s. leave (hold s (cellsBefore p i) a)) m st₁ (rw h at x) c ∙ sym (delay-law k)
+
+      pub delay-done : {w : Tally} → calmOf m ≡ Still w → {c : ℕ} {st₂ : Bytes} → st₂ ≡ hold st₁ c v → c ≡ cellsBefore p i
+          → {t : Updated} → t ≡ ruleᵘ (afterᵘ u (afterᵘ w (moved (Stay (record { work = 0 })) st₂))) → t ≡ updS rec env (signalAt p i) st
+      unfolding moved leave nothing
+      delay-done {w} c s e z =
+          z ∙ ap (λ (b : Bytes). ruleᵘ (afterᵘ u (afterᵘ w (leave b)))) (s ∙ ap (λ (y : ℕ). hold st₁ y v) e)
+          ∙ both-go q d (λ a. updS rec env (signalAt p (n .a)) st) (λ a b. leave (hold b (cellsBefore p i) a)) m st₁ (rw h at x) c
+          ∙ sym (delay-law k)
+
+  -- Let.
+  module _ (k : kindAt p i ≡ 5) {r : Evaluated} (q : r ≡ evalS rec st env (signalAt p (n .a))) where
+    pub let-stuck : r ≡ Stuck → Halted ≡ updS rec env (signalAt p i) st
+    let-stuck d = first-stuck q _ d ∙ sym (let-law k)
+
+    module _ {v : Value} {u : Tally} (d : r ≡ Done v u) {env₁ : Env} (h : env₁ ≡ env) (m : Moved) (st₁ : Bytes) (x : moved m st₁ ≡ updS rec (bind env₁ i v) (signalAt p (n .a)) st) where
+      defined : moved m st₁ ≡ updS rec (bind env i v) (signalAt p (n .a)) st
+      defined = x ∙ ap (λ (y : Env). updS rec (bind y i v) (signalAt p (n .a)) st) h
+
+      pub let-broken : calmOf m ≡ Broken → Halted ≡ updS rec env (signalAt p i) st
+      let-broken c =
+          second-broken q d (λ a. updS rec (bind env i a) (signalAt p (n .a)) st) (λ a s. updS rec (bind env i a) (signalAt p (n .b)) s) m st₁ defined c
+          ∙ sym (let-law k)
+
+      pub let-done : {w : Tally} → calmOf m ≡ Still w → {env₂ : Env} → env₂ ≡ env → {y : Updated} → y ≡ updS rec (bind env₂ i v) (signalAt p (n .b)) st₁
+          → {t : Updated} → t ≡ ruleᵘ (afterᵘ u (afterᵘ w y)) → t ≡ updS rec env (signalAt p i) st
+      let-done {w} c g e z =
+          z ∙ ap (λ (o : Updated). ruleᵘ (afterᵘ u (afterᵘ w o))) (e ∙ ap (λ (y : Env). updS rec (bind y i v) (signalAt p (n .b)) st₁) g)
+          ∙ both-go q d (λ a. updS rec (bind env i a) (signalAt p (n .a)) st) (λ a s. updS rec (bind env i a) (signalAt p (n .b)) s) m st₁ defined c
+          ∙ sym (let-law k)
+
+  -- Switch.
+  module _ (k : kindAt p i ≡ 6) {r : Evaluated} (q : r ≡ evalS rec st env (signalAt p (n .b))) where
+    E : Updated
+    E = updS rec env (signalAt p (n .b)) st
+
+    C : Bytes → Value → Updated
+    C s v = leave (switched p i s v)
+
+    Q : Bytes → Updated
+    Q s = stays (inSwitch p i rec env s)
+
+    by-event : updS rec env (signalAt p i) st ≡ ruleᵘ (r with λ a. E thenᵘ on E C Q (opened a))
+    unfolding E C Q
+    by-event = switch-law k ∙ ap (λ (x : Evaluated). ruleᵘ (x with λ a. E thenᵘ on E C Q (opened a))) (sym q)
+
+    pub switch-wrong : partsOf r ≡ Wrong → Halted ≡ updS rec env (signalAt p i) st
+    unfolding ruleᵘ afterᵘ
+    switch-wrong d = sym (by-event ∙ ap ruleᵘ (event-wrong E C Q r d))
+
+    module _ {env₁ : Env} (h : env₁ ≡ env) (m : Moved) (st₁ : Bytes) (x : moved m st₁ ≡ updS rec env₁ (signalAt p (n .b)) st) where
+      event-is : moved m st₁ ≡ E
+      unfolding E
+      event-is = rw h at x
+
+      pub switch-broken : calmOf m ≡ Broken → Halted ≡ updS rec env (signalAt p i) st
+      unfolding ruleᵘ afterᵘ
+      switch-broken c = sym (by-event ∙ ap ruleᵘ (with-broken r m st₁ (λ a. on E C Q (opened a)) event-is c))
+
+      after-event : {w : Tally} → calmOf m ≡ Still w → (g : Bytes → Updated) → (E thenᵘ g) ≡ afterᵘ w (g st₁)
+      after-event c g = ap (λ (y : Updated). y thenᵘ g) (sym event-is) ∙ then-still m st₁ g c
+
+      pub switch-caught : {v : Value} {u : Tally} → partsOf r ≡ Maybe (Occurs v) u → {w : Tally} → calmOf m ≡ Still w → {st₂ : Bytes} → st₂ ≡ switched p i st₁ v
+          → {t : Updated} → t ≡ ruleᵘ (afterᵘ u (afterᵘ w (moved (Stay (record { work = 0 })) st₂))) → t ≡ updS rec env (signalAt p i) st
+      unfolding moved leave nothing C
+      switch-caught {v} {u} d {w} c s z =
+          z ∙ ap (λ (b : Bytes). ruleᵘ (afterᵘ u (afterᵘ w (leave b)))) s
+          ∙ sym (by-event ∙ ap ruleᵘ (event-here E C Q r d ∙ ap (afterᵘ u) (after-event c λ b. C b v)))
+
+      pub switch-quiet : {u : Tally} → partsOf r ≡ Maybe Quiet u → {w : Tally} → calmOf m ≡ Still w → {env₂ : Env} → env₂ ≡ env
+          → {o : Updated} → o ≡ inSwitch p i rec env₂ st₁ → {y : Updated} → y ≡ stays o → {t : Updated} → t ≡ ruleᵘ (afterᵘ u (afterᵘ w y))
+          → t ≡ updS rec env (signalAt p i) st
+      unfolding Q
+      switch-quiet {u} d {w} c g e y z =
+          z ∙ ap (λ (b : Updated). ruleᵘ (afterᵘ u (afterᵘ w b))) (y ∙ ap stays (e ∙ ap (λ (a : Env). inSwitch p i rec a st₁) g))
+          ∙ sym (by-event ∙ ap ruleᵘ (event-gone E C Q r d ∙ ap (afterᵘ u) (after-event c λ b. Q b)))
+
+  -- Group.
+  pub group-done : kindAt p i ≡ 7 → {o : Updated} → o ≡ inGroup p i rec env st
+      → {t : Updated} → t ≡ ruleᵘ (caught (cellsBefore p i) (signalAt p (aAt p i)) (branchesAt p (bAt p i)) o) → t ≡ updS rec env (signalAt p i) st
+  group-done k e z =
+      z ∙ ap (λ (y : Updated). ruleᵘ (caught (cellsBefore p i) (signalAt p (aAt p i)) (branchesAt p (bAt p i)) y)) e ∙ sym (group-law k)
+
+  -- The part of a switch or a group by the content of its cell.
+  module _ {c m : ℕ} (a : m ≡ cell st c) (b : c ≡ cellsBefore p i) where
+    pub switch-first : m ≡ 0 → {o : Updated} → o ≡ updS rec env (signalAt p (n .a)) st → o ≡ inSwitch p i rec env st
+    switch-first z e = pick-clear st a b _ _ z (rw (f .a-is) at e)
+
+    pub switch-second : (m ≡ 0 → ⊥) → {v : Value} → v ≡ unpacked m → {o : Updated} → o ≡ updS rec (bind env i v) (signalAt p (n .c)) st → o ≡ inSwitch p i rec env st
+    switch-second z g e =
+        pick-held st a b _ _ z (e ∙ λ j. updS rec (bind env i ((g ∙ held-is st a b) j)) (signalAt p (f .c-is j)) st)
+
+    pub group-first : m ≡ 0 → {o : Updated} → o ≡ updS rec env (signalAt p (n .a)) st → o ≡ inGroup p i rec env st
+    group-first z e = pick-clear st a b _ _ z (rw (f .a-is) at e)
+
+    module _ (k : kindAt p i ≡ 7) (z : m ≡ 0 → ⊥) {which : ℕ} {t : Bool} (g : which ≡ middleIn m) (e : t ≡ hasBranch which (branchesAt p (n .b))) where
+      in-list : (s : Bool) → t ≡ s → hasBranch which (branchesAt p (bAt p i)) ≡ s
+      in-list s y = ap (λ (l : ℕ). hasBranch which (branchesAt p l)) (sym (f .b-is)) ∙ sym e ∙ y
+
+      named : (v : Value) → v ≡ unpacked m
+          → updB rec env which v (branchesAt p (bAt p i)) st
+          ≡ updB rec env (branchIn st (cellsBefore p i)) (held st (cellsBefore p i)) (branchesAt p (bAt p i)) st
+      named v y = λ j. updB rec env ((g ∙ branch-is st a b) j) ((y ∙ held-is st a b) j) (branchesAt p (bAt p i)) st
+
+      pub group-branch : t ≡ true → {v : Value} → v ≡ unpacked m → {x : Node} → IsNode p which x
+          → {o : Updated} → o ≡ updS rec (bind env which v) (signalAt p (x .a)) st → o ≡ inGroup p i rec env st
+      group-branch y {v} l {x} nx q =
+          pick-held st a b _ _ z (q ∙ ap (λ (s : ℕ). updS rec (bind env which v) (signalAt p s) st) (nx .a-is)
+          ∙ sym (found p (bAt p i) which (group-kids p i w k .1 .node) (in-list true y) .updates rec st env v) ∙ named v l)
+
+      pub group-missing : t ≡ false → Halted ≡ inGroup p i rec env st
+      group-missing y =
+          pick-held st a b _ _ z (sym (missing-updates rec st env which (unpacked m) (branchesAt p (bAt p i)) (in-list false y)) ∙ named (unpacked m) refl)
+
+-- Input, time and ext are all that is left.
+module _ (p : Bytes) (i : ℕ) (w : NodeOf isSignal p i) (rec : Bytes) (env : Env) (st : Bytes) where
+  three : (b c : Bool) → eqb (kindAt p i) 1 ≡ b → eqb (kindAt p i) 3 ≡ c → 1 ≤ kindAt p i → kindAt p i ≤ 3 → ruleᵘ (leave st) ≡ updS rec env (signalAt p i) st
+  unfolding updS
+  three true c x y l u = sym (ap (λ (s : Signal). updS rec env s st) (signal-input p i (eqb-true _ _ x)))
+  three false true x y l u = sym (ap (λ (s : Signal). updS rec env s st) (ext-tree p i w (eqb-true _ _ y)))
+  three false false x y l u = sym (ap (λ (s : Signal). updS rec env s st) (signal-time p i (two (kindAt p i) (eqb-false _ _ x) (eqb-false _ _ y) l u)))
+    where
+      two : (m : ℕ) → (m ≡ 1 → ⊥) → (m ≡ 3 → ⊥) → 1 ≤ m → m ≤ 3 → m ≡ 2
+      two m x y l u = omega (arith, x, y)
+
+  pub leaf-updates : {A : Type 0} {m : ℕ} → m ≡ kindAt p i
+      → (((((A × (m ≡ 4 → ⊥)) × (m ≡ 5 → ⊥)) × (m ≡ 6 → ⊥)) × (m ≡ 7 → ⊥)) × (m ≡ 8 → ⊥))
+      → moved (Stay (record { work = 1 })) st ≡ updS rec env (signalAt p i) st
+  unfolding isSignal moved
+  leaf-updates e r =
+      let b = and-both _ _ (w .sorted) in
+      let l = leb-true 1 (kindAt p i) (b .0) in
+      let u = leb-true (kindAt p i) 8 (b .1) in
+      one-rule st ∙ three (eqb (kindAt p i) 1) (eqb (kindAt p i) 3) refl refl l
+      (less 3 (less 4 (less 5 (less 6 (less 7 u (λ h. r .1 (e ∙ h))) (λ h. r .0 .1 (e ∙ h))) (λ h. r .0 .0 .1 (e ∙ h)))
+      (λ h. r .0 .0 .0 .1 (e ∙ h))) (λ h. r .0 .0 .0 .0 .1 (e ∙ h)))

@@ -1,0 +1,207 @@
+-- The parts of a signal or a case are ready as the whole is: smaller, of the right sort, with the same memory lent and small bounds.
+-- Assumes nothing.
+use mathlib.Core.Path.{_≡_, refl, sym, ap, _∙_, subst}
+use mathlib.Core.Bool.{Bool, true}
+use mathlib.Core.List.{List}
+use Prim.Native.Nat.{ℕ, _≤_, _<_}
+use native.Mathlib.Omega.{arith}
+use lib.ListN.{getD}
+use Rattle.rules.specs.Bytes.{Bytes, _or_}
+use Rattle.rules.specs.Layout.{kindAt, aAt, bAt, hasCell, cellAt, cellsBefore, stateLength}
+use Rattle.rules.specs.Kinds.{isSignal, isBranch}
+use Rattle.rules.specs.Node.{IsNode}
+use Rattle.rules.specs.Shaped.{NodeOf}
+use Rattle.rules.specs.Tree.{signalAt, branchesAt}
+use Rattle.rules.specs.Bound.{boundS, boundSC, boundU, boundUB, boundUC}
+use Rattle.rules.specs.Scope.{hasBranch}
+use Rattle.rules.specs.declared.Node.{Node}
+use Rattle.rules.proofs.Signals.{delay-kid, delay-tree, let-kids, let-tree, switch-kids, switch-tree, group-kids, group-tree, until-kids, until-tree, branch-kid, case-kid, case-next, case-law, case-on}
+use Rattle.rules.proofs.CellNumbers.{cell-below}
+use Rattle.rules.proofs.Branches.{found}
+use Rattle.cells.specs.Indexed.{Indexed}
+use Rattle.moves.specs.Lent.{Lent, Celled, Ready, ReadyAs, Placed, ReadyC, CaseAs}
+
+-- Memory of the same lengths.
+module _ {p : Bytes} {index : List ℕ} {s s′ e e′ : ℕ} (hs : s′ ≡ s) (he : e′ ≡ e) where
+  lent-again : Lent p index s e → Lent p index s′ e′
+  lent-again l = record { table = l .table; cells = omega (arith, l .cells); room = omega (arith, l .room) }
+
+  pub ready-again : {x : ℕ} → Ready p index s e x → Ready p index s′ e′ x
+  ready-again r = record { node = r .node; lent = lent-again (r .lent); small = r .small }
+
+  pub as-again : {k i : ℕ} {n : Node} → ReadyAs k p index s e i n → ReadyAs k p index s′ e′ i n
+  as-again r = record { ready = ready-again (r .ready); fields = r .fields; kind = r .kind }
+
+  pub walk-again : {j : ℕ} → ReadyC p index s e j → ReadyC p index s′ e′ j
+  walk-again r = record { node = r .node; lent = lent-again (r .lent); small = r .small }
+
+-- A signal below signal i, and one that is evaluated too.
+pub record Part (p : Bytes) (index : List ℕ) (s e i x : ℕ) : Type 0 where
+  pub less : x < i
+  pub ready : Ready p index s e x
+
+pub record Seen (p : Bytes) (index : List ℕ) (s e i x : ℕ) : Type 0 where
+  pub less : x < i
+  pub ready : Ready p index s e x
+  pub small : boundS (signalAt p x) < 4294967296
+
+part : {p : Bytes} {index : List ℕ} {s e i x y : ℕ} → x ≡ y → Part p index s e i y → Part p index s e i x
+part {p} {index} {s} {e} {i} q k = subst (Part p index s e i) (sym q) k
+
+seen : {p : Bytes} {index : List ℕ} {s e i x y : ℕ} → x ≡ y → Seen p index s e i y → Seen p index s e i x
+seen {p} {index} {s} {e} {i} q k = subst (Seen p index s e i) (sym q) k
+
+module _ {p : Bytes} {index : List ℕ} {s e i : ℕ} {n : Node} where
+  pub delay-part : ReadyAs 4 p index s e i n → Seen p index s e i (n .a)
+  unfolding boundU
+  delay-part r =
+      let k = delay-kid p i (r .ready .node) (r .kind) in
+      let b = ap boundU (delay-tree p i (r .ready .node) (r .kind)) in
+      seen (r .fields .a-is)
+      (record {
+        less = k .less;
+        ready = record { node = k .node; lent = r .ready .lent; small = omega (arith, r .ready .small) };
+        small = omega (arith, r .ready .small);
+      })
+
+  pub let-parts : ReadyAs 5 p index s e i n → Seen p index s e i (n .a) × Part p index s e i (n .b)
+  unfolding boundU
+  let-parts r =
+      let k = let-kids p i (r .ready .node) (r .kind) in
+      let b = ap boundU (let-tree p i (r .ready .node) (r .kind)) in (
+        seen (r .fields .a-is)
+            (record {
+              less = k .0 .less;
+              ready = record { node = k .0 .node; lent = r .ready .lent; small = omega (arith, r .ready .small) };
+              small = omega (arith, r .ready .small);
+            }),
+        part (r .fields .b-is)
+            (record {
+              less = k .1 .less;
+              ready = record { node = k .1 .node; lent = r .ready .lent; small = omega (arith, r .ready .small) };
+            }),
+      )
+
+  pub switch-parts : ReadyAs 6 p index s e i n → Part p index s e i (n .a) × Seen p index s e i (n .b) × Part p index s e i (n .c)
+  unfolding boundU
+  switch-parts r =
+      let k = switch-kids p i (r .ready .node) (r .kind) in
+      let b = ap boundU (switch-tree p i (r .ready .node) (r .kind)) in (
+        part (r .fields .a-is)
+            (record {
+              less = k .0 .less;
+              ready = record { node = k .0 .node; lent = r .ready .lent; small = omega (arith, r .ready .small) };
+            }),
+        seen (r .fields .b-is)
+            (record {
+              less = k .1 .less;
+              ready = record { node = k .1 .node; lent = r .ready .lent; small = omega (arith, r .ready .small) };
+              small = omega (arith, r .ready .small);
+            }),
+        part (r .fields .c-is)
+            (record {
+              less = k .2 .less;
+              ready = record { node = k .2 .node; lent = r .ready .lent; small = omega (arith, r .ready .small) };
+            }),
+      )
+
+  pub group-part : ReadyAs 7 p index s e i n → Part p index s e i (n .a)
+  unfolding boundU
+  group-part r =
+      let k = group-kids p i (r .ready .node) (r .kind) in
+      let b = ap boundU (group-tree p i (r .ready .node) (r .kind)) in
+      part (r .fields .a-is)
+      (record {
+        less = k .0 .less;
+        ready = record { node = k .0 .node; lent = r .ready .lent; small = omega (arith, r .ready .small) };
+      })
+
+  pub group-list : ReadyAs 7 p index s e i n → NodeOf isBranch p (n .b)
+  group-list r = subst (NodeOf isBranch p) (sym (r .fields .b-is)) (group-kids p i (r .ready .node) (r .kind) .1 .node)
+
+  -- The branch of the group by its number: a node of the table, and its body.
+  pub branch-node : ReadyAs 7 p index s e i n → {which : ℕ} {t : Bool} → t ≡ hasBranch which (branchesAt p (n .b)) → t ≡ true → NodeOf isBranch p which
+  branch-node r {which} h g = found p (n .b) which (group-list r) (sym h ∙ g) .node
+
+  pub branch-part : ReadyAs 7 p index s e i n → {which : ℕ} {t : Bool} {m : Node} → t ≡ hasBranch which (branchesAt p (n .b)) → t ≡ true → IsNode p which m
+      → Part p index s e i (m .a)
+  unfolding boundU
+  branch-part r {which} h g q =
+      let k = group-kids p i (r .ready .node) (r .kind) in
+      let f = found p (n .b) which (group-list r) (sym h ∙ g) in
+      let c = branch-kid p which (f .node) in
+      let b = ap boundU (group-tree p i (r .ready .node) (r .kind)) in
+      let u : boundU (signalAt p (aAt p which)) ≤ boundUB (branchesAt p (bAt p i)) = rw (r .fields .b-is) at (f .update) in
+      part (q .a-is)
+      (record {
+        less = omega (arith, f .most, r .fields .b-is, k .1 .less, c .less);
+        ready = record { node = c .node; lent = r .ready .lent; small = omega (arith, r .ready .small) };
+      })
+
+  pub until-parts : ReadyAs 8 p index s e i n → Part p index s e i (n .a) × ((n .b < i) × ReadyC p index s e (n .b))
+  unfolding boundU
+  until-parts r =
+      let k = until-kids p i (r .ready .node) (r .kind) in
+      let b = ap boundU (until-tree p i (r .ready .node) (r .kind)) in (
+        part (r .fields .a-is)
+            (record {
+              less = k .0 .less;
+              ready = record { node = k .0 .node; lent = r .ready .lent; small = omega (arith, r .ready .small) };
+            }),
+        (
+          omega (arith, r .fields .b-is, k .1 .less),
+          subst (ReadyC p index s e) (sym (r .fields .b-is))
+              (record { node = k .1 .node; lent = r .ready .lent; small = omega (arith, r .ready .small) }),
+        ),
+      )
+
+  -- The event of a case, and the cases after it.
+  pub case-part : CaseAs p index s e i n → Seen p index s e i (n .a)
+  unfolding boundSC boundUC
+  case-part r =
+      let k = case-kid p i (r .ready .node) in
+      let t = case-law p i (r .ready .node) refl in
+      let b = ap boundSC t in
+      let c = ap boundUC t in
+      seen (r .fields .a-is)
+      (record {
+        less = k .less;
+        ready = record { node = k .node; lent = r .ready .lent; small = omega (arith, r .ready .small) };
+        small = omega (arith, r .ready .small);
+      })
+
+  pub case-rest : CaseAs p index s e i n → (n .b ≡ 65535 → ⊥) → (n .b < i) × ReadyC p index s e (n .b)
+  unfolding boundSC boundUC
+  case-rest r d =
+      let d′ : bAt p i ≡ 65535 → ⊥ = λ q. d (r .fields .b-is ∙ q) in
+      let k = case-next p i (r .ready .node) d′ in
+      let t = case-on p i (r .ready .node) d′ in
+      let b = ap boundSC t in
+      let c = ap boundUC t in (
+        omega (arith, r .fields .b-is, k .less),
+        subst (ReadyC p index s e) (sym (r .fields .b-is))
+            (record { node = k .node; lent = r .ready .lent; small = omega (arith, r .ready .small) }),
+      )
+
+  -- Signal i, to store in its cells.
+  pub placed : {k : ℕ} {s′ : ℕ} → s′ ≡ s → ReadyAs k p index s e i n → Placed k p index s′ i n
+  placed h r =
+      record {
+        node = r .ready .node;
+        table = r .ready .lent .table;
+        cells = omega (arith, r .ready .lent .cells);
+        fields = r .fields;
+        kind = r .kind;
+      }
+
+-- The cell of a node of kind 4, 6 or 7 is in the state.
+pub celled : {p : Bytes} {index : List ℕ} {s i : ℕ} → NodeOf isSignal p i → Indexed p index → stateLength p ≤ s → hasCell (kindAt p i) ≡ true → Celled index s i
+unfolding stateLength cellAt
+celled {p} {index} {s} {i} w x h e =
+    record {
+      listed = omega (arith, w .inside, x .room);
+      room = omega (arith, x .numbers i (w .inside), cell-below p i (w .inside) e, h);
+    }
+
+pub cell-number : {p : Bytes} {index : List ℕ} {i : ℕ} → NodeOf isSignal p i → Indexed p index → getD index i 0 ≡ cellsBefore p i
+cell-number {p} {index} {i} w x = x .numbers i (w .inside)

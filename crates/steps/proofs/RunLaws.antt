@@ -1,0 +1,164 @@
+-- A run, record by record, as a loop over the records goes.
+-- Assumes nothing.
+use mathlib.Core.Path.{_≡_, refl, sym, ap, _∙_}
+use Prim.Native.Nat.{ℕ, zero, suc, _+_, _-_, _*_, _/_, _<_, _≤_}
+use native.Mathlib.Omega.{arith}
+use Rattle.rules.specs.Bytes.{Bytes, writeAt}
+use Rattle.rules.specs.Values.{valueBytes}
+use Rattle.rules.specs.Layout.{inputAt}
+use Rattle.rules.specs.Update.{Made, NotMade, stepOf}
+use Rattle.rules.specs.Calls.{RunOutcome, recordVerdict, runFrom}
+use Rattle.rules.specs.declared.Value.{Value}
+use Rattle.rules.specs.declared.Tally.{Tally}
+use Rattle.rules.specs.declared.Refusal.{Refusal}
+use Rattle.rules.specs.declared.Verdict.the-variants.{Fine, Refuse}
+use Rattle.rules.specs.declared.Ran.{Ran}
+use Rattle.rules.specs.declared.Ran.the-variants.{Finished}
+use borrow.Author.Tests.{ltb-false}
+use Rattle.rules.specs.Layout.{timeIn}
+use Rattle.rules.specs.Bound.{bound}
+use Rattle.rules.specs.WellFormed.{lastMoment}
+use Rattle.rules.specs.Update.{Stepped}
+use Rattle.rules.specs.Calls.{stepVerdict, stepOutcome, totalWrong}
+use Rattle.rules.specs.declared.Verdict.{Verdict}
+use Rattle.rules.proofs.Verdicts.{both-fine, if-fine}
+use Rattle.promises.proofs.Runs.{in-time}
+use mathlib.Core.Bool.{true}
+use mathlib.Core.List.{List}
+use lib.ListN.{length, take, drop, length-take, length-drop}
+use Rattle.rules.specs.WellFormed.{wellFormed}
+use Rattle.rules.specs.Evaluate.{Env}
+use Rattle.rules.proofs.Cells.{length-writeAt}
+use Rattle.promises.proofs.Steps.{well-parts}
+use Rattle.steps.specs.Going.{Going, Taken, Leaves, OnTheWay}
+
+next : (p recs : Bytes) (left done work : ℕ) (st out : Bytes) {v : Value} {st₁ : Bytes} {w : Tally}
+    → recordVerdict p done work st (inputAt recs done) ≡ Fine → stepOf p (inputAt recs done) st ≡ Made v st₁ w
+    → runFrom p recs (suc left) done work st out ≡ runFrom p recs left (suc done) (work + w .work) st₁ (writeAt out (8 * done) (valueBytes v))
+unfolding runFrom
+next p recs left done work st out e f = rw (e, runFrom, f)
+
+stops : (p recs : Bytes) (left done work : ℕ) (st out : Bytes) {r : Refusal}
+    → recordVerdict p done work st (inputAt recs done) ≡ Refuse r
+    → runFrom p recs (suc left) done work st out ≡ record { answer = Ran.Refused r work; state = st; output = out }
+unfolding runFrom
+stops p recs left done work st out e = rw (e, runFrom)
+
+ends : (p recs : Bytes) (done work : ℕ) (st out : Bytes)
+    → runFrom p recs zero done work st out ≡ record { answer = Finished done work; state = st; output = out }
+unfolding runFrom
+ends p recs done work st out = refl
+
+-- the record at a number, with the records left after it
+pub run-next : (p recs : Bytes) (n done work w : ℕ) (st st₁ out out₁ : Bytes) → done < n
+    → recordVerdict p done work st (inputAt recs done) ≡ Fine → Taken p (inputAt recs done) st st₁ out out₁ (8 * done) w
+    → runFrom p recs (n - done) done work st out ≡ runFrom p recs (n - (done + 1)) (done + 1) (work + w) st₁ out₁
+run-next p recs n done work w st st₁ out out₁ h e t =
+    let a : n - done ≡ suc (n - (done + 1)) = omega arith in
+    let b : suc done ≡ done + 1 = omega arith in
+    ap (λ (k : ℕ). runFrom p recs k done work st out) a
+    ∙ next p recs (n - (done + 1)) done work st out e (t .made)
+    ∙ (λ i. runFrom p recs (n - (done + 1)) (b i) (work + sym (t .worked) i) st₁ (sym (t .shown) i))
+
+pub run-stops : (p recs : Bytes) (n done work : ℕ) (st out : Bytes) {r : Refusal} → done < n
+    → recordVerdict p done work st (inputAt recs done) ≡ Refuse r
+    → runFrom p recs (n - done) done work st out ≡ record { answer = Ran.Refused r work; state = st; output = out }
+run-stops p recs n done work st out h e =
+    let a : n - done ≡ suc (n - (done + 1)) = omega arith in
+    ap (λ (k : ℕ). runFrom p recs k done work st out) a ∙ stops p recs (n - (done + 1)) done work st out e
+
+pub run-ends : (p recs : Bytes) (n done work : ℕ) (st out : Bytes) → n ≤ done
+    → runFrom p recs (n - done) done work st out ≡ record { answer = Finished done work; state = st; output = out }
+run-ends p recs n done work st out h =
+    let a : n - done ≡ 0 = omega arith in
+    ap (λ (k : ℕ). runFrom p recs k done work st out) a ∙ ends p recs done work st out
+
+-- a record that is not refused: its time is not too large, and the total stays in 32 bits
+pub step-in-time : (st rec : Bytes) → stepVerdict st rec ≡ Fine → timeIn rec ≤ lastMoment
+unfolding stepVerdict
+step-in-time st rec e = in-time rec (if-fine _ _ (both-fine _ _ e .0))
+
+pub record-in-time : (p : Bytes) (done work : ℕ) (st rec : Bytes) → recordVerdict p done work st rec ≡ Fine → timeIn rec ≤ lastMoment
+unfolding recordVerdict
+record-in-time p done work st rec e = in-time rec (if-fine _ _ (both-fine _ _ e .0))
+
+pub total-fits : (p : Bytes) (done work : ℕ) (st rec : Bytes) → recordVerdict p done work st rec ≡ Fine → work + bound p ≤ 4294967295
+unfolding recordVerdict totalWrong
+total-fits p done work st rec e = ltb-false _ _ (if-fine _ _ (both-fine _ _ (both-fine _ _ e .1) .0))
+
+-- what a step leaves, refused or made
+pub step-refused : (st out : Bytes) (s : Stepped) (v : Verdict) {r : Refusal} → v ≡ Refuse r → Leaves (stepOutcome st out v s) (Ran.Refused r 0) st out
+unfolding stepOutcome
+step-refused st out s v e = rw e (record { answer-is = refl; state-is = refl; output-is = refl })
+
+pub step-finished : (p rec st st₁ out out₁ : Bytes) (v : Verdict) {w : ℕ} → v ≡ Fine → Taken p rec st st₁ out out₁ 0 w
+    → Leaves (stepOutcome st out v (stepOf p rec st)) (Finished 1 w) st₁ out₁
+unfolding stepOutcome
+step-finished p rec st st₁ out out₁ v e t =
+    rw (e, t .made) (record { answer-is = ap (Finished 1) (t .worked); state-is = refl; output-is = t .shown })
+
+-- the record at a number, as the part of the records that is lent
+slice-is : (recs : Bytes) (done : ℕ) → take (40 * done + 40 - 40 * done) (drop (40 * done) recs) ≡ inputAt recs done
+unfolding inputAt
+slice-is recs done =
+    let e : 40 * done + 40 - 40 * done ≡ 40 = omega arith in
+    ap (λ (k : ℕ). take k (drop (40 * done) recs)) e
+
+pub slice-long : (recs : Bytes) (done : ℕ) → done < length recs / 40 → 40 ≤ length (take (40 * done + 40 - 40 * done) (drop (40 * done) recs))
+slice-long recs done h = simp (length-take, length-drop) (omega arith)
+
+-- two well-formed states are of one length
+pub one-length : (p st st₁ : Bytes) → wellFormed p st ≡ true → wellFormed p st₁ ≡ true → length st ≡ length st₁
+one-length p st st₁ e f = well-parts p st e .long ∙ sym (well-parts p st₁ f .long)
+
+-- a run on its way, at its next record: it goes on, stops, or has come to its end
+module _ {p : Bytes} {index : List ℕ} {recs st₀ out₀ st : Bytes} {env : Env} {out : Bytes} {count left done work : ℕ}
+    (w : OnTheWay p index recs st₀ out₀ st env out count left done work) where
+  module _ (h : done < left) {v : Verdict} (e : v ≡ recordVerdict p done work st (take (40 * done + 40 - 40 * done) (drop (40 * done) recs))) where
+    judged : v ≡ recordVerdict p done work st (inputAt recs done)
+    judged = e ∙ ap (recordVerdict p done work st) (slice-is recs done)
+
+    pub goes-on : v ≡ Fine → {st₁ out₁ : Bytes} {n : ℕ}
+        → Taken p (take (40 * done + 40 - 40 * done) (drop (40 * done) recs)) st st₁ out out₁ (8 * done) n → {env₁ : Env} → env₁ ≡ env
+        → OnTheWay p index recs st₀ out₀ st₁ env₁ out₁ count left (done + 1) (work + n)
+    goes-on f {st₁} {out₁} {n} t q =
+        let fine : recordVerdict p done work st (inputAt recs done) ≡ Fine = sym judged ∙ f in
+        let t₁ : Taken p (inputAt recs done) st st₁ out out₁ (8 * done) n = rw (slice-is recs done) at t in
+        record {
+          going = record {
+            accepted = w .going .accepted;
+            indexed = w .going .indexed;
+            counted = w .going .counted;
+            well = t .well;
+            blank = q ∙ w .going .blank;
+          };
+          all = w .all;
+          within = omega arith;
+          fits = omega (arith, total-fits p done work st (inputAt recs done) fine, t .within);
+          room = ap length (t .shown) ∙ length-writeAt (valueBytes (t .output)) out (8 * done) ∙ w .room;
+          same = sym (run-next p recs left done work n st st₁ out out₁ h fine t₁) ∙ w .same;
+        }
+
+    pub stopped : {r : Refusal} → v ≡ Refuse r → Leaves (runFrom p recs left 0 0 st₀ out₀) (Ran.Refused r work) st out
+    stopped f =
+        let s = sym (w .same) ∙ run-stops p recs left done work st out h (sym judged ∙ f) in
+        rw s (record { answer-is = refl; state-is = refl; output-is = refl })
+
+  pub ended : left ≤ done → Leaves (runFrom p recs left 0 0 st₀ out₀) (Finished done work) st out
+  ended h =
+      let s = sym (w .same) ∙ run-ends p recs left done work st out h in
+      rw s (record { answer-is = refl; state-is = refl; output-is = refl })
+
+-- at its beginning
+pub begun : (p : Bytes) (index : List ℕ) (recs st : Bytes) (env : Env) (out : Bytes) (count : ℕ) → Going p index st env count
+    → OnTheWay p index recs st out st env out count (length recs / 40) 0 0
+begun p index recs st env out count g =
+    let e : length recs / 40 - 0 ≡ length recs / 40 = omega arith in
+    record {
+      going = g;
+      all = refl;
+      within = omega arith;
+      fits = omega arith;
+      room = refl;
+      same = ap (λ (k : ℕ). runFrom p recs k 0 0 st out) e;
+    }

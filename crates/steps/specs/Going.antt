@@ -1,0 +1,53 @@
+-- What a step and a run stand on, and what they leave.
+-- Assumes nothing: these are definitions.
+use mathlib.Core.Path.{_≡_}
+use mathlib.Core.Bool.{true}
+use mathlib.Core.List.{List}
+use Prim.Native.Nat.{ℕ, _-_, _/_, _≤_}
+use lib.ListN.{length}
+use Rattle.rules.specs.Bytes.{Bytes, writeAt}
+use Rattle.rules.specs.Values.{valueBytes}
+use Rattle.rules.specs.Layout.{nodes, mostNodes, inputLength}
+use Rattle.rules.specs.Bound.{bound}
+use Rattle.rules.specs.Accepted.{Accepted}
+use Rattle.rules.specs.WellFormed.{wellFormed}
+use Rattle.rules.specs.Evaluate.{Env, unbound}
+use Rattle.rules.specs.Update.{Made, stepOf}
+use Rattle.rules.specs.Calls.{RunOutcome, runFrom}
+use Rattle.rules.specs.declared.Value.{Value}
+use Rattle.rules.specs.declared.Tally.{Tally}
+use Rattle.rules.specs.declared.Ran.{Ran}
+use Rattle.cells.specs.Indexed.{Indexed}
+
+-- An accepted program of so many nodes with its table of cells, a well-formed state, and a scratch in which nothing is bound.
+pub record Going (p : Bytes) (index : List ℕ) (st : Bytes) (env : Env) (count : ℕ) : Type 0 where
+  pub accepted : Accepted p
+  pub indexed : Indexed p index
+  pub counted : count ≡ nodes p
+  pub well : wellFormed p st ≡ true
+  pub blank : env ≡ unbound mostNodes
+
+-- A step made, from state st to st₁, with its value written into the output room at a place, and so much work.
+pub record Taken (p rec st st₁ out out₁ : Bytes) (place work : ℕ) : Type 0 where
+  pub output : Value
+  pub tally : Tally
+  pub made : stepOf p rec st ≡ Made output st₁ tally
+  pub shown : out₁ ≡ writeAt out place (valueBytes output)
+  pub worked : work ≡ tally .work
+  pub well : wellFormed p st₁ ≡ true
+  pub within : work ≤ bound p
+
+-- The answer, state and output room of an outcome.
+pub record Leaves (o : RunOutcome) (answer : Ran) (st out : Bytes) : Type 0 where
+  pub answer-is : answer ≡ o .answer
+  pub state-is : st ≡ o .state
+  pub output-is : out ≡ o .output
+
+-- A run on its way: so many of its records are done, with so much work, and what is left to do from here is what the run began with.
+pub record OnTheWay (p : Bytes) (index : List ℕ) (recs st₀ out₀ st : Bytes) (env : Env) (out : Bytes) (count left done work : ℕ) : Type 0 where
+  pub going : Going p index st env count
+  pub all : left ≡ length recs / inputLength
+  pub within : done ≤ left
+  pub fits : work ≤ 4294967295
+  pub room : length out ≡ length out₀
+  pub same : runFrom p recs (left - done) done work st out ≡ runFrom p recs left 0 0 st₀ out₀

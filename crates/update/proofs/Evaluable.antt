@@ -1,0 +1,19 @@
+-- A part that is to be updated and evaluated may be evaluated.
+-- Assumes nothing.
+use mathlib.Core.List.{List}
+use Prim.Native.Nat.{ℕ}
+use lib.ListN.{length}
+use Rattle.rules.specs.Bytes.{Bytes}
+use Rattle.rules.specs.Evaluate.{Env}
+use Rattle.moves.proofs.ReadyLaws.{Seen}
+use Rattle.evaluate.specs.Ready.{ReadyS}
+
+pub evaluable : {p : Bytes} {index : List ℕ} (st : Bytes) (env : Env) {i x : ℕ} → Seen p index (length st) (length env) i x → ReadyS p index st env x
+evaluable st env k =
+    record {
+      node = k .ready .node;
+      indexed = k .ready .lent .table;
+      state = k .ready .lent .cells;
+      room = k .ready .lent .room;
+      small = k .small;
+    }

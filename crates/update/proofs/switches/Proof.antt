@@ -1,0 +1,36 @@
+use Rattle.evaluate.proofs.SignalLaws.{switch-cell}
+use Rattle.moves.proofs.ReadyLaws.{celled, cell-number}
+use Rattle.rules.specs.Layout.{hold}
+use Rattle.rules.specs.Reset.{resetS}
+use Rattle.rules.specs.Tree.{signalAt}
+use Rattle.rules.proofs.Signals.{switch-kids}
+use Rattle.rules.proofs.Kids.{read}
+use Prim.Native.Nat.{ℕ}
+use mathlib.Core.Path.{ap, _∙_}
+use native.Mathlib.Omega.{arith}
+use Rattle.update.proofs.switches.Statement.{statement}
+use Rattle.update.proofs.switches.Tie as tie
+
+-- src/lib.rt:79:5
+hold-requires : tie.Need-hold-requires
+hold-requires c κs = celled (c .before .before .before .before .pre .node) (c .before .before .before .before .pre .table) (c .before .before .before .before .pre .cells) (switch-cell (c .before .before .before .before .pre .kind))
+
+-- src/lib.rt:80:5
+reset-s-requires : tie.Need-reset-s-requires
+reset-s-requires c κs = record { node = read (c .before .before .before .before .before .before .before .before .pre .fields .a-is) (switch-kids (c .before .before .before .before .before .before .before .before .args .p .now) (c .before .before .before .before .before .before .before .before .args .i) (c .before .before .before .before .before .before .before .before .pre .node) (c .before .before .before .before .before .before .before .before .pre .kind) .0) .node; indexed = c .before .before .before .before .before .before .before .before .pre .table; enough = omega (arith, c .before .before .before .before .before .before .before .before .pre .cells, c .before .before .before .hold .kept .1 .0) }
+
+-- src/lib.rt:81:5
+reset-s-requires-2 : tie.Need-reset-s-requires-2
+reset-s-requires-2 c κs = record { node = read (c .before .before .before .before .before .before .before .before .before .before .before .before .pre .fields .c-is) (switch-kids (c .before .before .before .before .before .before .before .before .before .before .before .before .args .p .now) (c .before .before .before .before .before .before .before .before .before .before .before .before .args .i) (c .before .before .before .before .before .before .before .before .before .before .before .before .pre .node) (c .before .before .before .before .before .before .before .before .before .before .before .before .pre .kind) .2) .node; indexed = c .before .before .before .before .before .before .before .before .before .before .before .before .pre .table; enough = omega (arith, c .before .before .before .before .before .before .before .before .before .before .before .before .pre .cells, c .before .before .before .before .before .before .before .hold .kept .1 .0, c .before .before .before .reset-s .kept .1 .1 .0) }
+
+-- src/lib.rt:75:1
+same-length : tie.Need-same-length
+same-length c = c .before .before .reset-s2 .kept .1 .1 .0 ∙ c .before .before .before .before .before .before .reset-s .kept .1 .1 .0 ∙ c .before .before .before .before .before .before .before .before .before .before .hold .kept .1 .0
+
+-- src/lib.rt:75:1
+returns : tie.Need-returns
+returns c = c .before .before .reset-s2 .ensures ∙ λ x. resetS (signalAt (c .before .before .before .before .before .before .before .before .before .before .before .before .before .before .before .args .p .now) (c .before .before .before .before .before .before .before .before .before .before .before .before .before .before .before .pre .fields .c-is x)) ((c .before .before .before .before .before .before .reset-s .ensures ∙ λ y. resetS (signalAt (c .before .before .before .before .before .before .before .before .before .before .before .before .before .before .before .args .p .now) (c .before .before .before .before .before .before .before .before .before .before .before .before .before .before .before .pre .fields .a-is y)) ((c .before .before .before .before .before .before .before .before .before .before .hold .ensures ∙ ap (λ (k : ℕ). hold (c .before .before .before .before .before .before .before .before .before .before .before .before .before .before .before .args .st .now) k (c .before .before .before .before .before .before .before .before .before .before .before .before .before .before .before .args .v)) (cell-number (c .before .before .before .before .before .before .before .before .before .before .before .before .before .before .before .pre .node) (c .before .before .before .before .before .before .before .before .before .before .before .before .before .before .before .pre .table))) y)) x)
+
+pub switches-spec : {M : Type 1} → statement M
+switches-spec =
+    tie.close (tie.spec hold-requires reset-s-requires reset-s-requires-2 same-length returns)

@@ -1,0 +1,336 @@
+// Update: a signal goes one step on, in place on the lent state. The values of variables stand in lent slots, set and put back.
+ghost use mathlib.Core.Path.{_≡_};
+ghost use Prim.Native.Nat.{_<_};
+ghost use lib.ListN.{length};
+ghost use Rattle.rules.specs.Layout.{aAt, bAt, cellsBefore};
+ghost use Rattle.rules.specs.Tree.{signalAt, branchesAt, casesAt};
+ghost use Rattle.rules.specs.Work.{moved, stays, ruleᵘ};
+ghost use Rattle.rules.specs.Evaluate.{bind};
+ghost use Rattle.rules.specs.Update.{caught, updS};
+ghost use Rattle.moves.specs.Outcomes.{workOf, occurred, walked, walkedOn, nextCases};
+ghost use Rattle.moves.specs.Parts.{inSwitch, switched, inGroup, entered};
+ghost use Rattle.moves.specs.Lent.{Ready, ReadyAs, Placed, ReadyC, CaseAs};
+use branches::has_branch;
+use evaluate::branch_in;
+use evaluate::content;
+use evaluate::eval_s;
+use moves::Calm;
+use moves::after;
+use moves::hold;
+use moves::hold_branch;
+use moves::later;
+use moves::quiet_after;
+use moves::ruled;
+use moves::settled;
+use moves::stay;
+use moves::target_of;
+use moves::walk_after;
+use rules::Evaluated;
+use rules::Moved;
+use rules::Node;
+use rules::Occurrence;
+use rules::Tally;
+use rules::Value;
+use state::reset_b;
+use state::reset_s;
+use table::fields;
+use values::Event;
+use values::Parts;
+use values::apart;
+use values::pack;
+use values::unpack;
+
+// Switch i catches the value v: all cells of first and second go to start.
+fn switches(p: &[u8], index: &[u16], st: &mut [u8], i: usize, n: Node, v: Value)
+    requires { ⌜ Placed 6 (now p) (now index) (length (now st)) i n ⌝ }
+    ensures { λ _. ⌜ now (st .exit) ≡ switched (now (p .entry)) i (now (st .entry)) v ⌝ }
+{
+    hold(index, st, i, v);
+    reset_s(p, index, st, n.a);
+    reset_s(p, index, st, n.c);
+}
+
+// Group i takes the branch and the value v: all cells below it go to start.
+fn enters(p: &[u8], index: &[u16], st: &mut [u8], i: usize, n: Node, which: usize, v: Value)
+    requires { ⌜ Placed 7 (now p) (now index) (length (now st)) i n × (which < 65536) ⌝ }
+    ensures { λ _. ⌜ now (st .exit) ≡ entered (now (p .entry)) i (now (st .entry)) which v ⌝ }
+{
+    hold_branch(index, st, i, which, v);
+    reset_s(p, index, st, n.a);
+    reset_b(p, index, st, n.b);
+}
+
+// The outcome of group i, by one rule: a jump to one of its branches is caught, another goes on up.
+fn catches(p: &[u8], index: &[u16], st: &mut [u8], i: usize, n: Node, r: Moved) -> Moved
+    requires { ⌜ Placed 7 (now p) (now index) (length (now st)) i n × (workOf r < 4294967296) ⌝ }
+    ensures { λ s. ⌜ moved s (now (st .exit)) ≡ ruleᵘ (caught (cellsBefore (now (p .entry)) i) (signalAt (now (p .entry)) (aAt (now (p .entry)) i)) (branchesAt (now (p .entry)) (bAt (now (p .entry)) i)) (moved r (now (st .entry)))) ⌝ }
+{
+    match r {
+        Moved::Stay(_) => ruled(r),
+        Moved::Jump(target, v, w) => {
+            let which = target as usize;
+            if has_branch(p, n.b, which) {
+                enters(p, index, st, i, n, which, v);
+                return ruled(Moved::Stay(w));
+            }
+            ruled(r)
+        }
+        Moved::Stuck => ruled(r),
+    }
+}
+
+// Signal i goes one step on. Input, time and ext do nothing.
+pub fn update_s(
+    p: &[u8],
+    index: &[u16],
+    rec: &[u8],
+    st: &mut [u8],
+    env: &mut [u64],
+    i: usize,
+) -> Moved
+    requires { ⌜ Ready (now p) (now index) (length (now st)) (length (now env)) i ⌝ }
+    ensures { λ r. ⌜ (moved r (now (st .exit)) ≡ updS (now (rec .entry)) (now (env .entry)) (signalAt (now (p .entry)) i) (now (st .entry))) × (now (env .exit) ≡ now (env .entry)) ⌝ }
+{
+    let n = fields(p, i);
+    let k = n.kind;
+    match k {
+        4 => update_delay(p, index, rec, st, env, i, n),
+        5 => update_let(p, index, rec, st, env, i, n),
+        6 => update_switch(p, index, rec, st, env, i, n),
+        7 => update_group(p, index, rec, st, env, i, n),
+        8 => update_until(p, index, rec, st, env, i, n),
+        _ => Moved::Stay(Tally { work: 1 }),
+    }
+}
+
+// Signal k with the value v in slot i, which is then put back.
+fn inside(
+    p: &[u8],
+    index: &[u16],
+    rec: &[u8],
+    st: &mut [u8],
+    env: &mut [u64],
+    i: usize,
+    v: Value,
+    k: usize,
+) -> Moved
+    requires { ⌜ Ready (now p) (now index) (length (now st)) (length (now env)) k × (i < length (now env)) ⌝ }
+    ensures { λ r. ⌜ (moved r (now (st .exit)) ≡ updS (now (rec .entry)) (bind (now (env .entry)) i v) (signalAt (now (p .entry)) k) (now (st .entry))) × (now (env .exit) ≡ now (env .entry)) ⌝ }
+{
+    let old = env[i];
+    env[i] = pack(v);
+    let r = update_s(p, index, rec, st, env, k);
+    env[i] = old;
+    r
+}
+
+// A delay evaluates its signal, updates it, then holds that value.
+fn update_delay(
+    p: &[u8],
+    index: &[u16],
+    rec: &[u8],
+    st: &mut [u8],
+    env: &mut [u64],
+    i: usize,
+    n: Node,
+) -> Moved
+    requires { ⌜ ReadyAs 4 (now p) (now index) (length (now st)) (length (now env)) i n ⌝ }
+    ensures { λ r. ⌜ (moved r (now (st .exit)) ≡ updS (now (rec .entry)) (now (env .entry)) (signalAt (now (p .entry)) i) (now (st .entry))) × (now (env .exit) ≡ now (env .entry)) ⌝ }
+{
+    let e = eval_s(p, index, rec, st, env, n.a);
+    let Evaluated::Done(v, u) = e else {
+        return Moved::Stuck;
+    };
+    let r = update_s(p, index, rec, st, env, n.a);
+    let Calm::Still(w) = settled(r) else {
+        return Moved::Stuck;
+    };
+    hold(index, st, i, v);
+    later(u, w, Moved::Stay(Tally { work: 0 }))
+}
+
+// A let evaluates its definition, binds, updates the definition, then the body.
+fn update_let(
+    p: &[u8],
+    index: &[u16],
+    rec: &[u8],
+    st: &mut [u8],
+    env: &mut [u64],
+    i: usize,
+    n: Node,
+) -> Moved
+    requires { ⌜ ReadyAs 5 (now p) (now index) (length (now st)) (length (now env)) i n ⌝ }
+    ensures { λ r. ⌜ (moved r (now (st .exit)) ≡ updS (now (rec .entry)) (now (env .entry)) (signalAt (now (p .entry)) i) (now (st .entry))) × (now (env .exit) ≡ now (env .entry)) ⌝ }
+{
+    let e = eval_s(p, index, rec, st, env, n.a);
+    let Evaluated::Done(v, u) = e else {
+        return Moved::Stuck;
+    };
+    let d = inside(p, index, rec, st, env, i, v, n.a);
+    let Calm::Still(w) = settled(d) else {
+        return Moved::Stuck;
+    };
+    let b = inside(p, index, rec, st, env, i, v, n.b);
+    later(u, w, b)
+}
+
+// A switch evaluates and updates its event; if it is present, the switch catches the value, else it updates the current part.
+fn update_switch(
+    p: &[u8],
+    index: &[u16],
+    rec: &[u8],
+    st: &mut [u8],
+    env: &mut [u64],
+    i: usize,
+    n: Node,
+) -> Moved
+    requires { ⌜ ReadyAs 6 (now p) (now index) (length (now st)) (length (now env)) i n ⌝ }
+    ensures { λ r. ⌜ (moved r (now (st .exit)) ≡ updS (now (rec .entry)) (now (env .entry)) (signalAt (now (p .entry)) i) (now (st .entry))) × (now (env .exit) ≡ now (env .entry)) ⌝ }
+{
+    let e = eval_s(p, index, rec, st, env, n.b);
+    let Parts::Maybe(event, u) = apart(e) else {
+        return Moved::Stuck;
+    };
+    let r = update_s(p, index, rec, st, env, n.b);
+    let Calm::Still(w) = settled(r) else {
+        return Moved::Stuck;
+    };
+    let Event::Occurs(v) = event else {
+        let q = in_switch(p, index, rec, st, env, i, n);
+        return later(u, w, stay(q));
+    };
+    switches(p, index, st, i, n, v);
+    later(u, w, Moved::Stay(Tally { work: 0 }))
+}
+
+// The current part of a switch: first until it has switched, then second, its variable bound.
+fn in_switch(
+    p: &[u8],
+    index: &[u16],
+    rec: &[u8],
+    st: &mut [u8],
+    env: &mut [u64],
+    i: usize,
+    n: Node,
+) -> Moved
+    requires { ⌜ ReadyAs 6 (now p) (now index) (length (now st)) (length (now env)) i n ⌝ }
+    ensures { λ r. ⌜ (moved r (now (st .exit)) ≡ inSwitch (now (p .entry)) i (now (rec .entry)) (now (env .entry)) (now (st .entry))) × (now (env .exit) ≡ now (env .entry)) ⌝ }
+{
+    let m = content(index, st, i);
+    if m == 0 {
+        let first = n.a;
+        return update_s(p, index, rec, st, env, first);
+    }
+    inside(p, index, rec, st, env, i, unpack(m), n.c)
+}
+
+// A let continue updates its current part; a jump to one of its branches is caught.
+fn update_group(
+    p: &[u8],
+    index: &[u16],
+    rec: &[u8],
+    st: &mut [u8],
+    env: &mut [u64],
+    i: usize,
+    n: Node,
+) -> Moved
+    requires { ⌜ ReadyAs 7 (now p) (now index) (length (now st)) (length (now env)) i n ⌝ }
+    ensures { λ r. ⌜ (moved r (now (st .exit)) ≡ updS (now (rec .entry)) (now (env .entry)) (signalAt (now (p .entry)) i) (now (st .entry))) × (now (env .exit) ≡ now (env .entry)) ⌝ }
+{
+    let r = in_group(p, index, rec, st, env, i, n);
+    catches(p, index, st, i, n, r)
+}
+
+// The current part of a group: its body, or the branch that its cell names, the argument bound.
+fn in_group(
+    p: &[u8],
+    index: &[u16],
+    rec: &[u8],
+    st: &mut [u8],
+    env: &mut [u64],
+    i: usize,
+    n: Node,
+) -> Moved
+    requires { ⌜ ReadyAs 7 (now p) (now index) (length (now st)) (length (now env)) i n ⌝ }
+    ensures { λ r. ⌜ (moved r (now (st .exit)) ≡ inGroup (now (p .entry)) i (now (rec .entry)) (now (env .entry)) (now (st .entry))) × (now (env .exit) ≡ now (env .entry)) ⌝ }
+{
+    let m = content(index, st, i);
+    if m == 0 {
+        return update_s(p, index, rec, st, env, n.a);
+    }
+    let which = branch_in(m);
+    if has_branch(p, n.b, which) {
+        let branch = fields(p, which);
+        return inside(p, index, rec, st, env, which, unpack(m), branch.a);
+    }
+    Moved::Stuck
+}
+
+// An until jumps by the first present event; if none is present, events and signal are updated.
+fn update_until(
+    p: &[u8],
+    index: &[u16],
+    rec: &[u8],
+    st: &mut [u8],
+    env: &mut [u64],
+    i: usize,
+    n: Node,
+) -> Moved
+    requires { ⌜ ReadyAs 8 (now p) (now index) (length (now st)) (length (now env)) i n ⌝ }
+    ensures { λ r. ⌜ (moved r (now (st .exit)) ≡ updS (now (rec .entry)) (now (env .entry)) (signalAt (now (p .entry)) i) (now (st .entry))) × (now (env .exit) ≡ now (env .entry)) ⌝ }
+{
+    let o = walk(p, index, rec, st, env, n.b);
+    match o {
+        Occurrence::Took(target, v, u) => ruled(Moved::Jump(target, v, u)),
+        Occurrence::Quiet(u) => {
+            let r = update_s(p, index, rec, st, env, n.a);
+            ruled(after(u, stay(r)))
+        }
+        Occurrence::Stuck => Moved::Stuck,
+    }
+}
+
+// The cases from case j on: events in list order up to the first present one.
+fn walk(p: &[u8], index: &[u16], rec: &[u8], st: &mut [u8], env: &mut [u64], j: usize) -> Occurrence
+    requires { ⌜ ReadyC (now p) (now index) (length (now st)) (length (now env)) j ⌝ }
+    ensures { λ r. ⌜ (occurred r (now (st .exit)) ≡ walked (now (rec .entry)) (now (env .entry)) (casesAt (now (p .entry)) j) (now (st .entry))) × (now (env .exit) ≡ now (env .entry)) ⌝ }
+{
+    let n = fields(p, j);
+    let e = eval_s(p, index, rec, st, env, n.a);
+    let Parts::Maybe(event, u) = apart(e) else {
+        return Occurrence::Stuck;
+    };
+    let Event::Occurs(v) = event else {
+        let rest = walk_on(p, index, rec, st, env, j, n);
+        return walk_after(u, rest);
+    };
+    Occurrence::Took(target_of(p, j), v, u)
+}
+
+// The cases after case j, whose event is absent; where none is present, the event is updated on the way back.
+fn walk_on(
+    p: &[u8],
+    index: &[u16],
+    rec: &[u8],
+    st: &mut [u8],
+    env: &mut [u64],
+    j: usize,
+    n: Node,
+) -> Occurrence
+    requires { ⌜ CaseAs (now p) (now index) (length (now st)) (length (now env)) j n ⌝ }
+    ensures { λ r. ⌜ (occurred r (now (st .exit)) ≡ walkedOn (walked (now (rec .entry)) (now (env .entry)) (nextCases (now (p .entry)) j) (now (st .entry))) (λ s. stays (updS (now (rec .entry)) (now (env .entry)) (signalAt (now (p .entry)) (aAt (now (p .entry)) j)) s))) × (now (env .exit) ≡ now (env .entry)) ⌝ }
+{
+    if n.b == 65535 {
+        let last = update_s(p, index, rec, st, env, n.a);
+        return quiet_after(Tally { work: 0 }, last);
+    }
+    let rest = walk(p, index, rec, st, env, n.b);
+    match rest {
+        Occurrence::Took(_, _, _) => rest,
+        Occurrence::Quiet(w) => {
+            let r = update_s(p, index, rec, st, env, n.a);
+            quiet_after(w, r)
+        }
+        Occurrence::Stuck => rest,
+    }
+}

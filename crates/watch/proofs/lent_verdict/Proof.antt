@@ -1,0 +1,56 @@
+use Rattle.watch.specs.Lent.{lentRest}
+use mathlib.Core.Path.{_≡_, refl, sym, ap, _∙_}
+use borrow.Author.Needs.{needs}
+use Rattle.watch.proofs.lent_verdict.Statement.{statement}
+use Rattle.watch.proofs.lent_verdict.Tie as tie
+use Rattle.watch.proofs.lent_verdict.Reads as reads
+use Rattle.watch.proofs.lent_verdict.Lts as lts
+use Rattle.answers.proofs.otherwise.Reads as otherwise-reads
+use Rattle.answers.proofs.refuse_if.Reads as refuse-if-reads
+use Rattle.well.proofs.well_formed.Reads as well-formed-reads
+
+-- src/lib.rt:103:9
+well-formed-requires : tie.Need-well-formed-requires
+well-formed-requires c κs = c .before .before .before .before .before .pre
+
+-- src/lib.rt:104:9
+refuse-if-requires : tie.Need-refuse-if-requires
+refuse-if-requires c κs = search needs
+
+-- src/lib.rt:105:9
+refuse-if-requires-2 : tie.Need-refuse-if-requires-2
+refuse-if-requires-2 c κs = search needs
+
+-- src/lib.rt:106:41
+mul-refuse-if : tie.Need-mul-refuse-if
+mul-refuse-if c = search needs
+
+-- src/lib.rt:106:9
+refuse-if-requires-3 : tie.Need-refuse-if-requires-3
+refuse-if-requires-3 c κs = search needs
+
+-- src/lib.rt:107:22
+otherwise-requires : tie.Need-otherwise-requires
+otherwise-requires c κs = search needs
+
+-- src/lib.rt:107:5
+otherwise-requires-2 : tie.Need-otherwise-requires-2
+otherwise-requires-2 c κs = search needs
+
+-- src/lib.rt:99:1
+returns : tie.Need-returns
+unfolding lentRest
+returns c = cc
+
+pub lent-verdict-spec : {M : Type 1} → statement M
+lent-verdict-spec =
+    tie.close
+    (tie.spec
+    well-formed-requires
+    refuse-if-requires
+    refuse-if-requires-2
+    mul-refuse-if
+    refuse-if-requires-3
+    otherwise-requires
+    otherwise-requires-2
+    returns)

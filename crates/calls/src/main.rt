@@ -126,6 +126,7 @@ fn serve(
     feed::flush(out, full);
 }
 
+// The memory of one request at a time, and the pieces of input and output.
 fn main() {
     let mut input = io::large_buffer();
     let mut program = io::large_buffer();

@@ -11,6 +11,7 @@ struct Sizes {
     room: usize,
 }
 
+// The lengths that a request's header says; none where it has no such memory.
 fn lengths(request: Request) -> Sizes {
     match request {
         Request::Check(p) => Sizes {

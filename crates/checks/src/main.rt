@@ -99,6 +99,7 @@ fn serve(input: &mut [u8], program: &mut [u8], output: &mut [u8]) {
     feed::flush(output, full);
 }
 
+// The program of one request at a time, and the pieces of input and output.
 fn main() {
     let mut input = io::large_buffer();
     let mut program = io::large_buffer();

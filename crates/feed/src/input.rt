@@ -4,6 +4,7 @@ ghost use mathlib.Core.Path.{_≡_};
 ghost use lib.ListN.{length, take};
 ghost use Rattle.io.specs.Counts.{Counts};
 use crate::Filled;
+use crate::Got;
 use crate::Line;
 use crate::Place;
 
@@ -21,6 +22,7 @@ fn refilled(place: Place, buffer: &mut [u8]) -> Place
     Place { at: 0, end: n }
 }
 
+// The smaller of two.
 fn least(a: usize, b: usize) -> usize
     ensures { λ r. ⌜ (r ≤ a) × (r ≤ b) ⌝ }
 {
@@ -39,8 +41,10 @@ fn moved(at: usize, end: usize, buffer: &[u8], room: &mut [u8], done: usize) -> 
     n
 }
 
-// Fills room with the next bytes of the input.
-fn fill_all(place: Place, buffer: &mut [u8], room: &mut [u8]) -> Filled {
+// Fills room with the next bytes of the input: less of it where the input ends.
+fn fill_all(place: Place, buffer: &mut [u8], room: &mut [u8]) -> Got
+    ensures { λ r. ⌜ r .count ≤ length (now (room .exit)) ⌝ }
+{
     let mut at = place.at;
     let mut end = place.end;
     let mut done = 0;
@@ -48,18 +52,18 @@ fn fill_all(place: Place, buffer: &mut [u8], room: &mut [u8]) -> Filled {
         let here = refilled(Place { at: at, end: end }, buffer);
         let n = moved(here.at, here.end, buffer, room, done);
         if n == 0 {
-            return Filled {
+            return Got {
                 place: here,
-                whole: false,
+                count: done,
             };
         }
         at = here.at + n;
         end = here.end;
         done += n;
     }
-    Filled {
+    Got {
         place: Place { at: at, end: end },
-        whole: true,
+        count: done,
     }
 }
 
@@ -71,7 +75,32 @@ pub fn fill(place: Place, buffer: &mut [u8], room: &mut [u8], n: usize) -> Fille
             whole: false,
         };
     }
-    fill_all(place, buffer, &mut room[..n])
+    let got = fill_all(place, buffer, &mut room[..n]);
+    let after = got.place;
+    Filled {
+        place: after,
+        whole: got.count == n,
+    }
+}
+
+// Reads up to n bytes of the input into room from index `from` on; none where room has too little.
+pub fn gather(place: Place, buffer: &mut [u8], room: &mut [u8], from: usize, n: usize) -> Got
+    ensures { λ r. ⌜ r .count ≤ n ⌝ }
+{
+    if from > room.len() {
+        return Got {
+            place: place,
+            count: 0,
+        };
+    }
+    if n > room.len() - from {
+        return Got {
+            place: place,
+            count: 0,
+        };
+    }
+    let to = from + n;
+    fill_all(place, buffer, &mut room[from..to])
 }
 
 // The first n elements of s, or all where it has no more.

@@ -4,6 +4,7 @@ mod output;
 
 pub use input::fill;
 pub use input::first;
+pub use input::gather;
 pub use input::header;
 pub use output::append;
 pub use output::flush;
@@ -25,4 +26,10 @@ pub struct Line {
 pub struct Filled {
     pub place: Place,
     pub whole: bool,
+}
+
+// How many bytes were read, fewer than asked for where the input ended, and what is unread after them.
+pub struct Got {
+    pub place: Place,
+    pub count: usize,
 }

@@ -6,11 +6,10 @@ use mathlib.Core.List.{List, [], _∷_, _++_}
 use native.Mathlib.Nat.{pow-suc, one-le-pow, pow-le-pow-right, lt-of-not-le}
 use native.Mathlib.Omega.{arith}
 use lib.Dec.{ltb}
-use lib.ListN.{length, take, set}
+use lib.ListN.{length, take}
 use borrow.Author.Tests.{lt-ltb, le-ltb}
 use Rattle.io.specs.Digits.{digits, Fewest}
-use Rattle.wire.specs.Text.{decimal, places, field, Put}
-use Rattle.wire.proofs.PutLaws.{stored}
+use Rattle.wire.specs.Text.{decimal, places, Put}
 
 -- what the fewest digits of a number with two or more say of it
 lowest : (n k : ℕ) → Fewest 10 1 n (suc (suc k)) → 10 ^ suc k ≤ n
@@ -52,14 +51,9 @@ short n k w h =
     let lt : k < 11 = lt-of-not-le (λ (le : 11 ≤ k). omega (arith, w .2 (omega arith), pow-le-pow-right {n = 10} (omega arith) {i = 10} {j = k - 1} (omega arith))) in
     omega arith
 
--- the digits of a u32 take at most ten places
-pub field-room : {at here n k : ℕ} {line mid : List ℕ} (digs : List ℕ) → Fewest 10 1 n k → n < 2 ^ 32 → k ≡ length (take k digs) → Put at (take k digs) line mid here → here ≤ at + 10
-field-room {at} {here} {n} {k} digs w h e p = let at-most = short n k w h in let place = p .place in omega arith
-
--- a number in decimal, and the byte that ends it
-pub field-put : {at here n k : ℕ} {line mid : List ℕ} (end : ℕ) (digs : List ℕ) → Fewest 10 1 n k → n < 2 ^ 32 → take k digs ≡ digits 10 k n
-    → Put at (take k digs) line mid here → here < length mid → Put at (field n end) line (set mid here end) (here + 1)
-unfolding field
-field-put {at} {here} {n} {k} {line} {mid} end digs w h e p lt =
+-- the fewest digits of a u32, put into a line, are its decimal
+pub number-put : {at here n k : ℕ} {line mid : List ℕ} (digs : List ℕ) → Fewest 10 1 n k → n < 2 ^ 32 → take k digs ≡ digits 10 k n
+    → Put at (take k digs) line mid here → Put at (decimal n) line mid here
+number-put {at} {here} {n} {k} {line} {mid} digs w h e p =
     let at-most = short n k w h in
-    subst (λ (t : List ℕ). Put at (t ++ (end ∷ [])) line (set mid here end) (here + 1)) (e ∙ decimal-is n k w (omega arith)) (stored end p lt)
+    subst (λ (t : List ℕ). Put at t line mid here) (e ∙ decimal-is n k w (omega arith)) p

@@ -64,15 +64,19 @@ step = 115 ∷ 116 ∷ 101 ∷ 112 ∷ 32 ∷ []
 abbrev pub run : List ℕ
 run = 114 ∷ 117 ∷ 110 ∷ 32 ∷ []
 
+-- check PLEN
 unfoldable pub checkLine : ℕ → List ℕ
 checkLine p = check ++ field p 10
 
+-- start PLEN SLEN
 unfoldable pub startLine : ℕ → ℕ → List ℕ
 startLine p s = start ++ field p 32 ++ field s 10
 
+-- step PLEN SLEN RLEN OLEN
 unfoldable pub stepLine : ℕ → ℕ → ℕ → ℕ → List ℕ
 stepLine p s r o = step ++ field p 32 ++ field s 32 ++ field r 32 ++ field o 10
 
+-- run PLEN SLEN RLEN OLEN
 unfoldable pub runLine : ℕ → ℕ → ℕ → ℕ → List ℕ
 runLine p s r o = run ++ field p 32 ++ field s 32 ++ field r 32 ++ field o 10
 

@@ -56,12 +56,14 @@ fn byte_at(line: &[u8], i: usize) -> u8 {
     0
 }
 
+// A start with the two numbers that stand behind `start `.
 fn guess_start(line: &[u8]) -> Request {
     let p = number(line, 6);
     let s = number(line, p.next);
     Request::Start(p.value, s.value)
 }
 
+// A step with the four numbers that stand behind `step `.
 fn guess_step(line: &[u8]) -> Request {
     let p = number(line, 5);
     let s = number(line, p.next);
@@ -70,6 +72,7 @@ fn guess_step(line: &[u8]) -> Request {
     Request::Step(p.value, s.value, r.value, o.value)
 }
 
+// A run with the four numbers that stand behind `run `.
 fn guess_run(line: &[u8]) -> Request {
     let p = number(line, 4);
     let s = number(line, p.next);

@@ -9,6 +9,7 @@ use crate::guess::guess;
 use crate::text::put;
 use crate::text::put_field;
 
+// The header line of a check, at the start of line; answers its length, as the next three do.
 fn check_header(p: u32, line: &mut [u8; 64]) -> usize
     ensures { λ n. ⌜ Counts n (now (line .exit)) ⌝ }
     ensures { λ n. ⌜ take n (now (line .exit)) ≡ checkLine p ⌝ }
@@ -17,6 +18,7 @@ fn check_header(p: u32, line: &mut [u8; 64]) -> usize
     put_field(p, b'\n', line, a)
 }
 
+// The header line of a start.
 fn start_header(p: u32, s: u32, line: &mut [u8; 64]) -> usize
     ensures { λ n. ⌜ Counts n (now (line .exit)) ⌝ }
     ensures { λ n. ⌜ take n (now (line .exit)) ≡ startLine p s ⌝ }
@@ -26,6 +28,7 @@ fn start_header(p: u32, s: u32, line: &mut [u8; 64]) -> usize
     put_field(s, b'\n', line, b)
 }
 
+// The header line of a step.
 fn step_header(p: u32, s: u32, r: u32, o: u32, line: &mut [u8; 64]) -> usize
     ensures { λ n. ⌜ Counts n (now (line .exit)) ⌝ }
     ensures { λ n. ⌜ take n (now (line .exit)) ≡ stepLine p s r o ⌝ }
@@ -37,6 +40,7 @@ fn step_header(p: u32, s: u32, r: u32, o: u32, line: &mut [u8; 64]) -> usize
     put_field(o, b'\n', line, d)
 }
 
+// The header line of a run.
 fn run_header(p: u32, s: u32, r: u32, o: u32, line: &mut [u8; 64]) -> usize
     ensures { λ n. ⌜ Counts n (now (line .exit)) ⌝ }
     ensures { λ n. ⌜ take n (now (line .exit)) ≡ runLine p s r o ⌝ }

@@ -10,6 +10,9 @@ pub use answer::ran_line;
 pub use answer::started_line;
 pub use digits::hex;
 pub use header::request_of;
+pub use text::put;
+pub use text::put_field;
+pub use text::put_number;
 
 // A request by its header line: the call and the lengths of its lent memory.
 pub enum Request {

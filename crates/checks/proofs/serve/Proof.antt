@@ -1,13 +1,9 @@
--- `checks::serve` is safe and ends: the turns that are left fall. Assumes nothing.
+-- `checks::serve` meets its contract: the turns that are left fall. Assumes nothing.
 use mathlib.Core.Path.{_≡_}
 use lib.ListN.{length}
 use borrow.Author.Needs.{needs}
 use Rattle.checks.proofs.serve.Statement.{statement}
 use Rattle.checks.proofs.serve.Tie as tie
-use Rattle.checks.proofs.serve.Reads as reads
-use Rattle.checks.proofs.serve.Lts as lts
-use Rattle.checks.proofs.turn.Reads as turn-reads
-use Rattle.feed.proofs.flush.Reads as flush-reads
 
 abbrev Inv-loop : tie.InvT-loop
 Inv-loop input₀ program₀ output₀ at₀ end₀ full₀ turns₀ input program output at end full turns = (length input ≡ length input₀) × (length program ≡ length program₀) × (length output ≡ length output₀)
@@ -15,63 +11,48 @@ Inv-loop input₀ program₀ output₀ at₀ end₀ full₀ turns₀ input progr
 abbrev μ-loop : tie.MeasureT-loop
 μ-loop input₀ program₀ output₀ at₀ end₀ full₀ turns₀ input program output at end full turns = turns
 
--- src/main.rt:60:5
 loop-holds : tie.Need-loop-holds Inv-loop μ-loop
 loop-holds c = search needs
 
--- src/main.rt:61:13
 turn-requires : tie.Need-turn-requires Inv-loop μ-loop
 turn-requires c κs = search needs
 
--- src/main.rt:64:13
 flush-requires : tie.Need-flush-requires Inv-loop μ-loop
 flush-requires c κs = search needs
 
--- src/main.rt:65:13
 same-length : tie.Need-same-length Inv-loop μ-loop
 same-length c = search needs
 
--- src/main.rt:65:13
 same-length-2 : tie.Need-same-length-2 Inv-loop μ-loop
 same-length-2 c = search needs
 
--- src/main.rt:65:13
 same-length-3 : tie.Need-same-length-3 Inv-loop μ-loop
 same-length-3 c = search needs
 
--- src/main.rt:65:13
 returns : tie.Need-returns Inv-loop μ-loop
 returns c = search needs
 
--- src/main.rt:69:9
 sub-turns : tie.Need-sub-turns Inv-loop μ-loop
 sub-turns c = search needs
 
--- src/main.rt:60:5
 loop-less : tie.Need-loop-less Inv-loop μ-loop
 loop-less c = search needs
 
--- src/main.rt:60:5
 loop-again : tie.Need-loop-again Inv-loop μ-loop
 loop-again c = search needs
 
--- src/main.rt:71:5
 flush-requires-2 : tie.Need-flush-requires-2 Inv-loop μ-loop
 flush-requires-2 c κs = search needs
 
--- src/main.rt:55:1
 same-length-4 : tie.Need-same-length-4 Inv-loop μ-loop
 same-length-4 c = search needs
 
--- src/main.rt:55:1
 same-length-5 : tie.Need-same-length-5 Inv-loop μ-loop
 same-length-5 c = search needs
 
--- src/main.rt:55:1
 same-length-6 : tie.Need-same-length-6 Inv-loop μ-loop
 same-length-6 c = search needs
 
--- src/main.rt:55:1
 returns-2 : tie.Need-returns-2 Inv-loop μ-loop
 returns-2 c = search needs
 

@@ -1,14 +1,10 @@
--- `calls::answer::hex_all` is safe and ends: each turn moves at least one byte. Assumes nothing.
+-- `calls::answer::hex_all` meets its contract: each turn moves at least one byte. Assumes nothing.
 use Prim.Native.Nat.{_-_, _≤_}
 use mathlib.Core.Path.{_≡_}
 use lib.ListN.{length}
 use borrow.Author.Needs.{needs}
 use Rattle.calls.proofs.answer.hex_all.Statement.{statement}
 use Rattle.calls.proofs.answer.hex_all.Tie as tie
-use Rattle.calls.proofs.answer.hex_all.Reads as reads
-use Rattle.calls.proofs.answer.hex_all.Lts as lts
-use Rattle.calls.proofs.answer.hex_piece.Reads as hex-piece-reads
-use Rattle.calls.proofs.answer.piece_of.Reads as piece-of-reads
 
 abbrev Inv-loop : tie.InvT-loop
 Inv-loop s full out₀ waits₀ at₀ out waits at = (at ≤ length s) × (length out ≡ length out₀)
@@ -16,51 +12,39 @@ Inv-loop s full out₀ waits₀ at₀ out waits at = (at ≤ length s) × (lengt
 abbrev μ-loop : tie.MeasureT-loop
 μ-loop s full out₀ waits₀ at₀ out waits at = length s - at
 
--- src/answer.rt:28:5
 loop-holds : tie.Need-loop-holds Inv-loop μ-loop
 loop-holds c = search needs
 
--- src/answer.rt:29:34
 sub-piece-of : tie.Need-sub-piece-of Inv-loop μ-loop
 sub-piece-of c = search needs
 
--- src/answer.rt:29:25
 piece-of-requires : tie.Need-piece-of-requires Inv-loop μ-loop
 piece-of-requires c κs = search needs
 
--- src/answer.rt:29:20
 add-stop : tie.Need-add-stop Inv-loop μ-loop
 add-stop c = search needs
 
--- src/answer.rt:30:27
 sub-hex-piece : tie.Need-sub-hex-piece Inv-loop μ-loop
 sub-hex-piece c = search needs
 
--- src/answer.rt:30:27
 part-hex-piece-start : tie.Need-part-hex-piece-start Inv-loop μ-loop
 part-hex-piece-start c = search needs
 
--- src/answer.rt:30:27
 part-hex-piece-end : tie.Need-part-hex-piece-end Inv-loop μ-loop
 part-hex-piece-end c = search needs
 
--- src/answer.rt:30:9
 hex-piece-requires : tie.Need-hex-piece-requires Inv-loop μ-loop
 hex-piece-requires c κs = search needs
 
--- src/answer.rt:28:5
 loop-less : tie.Need-loop-less Inv-loop μ-loop
 loop-less c = search needs
 
--- src/answer.rt:28:5
 loop-again : tie.Need-loop-again Inv-loop μ-loop
 loop-again c = search needs
 
--- src/answer.rt:25:1
 same-length : tie.Need-same-length Inv-loop μ-loop
 same-length c = search needs
 
--- src/answer.rt:25:1
 returns : tie.Need-returns Inv-loop μ-loop
 returns c = search needs
 

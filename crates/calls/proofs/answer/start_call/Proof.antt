@@ -1,37 +1,28 @@
-use Rattle.feed.proofs.CountLaws.{counts}
+-- `calls::answer::start_call` meets its contract: a part is lent. Assumes nothing.
 use native.Mathlib.Omega.{arith}
 use borrow.Author.Needs.{needs}
+use Rattle.feed.proofs.CountLaws.{counts}
 use Rattle.calls.proofs.answer.start_call.Statement.{statement}
 use Rattle.calls.proofs.answer.start_call.Tie as tie
-use Rattle.calls.proofs.answer.start_call.Reads as reads
-use Rattle.calls.proofs.answer.start_call.Lts as lts
-use Rattle.calls.proofs.answer.start_answer.Reads as start-answer-reads
 
--- src/answer.rt:77:9
 returns : tie.Need-returns
 returns c = search needs
 
--- src/answer.rt:79:27
 slice-relend-prefix-start-answer : tie.Need-slice-relend-prefix-start-answer
 slice-relend-prefix-start-answer c = search needs
 
--- src/answer.rt:79:27
 slice-aggregate-start-answer : tie.Need-slice-aggregate-start-answer
 slice-aggregate-start-answer c = let a = c .before .before .before .before .before .args in counts (a .n) (a .state .now) (omega arith) .1
 
--- src/answer.rt:79:5
 start-answer-requires : tie.Need-start-answer-requires
 start-answer-requires c κs = search needs
 
--- src/answer.rt:75:1
 same-length : tie.Need-same-length
 same-length c = search needs
 
--- src/answer.rt:75:1
 same-length-2 : tie.Need-same-length-2
 same-length-2 c = search needs
 
--- src/answer.rt:75:1
 returns-2 : tie.Need-returns-2
 returns-2 c = search needs
 

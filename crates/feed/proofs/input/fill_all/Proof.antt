@@ -1,15 +1,11 @@
--- `feed::input::fill_all` is safe and ends: each turn moves at least one byte, or the last. Assumes nothing.
+-- `feed::input::fill_all` meets its contract: each turn moves at least one byte, or the last. Assumes nothing.
 use Prim.Native.Nat.{_-_, _≤_}
 use mathlib.Core.Path.{_≡_}
 use native.Mathlib.Omega.{arith}
-use lib.ListN.{length, length-set}
+use lib.ListN.{length}
 use borrow.Author.Needs.{needs}
 use Rattle.feed.proofs.input.fill_all.Statement.{statement}
 use Rattle.feed.proofs.input.fill_all.Tie as tie
-use Rattle.feed.proofs.input.fill_all.Reads as reads
-use Rattle.feed.proofs.input.fill_all.Lts as lts
-use Rattle.feed.proofs.input.moved.Reads as moved-reads
-use Rattle.feed.proofs.input.refilled.Reads as refilled-reads
 
 abbrev Inv-loop : tie.InvT-loop
 Inv-loop buffer₀ room₀ at₀ end₀ done₀ buffer room at end done = (length buffer ≡ length buffer₀) × (length room ≡ length room₀) × (done ≤ length room)
@@ -17,55 +13,42 @@ Inv-loop buffer₀ room₀ at₀ end₀ done₀ buffer room at end done = (lengt
 abbrev μ-loop : tie.MeasureT-loop
 μ-loop buffer₀ room₀ at₀ end₀ done₀ buffer room at end done = length room - done
 
--- src/input.rt:46:5
 loop-holds : tie.Need-loop-holds Inv-loop μ-loop
 loop-holds c = search needs
 
--- src/input.rt:47:13
 refilled-requires : tie.Need-refilled-requires Inv-loop μ-loop
 refilled-requires c κs = search needs
 
--- src/input.rt:48:13
 moved-requires : tie.Need-moved-requires Inv-loop μ-loop
 moved-requires c κs = search needs
 
--- src/input.rt:50:13
 same-length : tie.Need-same-length Inv-loop μ-loop
 same-length c = search needs
 
--- src/input.rt:50:13
 same-length-2 : tie.Need-same-length-2 Inv-loop μ-loop
 same-length-2 c = search needs
 
--- src/input.rt:50:13
 returns : tie.Need-returns Inv-loop μ-loop
 returns c = search needs
 
--- src/input.rt:52:14
 add-at : tie.Need-add-at Inv-loop μ-loop
 add-at c = search needs
 
--- src/input.rt:54:9
 add-done : tie.Need-add-done Inv-loop μ-loop
 add-done c = search needs
 
--- src/input.rt:46:5
 loop-less : tie.Need-loop-less Inv-loop μ-loop
 loop-less c = omega arith
 
--- src/input.rt:46:5
 loop-again : tie.Need-loop-again Inv-loop μ-loop
 loop-again c = omega arith
 
--- src/input.rt:42:1
 same-length-3 : tie.Need-same-length-3 Inv-loop μ-loop
 same-length-3 c = search needs
 
--- src/input.rt:42:1
 same-length-4 : tie.Need-same-length-4 Inv-loop μ-loop
 same-length-4 c = search needs
 
--- src/input.rt:42:1
 returns-2 : tie.Need-returns-2 Inv-loop μ-loop
 returns-2 c = search needs
 

@@ -7,9 +7,6 @@ use borrow.Author.Needs.{needs}
 use Rattle.feed.proofs.CountLaws.{counts}
 use Rattle.feed.proofs.input.header.Statement.{statement}
 use Rattle.feed.proofs.input.header.Tie as tie
-use Rattle.feed.proofs.input.header.Reads as reads
-use Rattle.feed.proofs.input.header.Lts as lts
-use Rattle.feed.proofs.input.refilled.Reads as refilled-reads
 
 abbrev Inv-loop : tie.InvT-loop
 Inv-loop buffer₀ text₀ at₀ end₀ n₀ buffer text at end n = (length buffer ≡ length buffer₀) × (length text ≡ length text₀) × (n ≤ length text)
@@ -17,71 +14,54 @@ Inv-loop buffer₀ text₀ at₀ end₀ n₀ buffer text at end n = (length buff
 abbrev μ-loop : tie.MeasureT-loop
 μ-loop buffer₀ text₀ at₀ end₀ n₀ buffer text at end n = length text - n
 
--- src/input.rt:66:5
 loop-holds : tie.Need-loop-holds Inv-loop μ-loop
 loop-holds c = search needs
 
--- src/input.rt:67:13
 refilled-requires : tie.Need-refilled-requires Inv-loop μ-loop
 refilled-requires c κs = search needs
 
--- src/input.rt:70:13
 same-length : tie.Need-same-length Inv-loop μ-loop
 same-length c = search needs
 
--- src/input.rt:70:13
 same-length-2 : tie.Need-same-length-2 Inv-loop μ-loop
 same-length-2 c = search needs
 
--- src/input.rt:70:13
 returns : tie.Need-returns Inv-loop μ-loop
 returns c = counts _ _ (omega arith)
 
--- src/input.rt:72:20
 slice-read-byte : tie.Need-slice-read-byte Inv-loop μ-loop
 slice-read-byte c = search needs
 
--- src/input.rt:73:9
 slice-write-text : tie.Need-slice-write-text Inv-loop μ-loop
 slice-write-text c = search needs
 
--- src/input.rt:74:9
 add-n : tie.Need-add-n Inv-loop μ-loop
 add-n c = search needs
 
--- src/input.rt:75:14
 add-at : tie.Need-add-at Inv-loop μ-loop
 add-at c = search needs
 
--- src/input.rt:78:13
 same-length-3 : tie.Need-same-length-3 Inv-loop μ-loop
 same-length-3 c = search needs
 
--- src/input.rt:78:13
 same-length-4 : tie.Need-same-length-4 Inv-loop μ-loop
 same-length-4 c = simp length-set (omega arith)
 
--- src/input.rt:78:13
 returns-2 : tie.Need-returns-2 Inv-loop μ-loop
 returns-2 c = counts _ _ (simp length-set (omega arith))
 
--- src/input.rt:66:5
 loop-less : tie.Need-loop-less Inv-loop μ-loop
 loop-less c = simp length-set (omega arith)
 
--- src/input.rt:66:5
 loop-again : tie.Need-loop-again Inv-loop μ-loop
 loop-again c = simp length-set (omega arith)
 
--- src/input.rt:60:1
 same-length-5 : tie.Need-same-length-5 Inv-loop μ-loop
 same-length-5 c = search needs
 
--- src/input.rt:60:1
 same-length-6 : tie.Need-same-length-6 Inv-loop μ-loop
 same-length-6 c = search needs
 
--- src/input.rt:60:1
 returns-3 : tie.Need-returns-3 Inv-loop μ-loop
 returns-3 c = counts _ _ (omega arith)
 

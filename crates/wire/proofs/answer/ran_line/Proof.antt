@@ -1,35 +1,26 @@
-use Rattle.wire.specs.Lines.{ranLine}
+-- `wire::answer::ran_line` meets its contract: by cases. Assumes nothing.
 use mathlib.Core.Path.{sym, ap, _∙_}
 use borrow.Author.Needs.{needs}
+use Rattle.wire.specs.Lines.{ranLine}
 use Rattle.wire.proofs.answer.ran_line.Statement.{statement}
 use Rattle.wire.proofs.answer.ran_line.Tie as tie
-use Rattle.wire.proofs.answer.ran_line.Reads as reads
-use Rattle.wire.proofs.answer.ran_line.Lts as lts
-use Rattle.wire.proofs.answer.finished_line.Reads as finished-line-reads
-use Rattle.wire.proofs.answer.refused_line.Reads as refused-line-reads
 
--- src/answer.rt:85:23
 enum-known-answer : tie.Need-enum-known-answer
 enum-known-answer c = search needs
 
--- src/answer.rt:85:39
 finished-line-requires : tie.Need-finished-line-requires
 finished-line-requires c κs = search needs
 
--- src/answer.rt:86:22
 enum-known-answer-2 : tie.Need-enum-known-answer-2
 enum-known-answer-2 c = search needs
 
--- src/answer.rt:86:34
 refused-line-requires : tie.Need-refused-line-requires
 refused-line-requires c κs = search needs
 
--- src/answer.rt:80:1
 returns : tie.Need-returns
 unfolding ranLine
 returns c = let e = c .finished-line .ensures in (e .0, e .1 ∙ sym (ap ranLine (c .before .before .before .answer .given .1)))
 
--- src/answer.rt:80:1
 returns-2 : tie.Need-returns-2
 unfolding ranLine
 returns-2 c = let e = c .refused-line .ensures in (e .0, e .1 ∙ sym (ap ranLine (c .before .before .before .answer2 .given .1)))

@@ -1,50 +1,36 @@
-use Rattle.wire.specs.Lines.{refusedLine}
+-- `wire::answer::refused_line` meets its contract: the four parts stand one behind the other. Assumes nothing.
 use mathlib.Core.Path.{sym}
-use Rattle.wire.proofs.PutLaws.{behind, line-is}
 use native.Mathlib.Omega.{arith}
 use borrow.Author.Needs.{needs}
+use Rattle.wire.specs.Lines.{refusedLine}
+use Rattle.wire.proofs.PutLaws.{behind, line-is}
 use Rattle.wire.proofs.answer.refused_line.Statement.{statement}
 use Rattle.wire.proofs.answer.refused_line.Tie as tie
-use Rattle.wire.proofs.answer.refused_line.Reads as reads
-use Rattle.wire.proofs.answer.refused_line.Lts as lts
-use Rattle.rules.proofs.code_of.Reads as code-of-reads
-use Rattle.rules.proofs.place_of.Reads as place-of-reads
-use Rattle.wire.proofs.text.put.Reads as put-reads
-use Rattle.wire.proofs.text.put_field.Reads as put-field-reads
 
--- src/answer.rt:16:16
 code-of-requires : tie.Need-code-of-requires
 code-of-requires c κs = search needs
 
--- src/answer.rt:16:16
 cast-code : tie.Need-cast-code
 cast-code c = search needs
 
--- src/answer.rt:17:9
 place-of-requires : tie.Need-place-of-requires
 place-of-requires c κs = search needs
 
--- src/answer.rt:18:17
 slice-aggregate-put : tie.Need-slice-aggregate-put
 slice-aggregate-put c = search needs
 
--- src/answer.rt:18:9
 put-requires : tie.Need-put-requires
 put-requires c κs = search needs
 
--- src/answer.rt:19:9
 put-field-requires : tie.Need-put-field-requires
 put-field-requires c κs = search needs
 
--- src/answer.rt:20:9
 put-field-requires-2 : tie.Need-put-field-requires-2
 put-field-requires-2 c κs = search needs
 
--- src/answer.rt:21:5
 put-field-requires-3 : tie.Need-put-field-requires-3
 put-field-requires-3 c κs = search needs
 
--- src/answer.rt:12:1
 returns : tie.Need-returns
 unfolding refusedLine
 returns c =

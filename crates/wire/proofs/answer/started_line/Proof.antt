@@ -1,35 +1,26 @@
-use Rattle.wire.specs.Lines.{startedLine}
+-- `wire::answer::started_line` meets its contract: by cases. Assumes nothing.
 use mathlib.Core.Path.{sym, ap, _∙_}
 use borrow.Author.Needs.{needs}
+use Rattle.wire.specs.Lines.{startedLine}
 use Rattle.wire.proofs.answer.started_line.Statement.{statement}
 use Rattle.wire.proofs.answer.started_line.Tie as tie
-use Rattle.wire.proofs.answer.started_line.Reads as reads
-use Rattle.wire.proofs.answer.started_line.Lts as lts
-use Rattle.wire.proofs.answer.ready_line.Reads as ready-line-reads
-use Rattle.wire.proofs.answer.refused_line.Reads as refused-line-reads
 
--- src/answer.rt:64:38
 enum-told : tie.Need-enum-told
 enum-told c = search needs
 
--- src/answer.rt:64:27
 ready-line-requires : tie.Need-ready-line-requires
 ready-line-requires c κs = search needs
 
--- src/answer.rt:65:26
 enum-known-answer : tie.Need-enum-known-answer
 enum-known-answer c = search needs
 
--- src/answer.rt:65:32
 refused-line-requires : tie.Need-refused-line-requires
 refused-line-requires c κs = search needs
 
--- src/answer.rt:59:1
 returns : tie.Need-returns
 unfolding startedLine
 returns c = let e = c .ready-line .ensures in (e .0, e .1 ∙ sym (ap startedLine (c .before .before .enum-told .given .1)))
 
--- src/answer.rt:59:1
 returns-2 : tie.Need-returns-2
 unfolding startedLine
 returns-2 c = let e = c .refused-line .ensures in (e .0, e .1 ∙ sym (ap startedLine (c .before .before .before .answer .given .1)))

@@ -1,23 +1,18 @@
+-- `wire::digits::digit` meets its contract: by cases. Assumes nothing.
 use borrow.Author.Tests.{lt-ltb, le-ltb}
 use borrow.Author.Needs.{needs}
 use Rattle.wire.proofs.digits.digit.Statement.{statement}
 use Rattle.wire.proofs.digits.digit.Tie as tie
-use Rattle.wire.proofs.digits.digit.Reads as reads
-use Rattle.wire.proofs.digits.digit.Lts as lts
 
--- src/digits.rt:13:17
 add-result : tie.Need-add-result
 add-result c = search needs
 
--- src/digits.rt:13:33
 add-result-2 : tie.Need-add-result-2
 add-result-2 c = search needs
 
--- src/digits.rt:9:1
 returns : tie.Need-returns
 returns c = rw (lt-ltb (c .before .args .d) 10 (c .if1 .taken))
 
--- src/digits.rt:9:1
 returns-2 : tie.Need-returns-2
 returns-2 c = rw (le-ltb (c .before .args .d) 10 (c .if1 .left))
 

@@ -1,73 +1,54 @@
+-- `wire::header::header` meets its contract: by cases. Assumes nothing.
 use Prim.Native.Nat.{zero-le}
-use Rattle.wire.specs.Lines.{headerLine}
 use mathlib.Core.Path.{sym, ap, _∙_, refl}
 use borrow.Author.Needs.{needs}
+use Rattle.wire.specs.Lines.{headerLine}
 use Rattle.wire.proofs.header.header.Statement.{statement}
 use Rattle.wire.proofs.header.header.Tie as tie
-use Rattle.wire.proofs.header.header.Reads as reads
-use Rattle.wire.proofs.header.header.Lts as lts
-use Rattle.wire.proofs.header.check_header.Reads as check-header-reads
-use Rattle.wire.proofs.header.run_header.Reads as run-header-reads
-use Rattle.wire.proofs.header.start_header.Reads as start-header-reads
-use Rattle.wire.proofs.header.step_header.Reads as step-header-reads
 
--- src/header.rt:57:24
 enum-known-request : tie.Need-enum-known-request
 enum-known-request c = search needs
 
--- src/header.rt:57:30
 check-header-requires : tie.Need-check-header-requires
 check-header-requires c κs = search needs
 
--- src/header.rt:58:24
 enum-known-request-2 : tie.Need-enum-known-request-2
 enum-known-request-2 c = search needs
 
--- src/header.rt:58:33
 start-header-requires : tie.Need-start-header-requires
 start-header-requires c κs = search needs
 
--- src/header.rt:59:23
 enum-known-request-3 : tie.Need-enum-known-request-3
 enum-known-request-3 c = search needs
 
--- src/header.rt:59:38
 step-header-requires : tie.Need-step-header-requires
 step-header-requires c κs = search needs
 
--- src/header.rt:60:22
 enum-known-request-4 : tie.Need-enum-known-request-4
 enum-known-request-4 c = search needs
 
--- src/header.rt:60:37
 run-header-requires : tie.Need-run-header-requires
 run-header-requires c κs = search needs
 
--- src/header.rt:61:28
 enum-told : tie.Need-enum-told
 enum-told c = search needs
 
--- src/header.rt:52:1
 returns : tie.Need-returns
 unfolding headerLine
 returns c = let e = c .check-header .ensures in (e .0, e .1 ∙ sym (ap headerLine (c .before .before .before .request .given .1)))
 
--- src/header.rt:52:1
 returns-2 : tie.Need-returns-2
 unfolding headerLine
 returns-2 c = let e = c .start-header .ensures in (e .0, e .1 ∙ sym (ap headerLine (c .before .before .before .request2 .given .1)))
 
--- src/header.rt:52:1
 returns-3 : tie.Need-returns-3
 unfolding headerLine
 returns-3 c = let e = c .step-header .ensures in (e .0, e .1 ∙ sym (ap headerLine (c .before .before .before .request3 .given .1)))
 
--- src/header.rt:52:1
 returns-4 : tie.Need-returns-4
 unfolding headerLine
 returns-4 c = let e = c .run-header .ensures in (e .0, e .1 ∙ sym (ap headerLine (c .before .before .before .request4 .given .1)))
 
--- src/header.rt:52:1
 returns-5 : tie.Need-returns-5
 unfolding headerLine
 returns-5 c = ((zero-le, refl), sym (ap headerLine (c .enum-told .given .1)))

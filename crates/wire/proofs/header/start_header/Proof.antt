@@ -1,31 +1,23 @@
-use Rattle.wire.specs.Lines.{startLine}
-use Rattle.wire.proofs.PutLaws.{behind, line-is}
+-- `wire::header::start_header` meets its contract: the parts stand one behind the other. Assumes nothing.
 use native.Mathlib.Omega.{arith}
 use borrow.Author.Needs.{needs}
+use Rattle.wire.specs.Lines.{startLine}
+use Rattle.wire.proofs.PutLaws.{behind, line-is}
 use Rattle.wire.proofs.header.start_header.Statement.{statement}
 use Rattle.wire.proofs.header.start_header.Tie as tie
-use Rattle.wire.proofs.header.start_header.Reads as reads
-use Rattle.wire.proofs.header.start_header.Lts as lts
-use Rattle.wire.proofs.text.put.Reads as put-reads
-use Rattle.wire.proofs.text.put_field.Reads as put-field-reads
 
--- src/header.rt:24:17
 slice-aggregate-put : tie.Need-slice-aggregate-put
 slice-aggregate-put c = search needs
 
--- src/header.rt:24:9
 put-requires : tie.Need-put-requires
 put-requires c κs = search needs
 
--- src/header.rt:25:9
 put-field-requires : tie.Need-put-field-requires
 put-field-requires c κs = search needs
 
--- src/header.rt:26:5
 put-field-requires-2 : tie.Need-put-field-requires-2
 put-field-requires-2 c κs = search needs
 
--- src/header.rt:20:1
 returns : tie.Need-returns
 unfolding startLine
 returns c = line-is (behind (behind (c .before .before .before .before .put .ensures) (c .before .before .put-field .ensures .0)) (c .put-field2 .ensures .0)) (omega arith)

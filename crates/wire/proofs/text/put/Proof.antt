@@ -1,36 +1,27 @@
-use Rattle.wire.proofs.PutLaws.{copied}
+-- `wire::text::put` meets its contract: a copy is a put. Assumes nothing.
 use borrow.Author.Needs.{needs}
+use Rattle.wire.proofs.PutLaws.{copied}
 use Rattle.wire.proofs.text.put.Statement.{statement}
 use Rattle.wire.proofs.text.put.Tie as tie
-use Rattle.wire.proofs.text.put.Reads as reads
-use Rattle.wire.proofs.text.put.Lts as lts
-use Rattle.bytes.proofs.copy.Reads as copy-reads
 
--- src/text.rt:13:31
 sub-copy : tie.Need-sub-copy
 sub-copy c = search needs
 
--- src/text.rt:13:31
 part-copy-start : tie.Need-part-copy-start
 part-copy-start c = search needs
 
--- src/text.rt:13:31
 part-copy-end : tie.Need-part-copy-end
 part-copy-end c = search needs
 
--- src/text.rt:13:9
 copy-requires : tie.Need-copy-requires
 copy-requires c κs = search needs
 
--- src/text.rt:14:5
 add-result : tie.Need-add-result
 add-result c = search needs
 
--- src/text.rt:9:1
 same-length : tie.Need-same-length
 same-length c = search needs
 
--- src/text.rt:9:1
 returns : tie.Need-returns
 returns c =
     let a = c .before .before .before .before .before .before .args in

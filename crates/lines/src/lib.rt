@@ -1,0 +1,8 @@
+// The lines that watchrun prints, as bytes.
+mod line;
+mod words;
+
+pub use line::end_line;
+pub use line::first_line;
+pub use line::refused_line;
+pub use line::step_line;

@@ -25,7 +25,7 @@ pub fn u64_at(s: &[u8], at: usize) -> u64
 }
 
 // A number written as so many bytes: one loop for every width.
-fn put(s: &mut [u8], at: usize, x: u64, count: usize)
+pub fn put(s: &mut [u8], at: usize, x: u64, count: usize)
     requires { ⌜ at + count ≤ length (now s) ⌝ }
     ensures { λ _. ⌜ now (s .exit) ≡ writeAt (now (s .entry)) at (bytesOf count x) ⌝ }
 {

@@ -199,7 +199,7 @@ fn watched(place: Place, program: &[u8], state: &mut [u8], input: &mut [u8]) {
 
 // Reads the blocks, and runs what they hold.
 fn main() {
-    let mut input = io::large_buffer();
+    let mut input = io::buffer();
     let mut program = [0u8; 12288];
     let mut state = [0u8; 8068];
     let got = take_program(&mut input, &mut program);

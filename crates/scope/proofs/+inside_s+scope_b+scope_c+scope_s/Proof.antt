@@ -8,6 +8,7 @@ use lib.ListN.{length, length-set, set, getD}
 use Prim.Native.Nat.{_*_, _+_}
 use mathlib.Core.List.{List}
 use borrow.Author.Needs.{needs}
+use Rattle.scope.specs.Offers.{Offered}
 use native.Mathlib.Omega.{arith}
 use mathlib.Core.Path.{_≡_, refl, sym, ap, _∙_}
 use Prim.Native.Nat.{ℕ, _<_}
@@ -209,7 +210,7 @@ scope-s-scope-e-requires t c κs = let k = read (c .before .before .fields .ensu
 
 -- src/lib.rt:104:14
 scope-s-scope-s-requires : (t : ℕ) → scope-s-lts.Need-scope-s-requires (scope-s-calls t) (scope-s-at t) scope-s.Post
-scope-s-scope-s-requires t c κs = let k = read (c .before .before .fields .ensures .a-is) (delay-kid (c .before .before .before .before .before .args .p .now) (c .before .before .before .before .before .args .i) (c .before .before .before .before .before .pre .1 .0 .node) (sym (c .before .before .fields .ensures .kind-is) ∙ c .before .match .keys2)) in (omega (arith, k .less, c .before .before .before .before .before .pre .0), (record { node = k .node; room = c .before .before .before .before .before .pre .1 .0 .room }, no-offer (c .before .before .before .before .before .args .p .now)))
+scope-s-scope-s-requires t c κs = let k = read (c .before .before .fields .ensures .a-is) (delay-kid (c .before .before .before .before .before .args .p .now) (c .before .before .before .before .before .args .i) (c .before .before .before .before .before .pre .1 .0 .node) (sym (c .before .before .fields .ensures .kind-is) ∙ c .before .match .keys2)) in (omega (arith, k .less, c .before .before .before .before .before .pre .0), (record { node = k .node; room = c .before .before .before .before .before .pre .1 .0 .room }, let none = no-offer (c .before .before .before .before .before .args .p .now) in let above = c .before .before .before .before .before .pre .1 .1 in search needs))
 
 -- src/lib.rt:106:17
 scope-s-inside-s-requires : (t : ℕ) → scope-s-lts.Need-inside-s-requires (scope-s-calls t) (scope-s-at t) scope-s.Post
@@ -245,7 +246,7 @@ scope-s-sooner-requires-3 t c κs = search needs
 
 -- src/lib.rt:117:17
 scope-s-scope-s-requires-4 : (t : ℕ) → scope-s-lts.Need-scope-s-requires-4 (scope-s-calls t) (scope-s-at t) scope-s.Post
-scope-s-scope-s-requires-4 t c κs = let k = read (c .before .before .fields .ensures .a-is) (group-kids (c .before .before .before .before .before .args .p .now) (c .before .before .before .before .before .args .i) (c .before .before .before .before .before .pre .1 .0 .node) (sym (c .before .before .fields .ensures .kind-is) ∙ c .before .match .keys5) .0) in (omega (arith, k .less, c .before .before .before .before .before .pre .0), (record { node = k .node; room = c .before .before .before .before .before .pre .1 .0 .room }, record { offered = λ d. read (c .before .before .fields .ensures .b-is) (group-kids (c .before .before .before .before .before .args .p .now) (c .before .before .before .before .before .args .i) (c .before .before .before .before .before .pre .1 .0 .node) (sym (c .before .before .fields .ensures .kind-is) ∙ c .before .match .keys5) .1) .node }))
+scope-s-scope-s-requires-4 t c κs = let k = read (c .before .before .fields .ensures .a-is) (group-kids (c .before .before .before .before .before .args .p .now) (c .before .before .before .before .before .args .i) (c .before .before .before .before .before .pre .1 .0 .node) (sym (c .before .before .fields .ensures .kind-is) ∙ c .before .match .keys5) .0) in (omega (arith, k .less, c .before .before .before .before .before .pre .0), (record { node = k .node; room = c .before .before .before .before .before .pre .1 .0 .room }, let own : Offered (c .before .before .before .before .before .args .p .now) (c .before .before .fields .result .b) = record { offered = λ d. read (c .before .before .fields .ensures .b-is) (group-kids (c .before .before .before .before .before .args .p .now) (c .before .before .before .before .before .args .i) (c .before .before .before .before .before .pre .1 .0 .node) (sym (c .before .before .fields .ensures .kind-is) ∙ c .before .match .keys5) .1) .node } in let above = c .before .before .before .before .before .pre .1 .1 in search needs))
 
 -- src/lib.rt:118:17
 scope-s-scope-b-requires : (t : ℕ) → scope-s-lts.Need-scope-b-requires (scope-s-calls t) (scope-s-at t) scope-s.Post

@@ -1,0 +1,82 @@
+/* The four calls of Couplerfinch for C: check, start, step and run.
+ *
+ * Every call ends and answers, whatever bytes and lengths it is handed; none has a precondition on the content. It writes the answer
+ * to the room that is lent for it, and answers the code too: 0 where the call went through, or the first code that the rules
+ * give. A refused check or start writes nothing else, nor does a refused step; a run keeps the whole steps done before the
+ * refused one.
+ *
+ * What C can't say, and the caller owes: a pointer is not NULL, even where its length is 0, and points to as many bytes as its
+ * length says; no room that is written overlaps another. No call allocates, keeps a pointer or has memory of its own; each needs
+ * at most 512 KiB of stack.
+ */
+#ifndef COUPLERFINCH_H
+#define COUPLERFINCH_H
+
+#include <stddef.h>
+#include <stdint.h>
+
+#ifdef __cplusplus
+extern "C" {
+#endif
+
+/* A program is 1 to 24 blocks; an input record has 40 bytes and the value of a step 8; a run has 0 to 4,096 records. */
+#define COUPLERFINCH_BLOCK 512u
+#define COUPLERFINCH_BLOCKS 24u
+#define COUPLERFINCH_NODES 1008u
+#define COUPLERFINCH_RECORD 40u
+#define COUPLERFINCH_VALUE 8u
+#define COUPLERFINCH_RECORDS 4096u
+
+/* The length of a state of so many cells, and of the longest one. */
+#define COUPLERFINCH_STATE(cells) (4u + 8u * (size_t)(cells))
+#define COUPLERFINCH_LONGEST_STATE COUPLERFINCH_STATE(COUPLERFINCH_NODES)
+
+/* The codes. */
+#define COUPLERFINCH_DONE 0u
+#define COUPLERFINCH_PROGRAM_LENGTH 1u
+#define COUPLERFINCH_CHECK_SUM 2u
+#define COUPLERFINCH_BLOCK_NUMBER 3u
+#define COUPLERFINCH_RECORD_FAULT 4u
+#define COUPLERFINCH_SHAPE_FAULT 5u
+#define COUPLERFINCH_SCOPE_FAULT 6u
+#define COUPLERFINCH_TYPE_FAULT 7u
+#define COUPLERFINCH_NOT_READY 8u
+#define COUPLERFINCH_STATE_FAULT 9u
+#define COUPLERFINCH_RECORDS_LENGTH 10u
+#define COUPLERFINCH_OUTPUT_LENGTH 11u
+#define COUPLERFINCH_INPUT_FAULT 12u
+#define COUPLERFINCH_TIME_BACK 13u
+#define COUPLERFINCH_TOO_MUCH_WORK 14u
+
+/* An answer: eight numbers, those that its call does not give are 0. */
+typedef struct couplerfinch_answer {
+    uint32_t code;  /* 0, or the first code that the rules give */
+    uint32_t place; /* of a refusal: the block (2, 3), record (4), node (5-8) or input record (12-14) */
+    uint32_t steps; /* step, run: whole steps done, of a refusal too */
+    uint32_t work;  /* step, run: rules used by the steps done, of a refusal too */
+    uint32_t nodes; /* check: how many nodes the program has */
+    uint32_t cells; /* check: how many cells its state has */
+    uint32_t bound; /* check: the most rules that a step uses */
+    uint32_t type;  /* check: the type of the value of a step */
+} couplerfinch_answer;
+
+/* Checks a program: its first code and smallest place, or its nodes, cells, bound and type. */
+uint32_t couplerfinch_check(const uint8_t *program, size_t program_length, couplerfinch_answer *answer);
+
+/* Makes the room the program's start state, if it is as long as that is: COUPLERFINCH_STATE(cells). */
+uint32_t couplerfinch_start(const uint8_t *program, size_t program_length, uint8_t *state, size_t state_length,
+                            couplerfinch_answer *answer);
+
+/* Makes one step: the value goes to the 8 bytes of output, and the state goes on. */
+uint32_t couplerfinch_step(const uint8_t *program, size_t program_length, uint8_t *state, size_t state_length, const uint8_t *input,
+                           size_t input_length, uint8_t *output, size_t output_length, couplerfinch_answer *answer);
+
+/* Makes a step for each record; the program is checked once. */
+uint32_t couplerfinch_run(const uint8_t *program, size_t program_length, uint8_t *state, size_t state_length, const uint8_t *records,
+                          size_t records_length, uint8_t *output, size_t output_length, couplerfinch_answer *answer);
+
+#ifdef __cplusplus
+}
+#endif
+
+#endif

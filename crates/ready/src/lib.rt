@@ -9,9 +9,9 @@ ghost use Rattle.rules.specs.Places.{sooner as soonerOf, wrongIf};
 ghost use Rattle.rules.specs.Tree.{exprAt, signalAt, branchesAt, casesAt};
 ghost use Rattle.rules.specs.Ready.{needsE, needsS, needsB, readyS, readyB, readyC, readyFault};
 ghost use Rattle.rules.specs.Shaped.{NodeOf};
+use places::sooner;
 use rules::Place;
 use table::fields;
-use types::sooner;
 
 fn either(x: bool, y: bool) -> bool
     ensures { λ r. ⌜ r ≡ (x or y) ⌝ }

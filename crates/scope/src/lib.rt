@@ -10,10 +10,10 @@ ghost use Rattle.rules.specs.Tree.{exprAt, signalAt, branchesAt, casesAt};
 ghost use Rattle.rules.specs.Scope.{mark, isMarked, hasBranch, isOffered, scopeE, scopeS, scopeB, scopeC, scopeFault};
 ghost use Rattle.rules.specs.Shaped.{NodeOf};
 ghost use Rattle.scope.specs.Offers.{offersAt, Ready, Offered};
+use places::sooner;
+use places::wrong_unless;
 use rules::Place;
 use table::fields;
-use types::sooner;
-use types::wrong_unless;
 
 fn marked(marks: &[u8], n: usize) -> bool
     ensures { λ r. ⌜ r ≡ isMarked (now (marks .entry)) n ⌝ }

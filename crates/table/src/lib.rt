@@ -40,12 +40,12 @@ pub fn u32_at(p: &[u8], at: usize) -> u32
     half_at(p, at) + 65536 * half_at(p, at + 2)
 }
 
-// Where record i stands.
+// Where record i stands: a block of 512 bytes has 42 records of 12 and 8 bytes beside them.
 pub fn record_at(p: &[u8], i: usize) -> usize
     requires { ⌜ i < records (now p) ⌝ }
     ensures { λ n. ⌜ (n ≡ recordAt i) × (n + 12 ≤ length (now (p .entry))) ⌝ }
 {
-    512 * (i / 42) + 4 + 12 * (i % 42)
+    12 * i + 8 * (i / 42) + 4
 }
 
 // The fields of record i.

@@ -12,6 +12,8 @@ ghost use Rattle.rules.specs.Places.{sooner as soonerOf, wrongUnless};
 ghost use Rattle.rules.specs.Tree.{exprAt, signalAt, branchesAt, casesAt, root};
 ghost use Rattle.rules.specs.Typing.{justType, typeE, typesE, typeS, typesS, typesB, typesC, bodiesHave, typeFault};
 ghost use Rattle.rules.specs.Shaped.{NodeOf};
+use places::sooner;
+use places::wrong_unless;
 use rules::Place;
 use table::declared;
 use table::fields;
@@ -26,35 +28,6 @@ pub struct Typed {
 pub struct Bodies {
     pub same: bool,
     pub place: Place,
-}
-
-fn smaller(m: u32, n: u32) -> u32
-    ensures { λ r. ⌜ Place.At r ≡ soonerOf (Place.At m) (Place.At n) ⌝ }
-{
-    if m <= n { m } else { n }
-}
-
-pub fn sooner(x: Place, y: Place) -> Place
-    ensures { λ r. ⌜ r ≡ soonerOf x y ⌝ }
-{
-    match x {
-        Place::Nowhere => y,
-        Place::At(m) => match y {
-            Place::Nowhere => Place::At(m),
-            Place::At(n) => Place::At(smaller(m, n)),
-        },
-    }
-}
-
-pub fn wrong_unless(right: bool, n: usize) -> Place
-    requires { ⌜ n < 1008 ⌝ }
-    ensures { λ r. ⌜ r ≡ wrongUnless right n ⌝ }
-{
-    if right {
-        Place::Nowhere
-    } else {
-        Place::At(n as u32)
-    }
 }
 
 fn both(x: bool, y: bool) -> bool

@@ -20,7 +20,7 @@ use Rattle.ready.proofs.needs_s.Reads as needs-s-reads
 use Rattle.ready.proofs.soonest.Reads as soonest-reads
 use Rattle.ready.proofs.wrong_if.Reads as wrong-if-reads
 use Rattle.table.proofs.fields.Reads as fields-reads
-use Rattle.types.proofs.sooner.Reads as sooner-reads
+use Rattle.places.proofs.sooner.Reads as sooner-reads
 use Rattle.ready.proofs.+ready_b+ready_c+ready_s.{statement}
 use Rattle.ready.proofs.+ready_b+ready_c+ready_s.Tie.{close}
 

@@ -3,7 +3,7 @@ use Rattle.ready.proofs.soonest.Statement.{statement}
 use Rattle.ready.proofs.soonest.Tie as tie
 use Rattle.ready.proofs.soonest.Reads as reads
 use Rattle.ready.proofs.soonest.Lts as lts
-use Rattle.types.proofs.sooner.Reads as sooner-reads
+use Rattle.places.proofs.sooner.Reads as sooner-reads
 
 -- src/lib.rt:70:9
 sooner-requires : tie.Need-sooner-requires

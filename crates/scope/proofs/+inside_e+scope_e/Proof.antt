@@ -19,8 +19,8 @@ use Rattle.scope.proofs.scope_e.Kinds as scope-e-kinds
 use Rattle.scope.proofs.+inside_e+scope_e.Lts-scope_e as scope-e-lts
 use Rattle.scope.proofs.marked.Reads as marked-reads
 use Rattle.table.proofs.fields.Reads as fields-reads
-use Rattle.types.proofs.sooner.Reads as sooner-reads
-use Rattle.types.proofs.wrong_unless.Reads as wrong-unless-reads
+use Rattle.places.proofs.sooner.Reads as sooner-reads
+use Rattle.places.proofs.wrong_unless.Reads as wrong-unless-reads
 use Rattle.scope.proofs.+inside_e+scope_e.{statement}
 use Rattle.scope.proofs.+inside_e+scope_e.Tie.{close}
 

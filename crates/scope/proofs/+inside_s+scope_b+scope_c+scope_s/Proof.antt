@@ -29,8 +29,8 @@ use Rattle.scope.proofs.+inside_s+scope_b+scope_c+scope_s.Lts-scope_s a
 use Rattle.scope.proofs.offered.Reads as offered-reads
 use Rattle.scope.proofs.scope_e.Reads as scope-e-reads
 use Rattle.table.proofs.fields.Reads as fields-reads
-use Rattle.types.proofs.sooner.Reads as sooner-reads
-use Rattle.types.proofs.wrong_unless.Reads as wrong-unless-reads
+use Rattle.places.proofs.sooner.Reads as sooner-reads
+use Rattle.places.proofs.wrong_unless.Reads as wrong-unless-reads
 use Rattle.scope.proofs.+inside_s+scope_b+scope_c+scope_s.{statement}
 use Rattle.scope.proofs.+inside_s+scope_b+scope_c+scope_s.Tie.{close}
 

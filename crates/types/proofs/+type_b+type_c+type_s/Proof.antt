@@ -24,7 +24,7 @@ use Rattle.types.proofs.delayed.Reads as delayed-reads
 use Rattle.types.proofs.grouping.Reads as grouping-reads
 use Rattle.types.proofs.is_maybe.Reads as is-maybe-reads
 use Rattle.types.proofs.letting.Reads as letting-reads
-use Rattle.types.proofs.sooner.Reads as sooner-reads
+use Rattle.places.proofs.sooner.Reads as sooner-reads
 use Rattle.types.proofs.switching.Reads as switching-reads
 use Rattle.types.proofs.type_e.Reads as type-e-reads
 use Rattle.types.proofs.under.Reads as under-reads

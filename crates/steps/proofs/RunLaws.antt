@@ -25,7 +25,7 @@ use Rattle.rules.proofs.Verdicts.{both-fine, if-fine}
 use Rattle.promises.proofs.Runs.{in-time}
 use mathlib.Core.Bool.{true}
 use mathlib.Core.List.{List}
-use lib.ListN.{length, take, drop, length-take, length-drop}
+use lib.ListN.{length, take, drop}
 use Rattle.rules.specs.WellFormed.{wellFormed}
 use Rattle.rules.specs.Evaluate.{Env}
 use Rattle.rules.proofs.Cells.{length-writeAt}
@@ -103,9 +103,6 @@ unfolding inputAt
 slice-is recs done =
     let e : 40 * done + 40 - 40 * done ≡ 40 = omega arith in
     ap (λ (k : ℕ). take k (drop (40 * done) recs)) e
-
-pub slice-long : (recs : Bytes) (done : ℕ) → done < length recs / 40 → 40 ≤ length (take (40 * done + 40 - 40 * done) (drop (40 * done) recs))
-slice-long recs done h = simp (length-take, length-drop) (omega arith)
 
 -- two well-formed states are of one length
 pub one-length : (p st st₁ : Bytes) → wellFormed p st ≡ true → wellFormed p st₁ ≡ true → length st ≡ length st₁

@@ -2,6 +2,8 @@
 ghost use mathlib.Core.Path.{_≡_};
 ghost use Prim.Native.Nat.{_<_};
 ghost use lib.ListN.{length};
+ghost use Rattle.rules.specs.Kinds.{isBranch};
+ghost use Rattle.rules.specs.Shaped.{NodeOf};
 ghost use Rattle.rules.specs.Layout.{aAt, bAt, cellsBefore};
 ghost use Rattle.rules.specs.Tree.{signalAt, branchesAt, casesAt};
 ghost use Rattle.rules.specs.Work.{moved, stays, ruleᵘ};
@@ -52,7 +54,7 @@ fn switches(p: &[u8], index: &[u16], st: &mut [u8], i: usize, n: Node, v: Value)
 
 // Group i takes the branch and the value v: all cells below it go to start.
 fn enters(p: &[u8], index: &[u16], st: &mut [u8], i: usize, n: Node, which: usize, v: Value)
-    requires { ⌜ Placed 7 (now p) (now index) (length (now st)) i n × (which < 65536) ⌝ }
+    requires { ⌜ Placed 7 (now p) (now index) (length (now st)) i n × NodeOf isBranch (now p) which ⌝ }
     ensures { λ _. ⌜ now (st .exit) ≡ entered (now (p .entry)) i (now (st .entry)) which v ⌝ }
 {
     hold_branch(index, st, i, which, v);

@@ -221,8 +221,10 @@ eval-s-inside-s-requires-2 t c κs =
     let w = c .before .before .before .before .before .before .before .before .before .before .before .pre .1 .node in
     let small = c .before .before .before .before .before .before .before .before .before .before .before .pre .1 .small in
     let node = c .before .before .before .before .before .fields .ensures in
-    let k = read-s (node .c-is) (switch-parts p i w small (sym (node .kind-is) ∙ c .before .before .before .before .match .keys5) .1) in
-    (omega (arith, k .less, c .before .before .before .before .before .before .before .before .before .before .before .pre .0), (record { node = k .node; indexed = c .before .before .before .before .before .before .before .before .before .before .before .pre .1 .indexed; state = c .before .before .before .before .before .before .before .before .before .before .before .pre .1 .state; room = c .before .before .before .before .before .before .before .before .before .before .before .pre .1 .room; small = k .small }, omega (arith, c .before .before .before .before .before .before .before .before .before .before .before .pre .1 .node .inside, c .before .before .before .before .before .before .before .before .before .before .before .pre .1 .room)))
+    let parts = switch-parts p i w small (sym (node .kind-is) ∙ c .before .before .before .before .match .keys5) in
+    let first = read-s (node .a-is) (parts .0) in
+    let second = read-s (node .c-is) (parts .1) in
+    (omega (arith, first .less, second .less, c .before .before .before .before .before .before .before .before .before .before .before .pre .0), (record { node = search needs; indexed = c .before .before .before .before .before .before .before .before .before .before .before .pre .1 .indexed; state = c .before .before .before .before .before .before .before .before .before .before .before .pre .1 .state; room = c .before .before .before .before .before .before .before .before .before .before .before .pre .1 .room; small = search needs }, omega (arith, c .before .before .before .before .before .before .before .before .before .before .before .pre .1 .node .inside, c .before .before .before .before .before .before .before .before .before .before .before .pre .1 .room)))
 
 -- src/lib.rt:127:13
 eval-s-ruled-requires-3 : (t : ℕ) → eval-s-lts.Need-ruled-requires-3 (eval-s-calls t) (eval-s-at t) eval-s.Post
@@ -232,7 +234,10 @@ eval-s-ruled-requires-3 t c κs =
     let w = c .before .before .before .before .before .before .before .before .before .before .before .before .before .before .pre .1 .node in
     let small = c .before .before .before .before .before .before .before .before .before .before .before .before .before .before .pre .1 .small in
     let node = c .before .before .before .before .before .before .before .before .fields .ensures in
-    (part-work-s _ _ _ (read-s (node .c-is) (switch-parts p i w small (sym (node .kind-is) ∙ c .before .before .before .before .before .before .before .match .keys5) .1)) (c .before .before .inside-s2 .ensures .0))
+    let parts = switch-parts p i w small (sym (node .kind-is) ∙ c .before .before .before .before .before .before .before .match .keys5) in
+    let first = read-s (node .a-is) (parts .0) in
+    let second = read-s (node .c-is) (parts .1) in
+    (part-work-s {n = i} _ _ _ (search needs) (c .before .before .inside-s2 .ensures .0))
 
 -- src/lib.rt:130:17
 eval-s-content-requires-3 : (t : ℕ) → eval-s-lts.Need-content-requires-3 (eval-s-calls t) (eval-s-at t) eval-s.Post

@@ -1,7 +1,7 @@
 use borrow.Author.Needs.{needs}
-use Rattle.steps.proofs.RunLaws.{begun, one-length, slice-long, record-in-time, goes-on, stopped, ended, total-fits}
+use Rattle.steps.proofs.RunLaws.{begun, one-length, record-in-time, goes-on, stopped, ended, total-fits}
 use Rattle.steps.proofs.StepLaws.{headed}
-use lib.ListN.{length}
+use lib.ListN.{length, length-take, length-drop}
 use Rattle.rules.specs.Calls.{runFrom}
 use mathlib.Core.Path.{_≡_, refl, sym, ap, _∙_}
 use Prim.Native.Nat.{ℕ}
@@ -52,7 +52,7 @@ cast-record-verdict c = omega (arith, c .before .before .before .loop .inv .with
 
 -- src/lib.rt:92:13
 record-verdict-requires : tie.Need-record-verdict-requires Inv-loop μ-loop
-record-verdict-requires c κs = (headed (c .before .before .before .loop .inv .going), slice-long _ _ (c .before .before .loop-test .taken), c .before .before .before .before .before .before .before .before .before .before .pre .1)
+record-verdict-requires c κs = (headed (c .before .before .before .loop .inv .going), simp (length-take, length-drop) (omega (arith, c .before .before .before .loop .inv .all, c .before .before .loop-test .taken)), c .before .before .before .before .before .before .before .before .before .before .pre .1)
 
 -- src/lib.rt:93:32
 enum-known-found : tie.Need-enum-known-found Inv-loop μ-loop
@@ -83,7 +83,7 @@ mul-make-step c = omega (arith, c .before .before .before .before .before .befor
 
 -- src/lib.rt:96:17
 make-step-requires : tie.Need-make-step-requires Inv-loop μ-loop
-make-step-requires c κs = (c .before .before .before .before .before .before .before .before .before .loop .inv .going, slice-long _ _ (c .before .before .before .before .before .before .before .before .loop-test .taken), record-in-time _ _ _ _ _ (sym (c .before .before .before .before .before .record-verdict .ensures) ∙ c .before .before .before .enum-told .given .1), omega (arith, c .before .before .before .before .before .before .before .before .before .loop .inv .room, c .before .before .before .before .before .before .before .before .before .before .before .before .before .before .before .before .pre .3, c .before .before .before .before .before .before .before .before .loop-test .taken))
+make-step-requires c κs = (c .before .before .before .before .before .before .before .before .before .loop .inv .going, simp (length-take, length-drop) (omega (arith, c .before .before .before .before .before .before .before .before .before .loop .inv .all, c .before .before .before .before .before .before .before .before .loop-test .taken)), record-in-time _ _ _ _ _ (sym (c .before .before .before .before .before .record-verdict .ensures) ∙ c .before .before .before .enum-told .given .1), omega (arith, c .before .before .before .before .before .before .before .before .before .loop .inv .room, c .before .before .before .before .before .before .before .before .before .before .before .before .before .before .before .before .pre .3, c .before .before .before .before .before .before .before .before .loop-test .taken))
 
 -- src/lib.rt:96:9
 add-work : tie.Need-add-work Inv-loop μ-loop

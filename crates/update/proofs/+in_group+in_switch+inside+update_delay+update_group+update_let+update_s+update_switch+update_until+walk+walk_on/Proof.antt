@@ -280,7 +280,7 @@ in-switch-content-requires t c κs = let k = celled {s = length (c .before .befo
 
 -- src/lib.rt:204:9
 in-switch-update-s-requires : (t : ℕ) → in-switch-lts.Need-update-s-requires (in-switch-calls t) (in-switch-at t) in-switch.Post
-in-switch-update-s-requires t c κs = let k = switch-parts (c .before .before .before .before .before .before .before .before .before .before .pre .1) .0 in (omega (arith, k .less, c .before .before .before .before .before .before .before .before .before .before .pre .0), k .ready)
+in-switch-update-s-requires t c κs = let k = switch-parts (c .before .before .before .before .before .before .before .before .before .before .pre .1) in let first = k .0 .ready in let second = k .2 .ready in (omega (arith, k .0 .less, k .2 .less, c .before .before .before .before .before .before .before .before .before .before .pre .0), search needs)
 
 -- src/lib.rt:204:9
 in-switch-same-length : (t : ℕ) → in-switch-lts.Need-same-length (in-switch-calls t) (in-switch-at t) in-switch.Post

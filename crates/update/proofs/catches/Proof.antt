@@ -37,7 +37,7 @@ has-branch-requires c κs = read (c .before .before .before .before .before .bef
 
 -- src/lib.rt:104:17
 enters-requires : tie.Need-enters-requires
-enters-requires c κs = let f = found (c .before .before .before .before .before .before .before .before .before .args .p .now) (c .before .before .before .before .before .before .before .before .before .args .n .b) (c .before .before .before .before .r .given .0 .0) (read (c .before .before .before .before .before .before .before .before .before .pre .0 .fields .b-is) (group-kids (c .before .before .before .before .before .before .before .before .before .args .p .now) (c .before .before .before .before .before .before .before .before .before .args .i) (c .before .before .before .before .before .before .before .before .before .pre .0 .node) (c .before .before .before .before .before .before .before .before .before .pre .0 .kind) .1) .node) (sym (c .before .before .has-branch .ensures) ∙ c .before .if1 .taken) in (c .before .before .before .before .before .before .before .before .before .pre .0, omega (arith, f .node .inside, f .node .shaped .small))
+enters-requires c κs = let f = found (c .before .before .before .before .before .before .before .before .before .args .p .now) (c .before .before .before .before .before .before .before .before .before .args .n .b) (c .before .before .before .before .r .given .0 .0) (read (c .before .before .before .before .before .before .before .before .before .pre .0 .fields .b-is) (group-kids (c .before .before .before .before .before .before .before .before .before .args .p .now) (c .before .before .before .before .before .before .before .before .before .args .i) (c .before .before .before .before .before .before .before .before .before .pre .0 .node) (c .before .before .before .before .before .before .before .before .before .pre .0 .kind) .1) .node) (sym (c .before .before .has-branch .ensures) ∙ c .before .if1 .taken) in (c .before .before .before .before .before .before .before .before .before .pre .0, f .node)
 
 -- src/lib.rt:105:17
 ruled-requires-2 : tie.Need-ruled-requires-2

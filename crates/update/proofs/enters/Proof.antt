@@ -8,12 +8,13 @@ use Rattle.rules.proofs.Kids.{read}
 use Prim.Native.Nat.{ℕ}
 use mathlib.Core.Path.{ap, _∙_}
 use native.Mathlib.Omega.{arith}
+use borrow.Author.Needs.{needs}
 use Rattle.update.proofs.enters.Statement.{statement}
 use Rattle.update.proofs.enters.Tie as tie
 
 -- src/lib.rt:89:5
 hold-branch-requires : tie.Need-hold-branch-requires
-hold-branch-requires c κs = (celled (c .before .before .before .before .pre .0 .node) (c .before .before .before .before .pre .0 .table) (c .before .before .before .before .pre .0 .cells) (group-cell (c .before .before .before .before .pre .0 .kind)), c .before .before .before .before .pre .1)
+hold-branch-requires c κs = (celled (c .before .before .before .before .pre .0 .node) (c .before .before .before .before .pre .0 .table) (c .before .before .before .before .pre .0 .cells) (group-cell (c .before .before .before .before .pre .0 .kind)), omega (arith, c .before .before .before .before .pre .1 .inside, c .before .before .before .before .pre .1 .shaped .small))
 
 -- src/lib.rt:90:5
 reset-s-requires : tie.Need-reset-s-requires
@@ -21,7 +22,7 @@ reset-s-requires c κs = record { node = read (c .before .before .before .before
 
 -- src/lib.rt:91:5
 reset-b-requires : tie.Need-reset-b-requires
-reset-b-requires c κs = record { node = read (c .before .before .before .before .before .before .before .before .before .before .before .before .pre .0 .fields .b-is) (group-kids (c .before .before .before .before .before .before .before .before .before .before .before .before .args .p .now) (c .before .before .before .before .before .before .before .before .before .before .before .before .args .i) (c .before .before .before .before .before .before .before .before .before .before .before .before .pre .0 .node) (c .before .before .before .before .before .before .before .before .before .before .before .before .pre .0 .kind) .1) .node; indexed = c .before .before .before .before .before .before .before .before .before .before .before .before .pre .0 .table; enough = omega (arith, c .before .before .before .before .before .before .before .before .before .before .before .before .pre .0 .cells, c .before .before .before .before .before .before .before .hold-branch .kept .1 .0, c .before .before .before .reset-s .kept .1 .1 .0) }
+reset-b-requires c κs = let all = read (c .before .before .before .before .before .before .before .before .before .before .before .before .pre .0 .fields .b-is) (group-kids (c .before .before .before .before .before .before .before .before .before .before .before .before .args .p .now) (c .before .before .before .before .before .before .before .before .before .before .before .before .args .i) (c .before .before .before .before .before .before .before .before .before .before .before .before .pre .0 .node) (c .before .before .before .before .before .before .before .before .before .before .before .before .pre .0 .kind) .1) .node in let taken = c .before .before .before .before .before .before .before .before .before .before .before .before .pre .1 in record { node = search needs; indexed = c .before .before .before .before .before .before .before .before .before .before .before .before .pre .0 .table; enough = omega (arith, c .before .before .before .before .before .before .before .before .before .before .before .before .pre .0 .cells, c .before .before .before .before .before .before .before .hold-branch .kept .1 .0, c .before .before .before .reset-s .kept .1 .1 .0) }
 
 -- src/lib.rt:85:1
 same-length : tie.Need-same-length

@@ -28,7 +28,7 @@ use Rattle.promises.specs.Kept.{Kept}
 use Rattle.promises.proofs.ValidLaws.{and-join, or-cases, content-fits, value-fits, packed-some, packed-small, packed-middle}
 use Rattle.promises.proofs.Frames.{kept-then, kept-more, apart-agree, rests-agree, well-agree}
 use Rattle.promises.proofs.Rests.{Became, join, both-local, cell-set, cell-local, hold-set, reset-rests, resetB-rests, rests-well}
-use Rattle.promises.proofs.Goes.{Goes, next, jump, taken-goes}
+use Rattle.promises.proofs.Goes.{Goes, next, jump}
 
 -- The second of two tests.
 pub if-no : (b p q : Bool) → b ≡ false → q ≡ true → (if b then p else q) ≡ true
@@ -153,6 +153,6 @@ caught-goes count cells τ n k body brs sits once l (next a e) = next a e
 caught-goes count cells τ n k body brs sits once l (jump {target} {v} {st₁} o valid typed a) =
     let has : hasBranch target brs ≡ true = its-own target brs o in
     let b = entered count cells τ n k body brs sits once st₁ (a .bytes) (a .long ∙ l) v valid target typed has in
-    taken-goes (hasBranch target brs) _ _ has
+    rw has
     (next (kept-then (λ j z. z) (λ j z. z) a (b .kept))
     (entered-well count cells τ n k body brs sits once st₁ (a .bytes) (a .long ∙ l) v valid target typed has))

@@ -86,10 +86,6 @@ module _ {Δ : Offers} {τ own : ℕ → ℕ} {test : Bytes → Bool} {st : Byte
   either-goes true e g h = g refl e
   either-goes false e g h = h refl e
 
-  -- The first of two, where its test holds.
-  pub taken-goes : (b : Bool) (r s : Updated) → b ≡ true → Goes Δ τ own test st r → Goes Δ τ own test st (if b then r else s)
-  taken-goes b r s e g = rw e g
-
   -- A switch's event: caught or not.
   pub onEvent-goes : (t : ℕ) {event : Value} → Valid event → typeOf event ≡ maybeOf t → {f : Value → Updated} {q : Updated}
       → Goes Δ τ own test st q → ((v : Value) → Valid v → typeOf v ≡ t → Goes Δ τ own test st (f v))

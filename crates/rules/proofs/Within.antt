@@ -8,8 +8,7 @@ use lib.Dec.{eqb}
 use lib.ListN.{getD}
 use Rattle.rules.specs.Bytes.{Bytes, if_then_else_}
 use Rattle.rules.specs.Scope.{hasBranch}
-use Rattle.rules.specs.Reset.{resetS, resetB}
-use Rattle.rules.specs.Layout.{holdBranch, isClear, held, branchIn}
+use Rattle.rules.specs.Layout.{isClear, held, branchIn}
 use Rattle.rules.specs.Values.{maybeOf, isPlain, unpacked}
 use Rattle.rules.specs.Work.{nothing, oneRule, _plus_, give, after, rule, _then_, Updated, Next, Jump, Halted, stays, leave, afterᵘ, ruleᵘ, _with_, _thenᵘ_}
 use Rattle.rules.specs.Tree.{Expr, variable, constant, operation, negation, choice, just, taking, Signal, input, time, ext, delay, letSignal, switch, group, until, Branches, noBranch, branch, Cases, noCase, case}
@@ -261,9 +260,9 @@ stays-within (Next st w) h = h
 stays-within (Jump target v st w) h = freeᵘ
 stays-within Halted h = freeᵘ
 
-eitherᵘ : (t : Bool) (r s : Updated) {b c : ℕ} → Withinᵘ r b → Withinᵘ s c → Withinᵘ (if t then r else s) (max b c)
-eitherᵘ true r s h g = widerᵘ r h (omega arith)
-eitherᵘ false r s h g = widerᵘ s g (omega arith)
+eitherᵘ : (t : Bool) (r s : Updated) {b : ℕ} → Withinᵘ r b → Withinᵘ s b → Withinᵘ (if t then r else s) b
+eitherᵘ true r s h g = h
+eitherᵘ false r s h g = g
 
 onOccurrence-within : (o : Occurrence) (st : Bytes) (q : Updated) {b c : ℕ} → Withinᵒ o b → Withinᵘ q c → Withinᵘ (onOccurrence o st q) (b + c)
 unfolding onOccurrence
@@ -274,11 +273,7 @@ onOccurrence-within Occurrence.Stuck st q h e = freeᵘ
 caught-within : (k : ℕ) (body : Signal) (brs : Branches) (r : Updated) {b : ℕ} → Withinᵘ r b → Withinᵘ (caught k body brs r) b
 unfolding caught
 caught-within k body brs (Next st w) h = h
-caught-within k body brs (Jump target v st w) {b} h = go (hasBranch target brs)
-  where
-    go : (t : Bool) → Withinᵘ (if t then Next (resetB brs (resetS body (holdBranch st k target v))) w else Jump target v st w) b
-    go true = record { most = h .most }
-    go false = h
+caught-within k body brs (Jump target v st w) h = eitherᵘ (hasBranch target brs) _ _ (record { most = h .most }) h
 caught-within k body brs Halted h = freeᵘ
 
 onEvent-within : (o : Opened) (f : Value → Updated) (q : Updated) {c : ℕ} → ((v : Value) → Withinᵘ (f v) c) → Withinᵘ q c
@@ -288,6 +283,15 @@ onEvent-within (Here v) f q g e = g v
 onEvent-within Gone f q g e = e
 onEvent-within Amiss f q g e = freeᵘ
 
+-- a part's update, whatever the environment and the state
+abbrev Part : Bytes → Signal → ℕ → Type 0
+Part rec s b = (env : Env) (st : Bytes) → Withinᵘ (updS rec env s st) b
+
+-- by one of two parts, neither of which has a bound above the whole's
+parts-within : (rec : Bytes) (x y : Signal) (r : Updated) {a b c : ℕ} → Part rec x a → Part rec y b → a ≤ c → b ≤ c
+    → (Part rec x c → Part rec y c → Withinᵘ r c) → Withinᵘ r c
+parts-within rec x y r h g l k f = f (λ env st. widerᵘ _ (h env st) l) λ env st. widerᵘ _ (g env st) k
+
 mutual
   unfolding updS boundU boundSC
 
@@ -296,19 +300,21 @@ mutual
   updS-within rec env (time n) st = rule-withinᵘ _ {b = 0} (leave-within st)
   updS-within rec env (ext n e) st = rule-withinᵘ _ {b = 0} (leave-within st)
   updS-within rec env (delay n k v s) st =
-      rule-withinᵘ _ (with-within _ _ (evalS-within rec st env s) λ w.
-      widerᵘ _ (then-withinᵘ _ _ (updS-within rec env s st) λ st₁. leave-within _ {b = 0}) (omega arith))
+      rule-withinᵘ _ (with-within _ _ (evalS-within rec _ _ s) λ w.
+      widerᵘ _ (then-withinᵘ _ _ (updS-within rec _ s _) λ st₁. leave-within _ {b = 0}) (omega arith))
   updS-within rec env (letSignal n t d b) st =
-      rule-withinᵘ _ (with-within _ _ (evalS-within rec st env d) λ v.
-      then-withinᵘ _ _ (updS-within rec (bind env n v) d st) λ st₁. updS-within rec (bind env n v) b st₁)
+      rule-withinᵘ _ (with-within _ _ (evalS-within rec _ _ d) λ v.
+      then-withinᵘ _ _ (updS-within rec _ d _) λ st₁. updS-within rec _ b _)
   updS-within rec env (switch n k t x e y) st =
-      rule-withinᵘ _ (with-within _ _ (evalS-within rec st env e) λ event.
-      then-withinᵘ _ _ (updS-within rec env e st) λ st₁.
+      rule-withinᵘ _ (with-within _ _ (evalS-within rec _ _ e) λ event.
+      then-withinᵘ _ _ (updS-within rec _ e _) λ st₁.
       onEvent-within (opened event) _ _ (λ v. leave-within _)
-      (stays-within _ (eitherᵘ (isClear st₁ k) _ _ (updS-within rec env x st₁) (updS-within rec (bind env n (held st₁ k)) y st₁))))
+      (stays-within _ (parts-within rec x y _ (λ env₁ st₂. updS-within rec env₁ x st₂) (λ env₁ st₂. updS-within rec env₁ y st₂)
+      (omega arith) (omega arith) λ first second. eitherᵘ (isClear st₁ k) _ _ (search) (search))))
   updS-within rec env (group n k body brs) st =
       rule-withinᵘ _
-      (caught-within k body brs _ (eitherᵘ (isClear st k) _ _ (updS-within rec env body st) (updB-within rec env (branchIn st k) (held st k) brs st)))
+      (caught-within k body brs _ (eitherᵘ (isClear st k) _ _
+      (widerᵘ _ (updS-within rec _ body _) (omega arith)) (widerᵘ _ (updB-within rec _ _ _ brs _) (omega arith))))
   updS-within rec env (until n s cs) st =
       rule-withinᵘ _ (onOccurrence-within _ st _ (firstPresent-within rec st env cs)
       (then-withinᵘ _ _ (updC-within rec env cs st) λ st₁. stays-within _ (updS-within rec env s st₁)))
@@ -317,7 +323,8 @@ mutual
       → Withinᵘ (updB rec env which v brs st) (boundUB brs)
   updB-within rec env which v noBranch st = freeᵘ
   updB-within rec env which v (branch n t body next) st =
-      eitherᵘ (eqb n which) _ _ (updS-within rec (bind env n v) body st) (updB-within rec env which v next st)
+      eitherᵘ (eqb n which) _ _
+      (widerᵘ _ (updS-within rec _ body _) (omega arith)) (widerᵘ _ (updB-within rec env which v next st) (omega arith))
 
   pub updC-within : (rec : Bytes) (env : Env) (cs : Cases) (st : Bytes)
       → Withinᵘ (updC rec env cs st) (boundUC cs)

@@ -254,10 +254,17 @@ static couplerfinch_answer guarded(const struct request *request)
 static void print_hex(struct room room)
 {
     static const char digits[] = "0123456789abcdef";
+    char text[4096];
+    size_t length = 0;
     for (size_t i = 0; i < room.length; i++) {
-        putchar(digits[room.bytes[i] >> 4]);
-        putchar(digits[room.bytes[i] & 15]);
+        text[length++] = digits[room.bytes[i] >> 4];
+        text[length++] = digits[room.bytes[i] & 15];
+        if (length == sizeof text) {
+            fwrite(text, 1, length, stdout);
+            length = 0;
+        }
     }
+    fwrite(text, 1, length, stdout);
     putchar('\n');
 }
 

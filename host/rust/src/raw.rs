@@ -1,5 +1,5 @@
 //! `include/couplerfinch.h` in Rust: its numbers, its answer and its functions, under its names and
-//! in its order. `tests/header.rs` holds this file against the header, so each item has its line.
+//! in its order. `tests/header.rs` holds this file against the header.
 
 pub const BLOCK: usize = 512;
 pub const BLOCKS: usize = 24;
@@ -44,10 +44,39 @@ pub struct Answer {
     pub r#type: u32,
 }
 
-#[rustfmt::skip]
 extern "C" {
-    pub fn couplerfinch_check(program: *const u8, program_length: usize, answer: *mut Answer) -> u32;
-    pub fn couplerfinch_start(program: *const u8, program_length: usize, state: *mut u8, state_length: usize, answer: *mut Answer) -> u32;
-    pub fn couplerfinch_step(program: *const u8, program_length: usize, state: *mut u8, state_length: usize, input: *const u8, input_length: usize, output: *mut u8, output_length: usize, answer: *mut Answer) -> u32;
-    pub fn couplerfinch_run(program: *const u8, program_length: usize, state: *mut u8, state_length: usize, records: *const u8, records_length: usize, output: *mut u8, output_length: usize, answer: *mut Answer) -> u32;
+    pub fn couplerfinch_check(
+        program: *const u8,
+        program_length: usize,
+        answer: *mut Answer,
+    ) -> u32;
+    pub fn couplerfinch_start(
+        program: *const u8,
+        program_length: usize,
+        state: *mut u8,
+        state_length: usize,
+        answer: *mut Answer,
+    ) -> u32;
+    pub fn couplerfinch_step(
+        program: *const u8,
+        program_length: usize,
+        state: *mut u8,
+        state_length: usize,
+        input: *const u8,
+        input_length: usize,
+        output: *mut u8,
+        output_length: usize,
+        answer: *mut Answer,
+    ) -> u32;
+    pub fn couplerfinch_run(
+        program: *const u8,
+        program_length: usize,
+        state: *mut u8,
+        state_length: usize,
+        records: *const u8,
+        records_length: usize,
+        output: *mut u8,
+        output_length: usize,
+        answer: *mut Answer,
+    ) -> u32;
 }

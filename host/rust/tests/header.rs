@@ -79,8 +79,8 @@ fn header(text: &str) -> Declared {
     let (bodies, text) =
         cut(&text, "typedef struct couplerfinch_answer {", "} couplerfinch_answer;");
     assert_eq!(bodies.len(), 1, "one struct");
-    let mut all = Declared::default();
-    all.fields = statements(&bodies[0]).iter().map(|text| declared_in_c(text)).collect();
+    let fields = statements(&bodies[0]).iter().map(|text| declared_in_c(text)).collect();
+    let mut all = Declared { fields, ..Declared::default() };
     let mut rest = String::new();
     for line in text.lines() {
         match line.strip_prefix("#define COUPLERFINCH_") {
@@ -105,9 +105,18 @@ fn statements(text: &str) -> Vec<String> {
     all.filter(|one| !one.is_empty()).collect()
 }
 
+/// A function of `raw.rs`, however it is broken into lines.
+fn function(text: &str) -> String {
+    let text = text.strip_prefix("pub fn ").expect("a function that others may call");
+    text.replace("( ", "(").replace(", )", ")")
+}
+
 /// What `raw.rs` declares.
 fn rust(text: &str) -> Declared {
-    let mut all = Declared::default();
+    let (blocks, text) = cut(text, "extern \"C\" {", "}");
+    assert_eq!(blocks.len(), 1, "one block of functions");
+    let functions = statements(&blocks[0]).iter().map(|text| function(text)).collect();
+    let mut all = Declared { functions, ..Declared::default() };
     let lines = text.lines().map(str::trim);
     let mut lines = lines.filter(|line| !line.is_empty() && !line.starts_with("//"));
     while let Some(line) = lines.next() {
@@ -119,8 +128,6 @@ fn rust(text: &str) -> Declared {
             let (name, value) = end(";")["pub const ".len()..].split_once(": ").expect("a type");
             let (_, value) = value.split_once(" = ").expect("a value");
             all.numbers.push(format!("{name} = {}", formula(value)));
-        } else if line.starts_with("pub fn ") {
-            all.functions.push(end(";")["pub fn ".len()..].to_string());
         } else if line.starts_with("pub ") && line.ends_with(',') {
             all.fields.push(end(",")["pub ".len()..].replace("r#", ""));
         } else {
@@ -131,13 +138,11 @@ fn rust(text: &str) -> Declared {
 }
 
 /// Lines of `raw.rs` that declare nothing by themselves.
-const SILENT: [&str; 6] = [
+const SILENT: [&str; 4] = [
     "}",
     "#[repr(C)]",
     "#[derive(Clone, Copy, Debug, Default, PartialEq, Eq)]",
     "pub struct Answer {",
-    "#[rustfmt::skip]",
-    "extern \"C\" {",
 ];
 
 #[test]
@@ -178,12 +183,12 @@ fn codes_have_the_headers_names() {
 #[test]
 fn types_are_the_papers() {
     let numbers = [1, 2, 3, 5, 6, 7];
-    assert_eq!(numbers.map(|number| Type::of(number)), Type::ALL.map(Some));
+    assert_eq!(numbers.map(Type::of), Type::ALL.map(Some));
     assert_eq!([0, 4, 8, 259].map(Type::of), [None; 4]);
 }
 
 /// An edit of either file that the comparison must see.
-const EDITS: [(bool, &str, &str); 12] = [
+const EDITS: [(bool, &str, &str); 14] = [
     (true, "TIME_BACK 13u", "TIME_BACK 14u"),
     (true, "COUPLERFINCH_BLOCK 512u", "COUPLERFINCH_BLOCKY 512u"),
     (true, "(4u + 8u * ", "(8u + 8u * "),
@@ -199,9 +204,11 @@ const EDITS: [(bool, &str, &str); 12] = [
     (false, "    pub cells: u32,\n    pub bound: u32,", "    pub bound: u32,\n    pub cells: u32,"),
     (
         false,
-        "state: *mut u8, state_length: usize, input",
-        "state_length: usize, state: *mut u8, input",
+        "state: *mut u8,\n        state_length: usize,",
+        "state_length: usize,\n        state: *mut u8,",
     ),
+    (false, "input: *const u8,", "input: *mut u8,"),
+    (false, "program: *const u8,", "table: *const u8,"),
     (false, "    4 + 8 * cells", "    4 + 8 * cells + 4"),
     (false, "pub const NOT_READY: u32 = 8;\n", ""),
 ];

@@ -95,8 +95,13 @@ pub fn start_state(sample: &Sample) -> Vec<u8> {
 
 /// A state reached after some steps, and the time after it.
 pub fn reached_state(random: &mut Random, sample: &Sample) -> (Vec<u8>, u32) {
-    let mut state = start_state(sample);
     let steps = random.one(&[0, 0, 1, 2, 3, 6, 12]);
+    state_after(random, sample, steps)
+}
+
+/// A state reached after so many steps, and the time after it.
+fn state_after(random: &mut Random, sample: &Sample, steps: usize) -> (Vec<u8>, u32) {
+    let mut state = start_state(sample);
     let from = random.one(&[0, 0, 5, 1000, 2_147_483_000]);
     let before = records(random, steps, from);
     let _ = calls::run(&sample.file, &mut state, &before, &mut vec![0; steps * calls::OUTPUT]);
@@ -194,6 +199,26 @@ fn record_count(random: &mut Random, nodes: usize) -> usize {
         0..20 if nodes <= 120 => random.between(20, 300),
         _ => random.between(0, 16),
     }
+}
+
+/// A long run: programs of every size, more records than `request` gives them, from a state that up
+/// to 200 steps reached. Most are accepted, and the rest refused at any of their records.
+pub fn long_request(random: &mut Random) -> Request {
+    let nodes = size(random);
+    let sample = accepted(random, nodes);
+    let before = random.between(0, 200);
+    let (state, time) = state_after(random, &sample, before);
+    let count = match random.below(40) {
+        0 if nodes <= 250 => MOST_RECORDS,
+        0..4 => random.between(301, 1500),
+        _ => random.between(17, 300),
+    };
+    let mut records = records(random, count, time);
+    if random.chance(25) {
+        damage::records(random, &mut records);
+    }
+    let output = vec![random.draw() as u8; count * calls::OUTPUT];
+    Request::Run { program: sample.file, state, records, output }
 }
 
 /// Wrong lengths of the records, of the output room, or of both.

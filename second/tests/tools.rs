@@ -91,6 +91,24 @@ fn seeds_decide() {
 }
 
 #[test]
+fn long_requests_go_far() {
+    let mut random = Random::new(13);
+    let (mut accepted, mut refused) = (0, 0);
+    for _ in 0..60 {
+        let request = generate::long_request(&mut random);
+        let (name, rooms) = request.parts();
+        assert_eq!((name, rooms[2].len() / 40), ("run", rooms[3].len() / 8));
+        assert!((17 * 40..=4096 * 40).contains(&rooms[2].len()));
+        match request.answer().code() {
+            0 => accepted += 1,
+            12 | 13 => refused += 1,
+            code => panic!("code {code}"),
+        }
+    }
+    assert!(accepted >= 30 && refused >= 5, "{accepted} {refused}");
+}
+
+#[test]
 fn watch_inputs_are_files() {
     let mut random = Random::new(11);
     let mut words = [0usize; 3];

@@ -5,7 +5,8 @@ use second::random::Random;
 use std::io::{self, stdout, BufWriter, Write};
 use std::path::Path;
 
-const USAGE: &str = "generate requests SEED COUNT | checks SEED COUNT | programs SEED COUNT DIR";
+const USAGE: &str =
+    "generate requests SEED COUNT | checks SEED COUNT | long SEED COUNT | programs SEED COUNT DIR";
 
 fn main() {
     let words: Vec<String> = std::env::args().skip(1).collect();
@@ -17,6 +18,7 @@ fn main() {
     let outcome = match (words[0].as_str(), words.get(3)) {
         ("requests", _) => stream(seed, count, generate::request),
         ("checks", _) => stream(seed, count, generate::check_request),
+        ("long", _) => stream(seed, count, generate::long_request),
         ("programs", Some(folder)) => files(seed, count, Path::new(folder)),
         _ => Err(io::Error::other(USAGE)),
     };

@@ -1,0 +1,190 @@
+//! The four calls of Couplerfinch for Rust: [`check`], [`start`], [`step`] and [`run`].
+//!
+//! They stand over the static library `libcouplerfinch.a`, whose answers are proved: every call ends
+//! and answers, whatever bytes and lengths it is handed. What a caller in C owes (a pointer to as
+//! many bytes as its length says, no overlap of what is written) slices give, so these functions are
+//! safe. Nothing is allocated and `std` is not used; a call needs at most 512 KiB of stack.
+//!
+//! The archive is for x86-64 Linux. `build.rs` finds it by COUPLERFINCH_ARCHIVE, or in the
+//! repository's `target/staticlib`, where `rt staticlib couplerfinch` writes it.
+//!
+//! ```no_run
+//! # fn next_record() -> Option<[u8; couplerfinch::RECORD]> { None }
+//! # fn show(_: [u8; couplerfinch::VALUE]) {}
+//! # fn crossing(program: &[u8]) -> Result<(), couplerfinch::Refusal> {
+//! let mut room = [0; couplerfinch::LONGEST_STATE];
+//! let checked = couplerfinch::check(program)?;
+//! let state = &mut room[..checked.state_length()];
+//! couplerfinch::start(program, state)?;
+//! while let Some(record) = next_record() {
+//!     let mut value = [0; couplerfinch::VALUE];
+//!     match couplerfinch::step(program, state, &record, &mut value) {
+//!         Ok(_) => show(value),
+//!         // A refused step changes neither state nor value.
+//!         Err(refusal) => eprintln!("{refusal}"),
+//!     }
+//! }
+//! # Ok(())
+//! # }
+//! ```
+#![no_std]
+#![warn(missing_docs)]
+
+mod code;
+#[allow(missing_docs)]
+pub mod raw;
+
+pub use code::{Code, Type};
+pub use raw::{state_length, BLOCK, BLOCKS, LONGEST_STATE, NODES, RECORD, RECORDS, VALUE};
+
+use core::fmt;
+
+/// What check says of an accepted program.
+#[derive(Clone, Copy, Debug, PartialEq, Eq)]
+pub struct Checked {
+    /// How many nodes the program has.
+    pub nodes: u32,
+    /// How many cells its state has.
+    pub cells: u32,
+    /// The most rules that a step uses.
+    pub bound: u32,
+    /// The type of the value of a step.
+    pub value: Type,
+}
+
+impl Checked {
+    /// The length of the program's state in bytes.
+    pub const fn state_length(&self) -> usize {
+        state_length(self.cells as usize)
+    }
+}
+
+/// What step and run say of steps that went through.
+#[derive(Clone, Copy, Debug, PartialEq, Eq)]
+pub struct Ran {
+    /// How many steps were done.
+    pub steps: u32,
+    /// How many rules they used.
+    pub work: u32,
+}
+
+/// A refused call.
+#[derive(Clone, Copy, Debug, PartialEq, Eq)]
+pub struct Refusal {
+    /// The first code that the rules give.
+    pub code: Code,
+    /// Where, as the code says; 0 where it names no place.
+    pub place: u32,
+    /// What a run had done before, which stays done; zeros for the other calls.
+    pub ran: Ran,
+}
+
+impl fmt::Display for Refusal {
+    fn fmt(&self, to: &mut fmt::Formatter) -> fmt::Result {
+        write!(to, "refused: {} at {}", self.code, self.place)
+    }
+}
+
+/// Checks a program, 1 to 24 blocks of 512 bytes.
+pub fn check(program: &[u8]) -> Result<Checked, Refusal> {
+    let answer = answered(|answer| {
+        // Safety: the pointers come from slices and a value that outlive the call, and what is
+        // written is lent alone.
+        unsafe { raw::couplerfinch_check(program.as_ptr(), program.len(), answer) }
+    })?;
+    let raw::Answer { nodes, cells, bound, r#type, .. } = answer;
+    let value = Type::of(r#type).expect("the library gives a type of the header's");
+    Ok(Checked { nodes, cells, bound, value })
+}
+
+/// Makes the room the program's start state, if it is [`Checked::state_length`] long.
+pub fn start(program: &[u8], state: &mut [u8]) -> Result<(), Refusal> {
+    answered(|answer| {
+        let (room, length) = (state.as_mut_ptr(), state.len());
+        // Safety: as for `check`; the state is lent alone.
+        unsafe { raw::couplerfinch_start(program.as_ptr(), program.len(), room, length, answer) }
+    })?;
+    Ok(())
+}
+
+/// Makes one step: the value goes to the 8 bytes of output, and the state goes on. A refused step
+/// changes neither.
+pub fn step(
+    program: &[u8],
+    state: &mut [u8],
+    input: &[u8],
+    output: &mut [u8],
+) -> Result<Ran, Refusal> {
+    steps(raw::couplerfinch_step, program, state, input, output)
+}
+
+/// Makes a step for each of 0 to 4,096 records, with 8 bytes of output each; the program is checked
+/// once. A refused run keeps the steps done before the refused record.
+pub fn run(
+    program: &[u8],
+    state: &mut [u8],
+    records: &[u8],
+    output: &mut [u8],
+) -> Result<Ran, Refusal> {
+    steps(raw::couplerfinch_run, program, state, records, output)
+}
+
+/// The form that step and run have in common.
+type Steps = unsafe extern "C" fn(
+    *const u8,
+    usize,
+    *mut u8,
+    usize,
+    *const u8,
+    usize,
+    *mut u8,
+    usize,
+    *mut raw::Answer,
+) -> u32;
+
+/// Makes a step or a run.
+fn steps(
+    call: Steps,
+    program: &[u8],
+    state: &mut [u8],
+    records: &[u8],
+    output: &mut [u8],
+) -> Result<Ran, Refusal> {
+    let answer = answered(|answer| {
+        let (program, program_length) = (program.as_ptr(), program.len());
+        let (state, state_length) = (state.as_mut_ptr(), state.len());
+        let (records, records_length) = (records.as_ptr(), records.len());
+        let (output, length) = (output.as_mut_ptr(), output.len());
+        // Safety: as for `check`; state and output are lent alone, so they overlap nothing.
+        unsafe {
+            call(
+                program,
+                program_length,
+                state,
+                state_length,
+                records,
+                records_length,
+                output,
+                length,
+                answer,
+            )
+        }
+    })?;
+    Ok(ran(&answer))
+}
+
+/// Makes a call with room for its answer, which is a refusal where its code is not 0.
+fn answered(call: impl FnOnce(&mut raw::Answer) -> u32) -> Result<raw::Answer, Refusal> {
+    let mut answer = raw::Answer::default();
+    match call(&mut answer) {
+        raw::DONE => Ok(answer),
+        number => {
+            let code = Code::of(number).expect("the library gives a code of the header's");
+            Err(Refusal { code, place: answer.place, ran: ran(&answer) })
+        }
+    }
+}
+
+fn ran(answer: &raw::Answer) -> Ran {
+    Ran { steps: answer.steps, work: answer.work }
+}

@@ -1,0 +1,82 @@
+//! `include/couplerfinch.h` in Rust: its numbers, its answer and its functions, under its names and
+//! in its order. `tests/header.rs` holds this file against the header.
+
+pub const BLOCK: usize = 512;
+pub const BLOCKS: usize = 24;
+pub const NODES: usize = 1008;
+pub const RECORD: usize = 40;
+pub const VALUE: usize = 8;
+pub const RECORDS: usize = 4096;
+
+/// The length of a state of so many cells.
+pub const fn state_length(cells: usize) -> usize {
+    4 + 8 * cells
+}
+pub const LONGEST_STATE: usize = state_length(NODES);
+
+pub const DONE: u32 = 0;
+pub const PROGRAM_LENGTH: u32 = 1;
+pub const CHECK_SUM: u32 = 2;
+pub const BLOCK_NUMBER: u32 = 3;
+pub const RECORD_FAULT: u32 = 4;
+pub const SHAPE_FAULT: u32 = 5;
+pub const SCOPE_FAULT: u32 = 6;
+pub const TYPE_FAULT: u32 = 7;
+pub const NOT_READY: u32 = 8;
+pub const STATE_FAULT: u32 = 9;
+pub const RECORDS_LENGTH: u32 = 10;
+pub const OUTPUT_LENGTH: u32 = 11;
+pub const INPUT_FAULT: u32 = 12;
+pub const TIME_BACK: u32 = 13;
+pub const TOO_MUCH_WORK: u32 = 14;
+
+/// An answer as the calls write it: numbers that a call does not give are 0.
+#[repr(C)]
+#[derive(Clone, Copy, Debug, Default, PartialEq, Eq)]
+pub struct Answer {
+    pub code: u32,
+    pub place: u32,
+    pub steps: u32,
+    pub work: u32,
+    pub nodes: u32,
+    pub cells: u32,
+    pub bound: u32,
+    pub r#type: u32,
+}
+
+extern "C" {
+    pub fn couplerfinch_check(
+        program: *const u8,
+        program_length: usize,
+        answer: *mut Answer,
+    ) -> u32;
+    pub fn couplerfinch_start(
+        program: *const u8,
+        program_length: usize,
+        state: *mut u8,
+        state_length: usize,
+        answer: *mut Answer,
+    ) -> u32;
+    pub fn couplerfinch_step(
+        program: *const u8,
+        program_length: usize,
+        state: *mut u8,
+        state_length: usize,
+        input: *const u8,
+        input_length: usize,
+        output: *mut u8,
+        output_length: usize,
+        answer: *mut Answer,
+    ) -> u32;
+    pub fn couplerfinch_run(
+        program: *const u8,
+        program_length: usize,
+        state: *mut u8,
+        state_length: usize,
+        records: *const u8,
+        records_length: usize,
+        output: *mut u8,
+        output_length: usize,
+        answer: *mut Answer,
+    ) -> u32;
+}

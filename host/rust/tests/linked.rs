@@ -1,0 +1,163 @@
+//! The four calls through the static library, on readings A, C and D of document 01 and on refusals.
+//! Where there is no archive for the target this file is empty.
+#![cfg(linked)]
+
+use couplerfinch::{check, run, start, step, Checked, Code, Ran, Refusal, Type, BLOCK, RECORD};
+
+/// A record of a table: kind, type, a, b, c and word.
+type Node = (u8, u8, u16, u16, u16, i32);
+
+/// Reading A: let x = delay 0 (ext x+1) in ext x.
+const A: [Node; 8] = [
+    (16, 0, 7, 0, 0, 0),
+    (17, 3, 0, 1, 0, 1),
+    (18, 0, 0, 1, 0, 0),
+    (3, 0, 2, 0, 0, 0),
+    (4, 3, 3, 1, 0, 0),
+    (16, 0, 7, 0, 0, 0),
+    (3, 0, 5, 0, 0, 0),
+    (5, 3, 4, 6, 0, 0),
+];
+
+/// Reading C: let x = ext x in ext x.
+const C: [Node; 5] = [
+    (16, 0, 4, 0, 0, 0),
+    (3, 0, 0, 0, 0, 0),
+    (16, 0, 4, 0, 0, 0),
+    (3, 0, 2, 0, 0, 0),
+    (5, 3, 1, 3, 0, 0),
+];
+
+/// Reading D: switch (ext 0) on x = input 4 in ext x.
+const D: [Node; 6] = [
+    (17, 3, 0, 1, 0, 0),
+    (3, 0, 0, 0, 0, 0),
+    (1, 0, 4, 0, 0, 0),
+    (16, 0, 5, 0, 0, 0),
+    (3, 0, 3, 0, 0, 0),
+    (6, 3, 1, 2, 4, 0),
+];
+
+/// The one block of a table.
+fn block(nodes: &[Node]) -> [u8; BLOCK] {
+    let mut block = [0; BLOCK];
+    block[2] = 1;
+    for (&(kind, ty, a, b, c, word), room) in nodes.iter().zip(block[4..508].chunks_exact_mut(12)) {
+        (room[0], room[1]) = (kind, ty);
+        for (field, at) in [(a, 2), (b, 4), (c, 6)] {
+            room[at..at + 2].copy_from_slice(&field.to_le_bytes());
+        }
+        room[8..].copy_from_slice(&word.to_le_bytes());
+    }
+    let sum: u32 = (1..).zip(&block[..508]).map(|(place, &byte)| place * u32::from(byte)).sum();
+    block[508..].copy_from_slice(&sum.to_le_bytes());
+    block
+}
+
+/// A record of a time, with an event on channel 4 or none.
+fn record(time: u32, event: Option<u32>) -> [u8; RECORD] {
+    let mut record = [0; RECORD];
+    record[..4].copy_from_slice(&time.to_le_bytes());
+    if let Some(word) = event {
+        record[20] = 1;
+        record[24..28].copy_from_slice(&word.to_le_bytes());
+    }
+    record
+}
+
+/// The 8 bytes of an int.
+fn int(word: u8) -> [u8; 8] {
+    [3, 1, 0, 0, word, 0, 0, 0]
+}
+
+fn refusal(code: Code, place: u32) -> Refusal {
+    Refusal { code, place, ran: Ran { steps: 0, work: 0 } }
+}
+
+#[test]
+fn reading_a_by_steps() {
+    let program = block(&A);
+    let checked = check(&program).unwrap();
+    assert_eq!(checked, Checked { nodes: 8, cells: 1, bound: 13, value: Type::Int });
+    let mut state = vec![9; checked.state_length()];
+    start(&program, &mut state).unwrap();
+    assert_eq!(state, [255, 255, 255, 255, 3, 1, 0, 0, 0, 0, 0, 0]);
+    for (time, value) in [(0, 0), (100, 1), (100, 2)] {
+        let mut output = [9; 8];
+        let ran = step(&program, &mut state, &record(time, None), &mut output);
+        assert_eq!((ran, output), (Ok(Ran { steps: 1, work: 13 }), int(value)));
+    }
+    assert_eq!(state, [100, 0, 0, 0, 3, 1, 0, 0, 3, 0, 0, 0]);
+}
+
+#[test]
+fn reading_d_by_a_run() {
+    let program = block(&D);
+    let events = [Some(5), None, Some(6), None];
+    let records: Vec<u8> =
+        (0..).zip(events).flat_map(|(time, event)| record(time, event)).collect();
+    let (mut state, mut output) = ([0; 12], [9; 32]);
+    start(&program, &mut state).unwrap();
+    assert_eq!(run(&program, &mut state, &[], &mut []), Ok(Ran { steps: 0, work: 0 }));
+    let ran = run(&program, &mut state, &records, &mut output);
+    assert_eq!(ran, Ok(Ran { steps: 4, work: 26 }));
+    assert_eq!(output.to_vec(), [0, 5, 5, 6].map(int).concat());
+}
+
+#[test]
+fn refused_programs() {
+    let program = block(&A);
+    assert_eq!(check(&block(&C)), Err(refusal(Code::NotReady, 4)));
+    assert_eq!(check(&[]), Err(refusal(Code::ProgramLength, 0)));
+    assert_eq!(check(&program[..511]), Err(refusal(Code::ProgramLength, 0)));
+    assert_eq!(check(&program[1..]), Err(refusal(Code::ProgramLength, 0)));
+    let mut wrong = program;
+    wrong[4] ^= 1;
+    assert_eq!(check(&wrong), Err(refusal(Code::CheckSum, 0)));
+    assert_eq!(check(&[0; BLOCK]), Err(refusal(Code::BlockNumber, 0)));
+    assert_eq!(check(&block(&[(2, 3, 0, 0, 0, 0)])), Err(refusal(Code::RecordFault, 0)));
+    assert_eq!(check(&block(&[(2, 0, 0, 0, 0, 0); 2])), Err(refusal(Code::ShapeFault, 0)));
+}
+
+#[test]
+fn refused_lengths_change_nothing() {
+    let program = block(&A);
+    let (mut state, mut output, one) = ([7; 13], [9; 9], record(0, None));
+    for length in [0, 4, 11, 13] {
+        let room = &mut state[..length];
+        assert_eq!(start(&program, room), Err(refusal(Code::StateFault, 0)));
+        assert_eq!(step(&program, room, &one, &mut output), Err(refusal(Code::StateFault, 0)));
+    }
+    assert_eq!(state, [7; 13]);
+    let room = &mut state[..12];
+    start(&program, room).unwrap();
+    let started = room.to_vec();
+    let long = [0; 41];
+    assert_eq!(step(&program, room, &long, &mut output), Err(refusal(Code::RecordsLength, 0)));
+    assert_eq!(run(&program, room, &long, &mut output), Err(refusal(Code::RecordsLength, 0)));
+    assert_eq!(step(&program, room, &one, &mut output), Err(refusal(Code::OutputLength, 0)));
+    assert_eq!(run(&program, room, &[], &mut output[..1]), Err(refusal(Code::OutputLength, 0)));
+    assert_eq!((&*room, output), (&started[..], [9; 9]));
+}
+
+#[test]
+fn a_refused_run_keeps_its_steps() {
+    let program = block(&A);
+    for (second, code) in
+        [(record(4, None), Code::TimeBack), (record(1 << 31, None), Code::InputFault)]
+    {
+        let (mut state, mut output) = ([0; 12], [9; 24]);
+        start(&program, &mut state).unwrap();
+        let records = [record(5, None), second, record(6, None)].concat();
+        let refused = run(&program, &mut state, &records, &mut output).unwrap_err();
+        assert_eq!(refused, Refusal { code, place: 1, ran: Ran { steps: 1, work: 13 } });
+        assert_eq!(output.to_vec(), [int(0), [9; 8], [9; 8]].concat());
+        assert_eq!(state, [5, 0, 0, 0, 3, 1, 0, 0, 1, 0, 0, 0]);
+    }
+}
+
+#[test]
+fn a_refusal_says_its_name() {
+    let text = check(&[]).unwrap_err().to_string();
+    assert_eq!(text, "refused: code 1 (ProgramLength) at 0");
+}

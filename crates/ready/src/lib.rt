@@ -1,55 +1,20 @@
-// Code 8: a let's definition never needs the let's own variable at once.
+// Code 8: a let's definition never needs the let's own variable at once. One pass, which visits each node once: while it is in a
+// let's definition, the let is marked with the number of the region that the definition is in, in lent marks set and put back.
+// A region is what is needed at once with its top node; a delay's signal and an event are regions of their own.
 ghost use mathlib.Core.Path.{_≡_};
-ghost use mathlib.Core.Bool.{Bool};
-ghost use Prim.Native.Nat.{_-_, _<_};
-ghost use Rattle.rules.specs.Bytes.{_or_};
+ghost use Prim.Native.Nat.{_+_, _-_, _<_};
+ghost use lib.ListN.{length};
 ghost use Rattle.rules.specs.Layout.{nodes};
 ghost use Rattle.rules.specs.Kinds.{isExpression, isSignal, isBranch, isCase};
-ghost use Rattle.rules.specs.Places.{sooner as soonerOf, wrongIf};
+ghost use Rattle.rules.specs.Places.{wrongIf};
 ghost use Rattle.rules.specs.Tree.{exprAt, signalAt, branchesAt, casesAt};
-ghost use Rattle.rules.specs.Ready.{needsE, needsS, needsB, readyS, readyB, readyC, readyFault};
+ghost use Rattle.rules.specs.Ready.{readyC, readyFault};
 ghost use Rattle.rules.specs.Shaped.{NodeOf};
+ghost use Rattle.ready.specs.Found.{adding, foundE, foundS, foundB};
+ghost use Rattle.ready.specs.Regions.{markedIn, Entered};
 use places::sooner;
 use rules::Place;
 use table::fields;
-
-fn either(x: bool, y: bool) -> bool
-    ensures { λ r. ⌜ r ≡ (x or y) ⌝ }
-{
-    if x { true } else { y }
-}
-
-// Expression i needs variable x at once.
-pub fn needs_e(p: &[u8], i: usize, x: usize) -> bool
-    requires { ⌜ NodeOf isExpression (now p) i ⌝ }
-    ensures { λ r. ⌜ r ≡ needsE x (exprAt (now (p .entry)) i) ⌝ }
-{
-    let n = fields(p, i);
-    let k = n.kind;
-    match k {
-        16 => n.a == x,
-        17 => false,
-        24 => needs_e(p, n.a, x),
-        27 => {
-            let a = needs_e(p, n.a, x);
-            let b = needs_e(p, n.b, x);
-            let c = needs_e(p, n.c, x);
-            either(either(a, b), c)
-        }
-        28 => needs_e(p, n.a, x),
-        29 => {
-            let a = needs_e(p, n.a, x);
-            let b = needs_e(p, n.b, x);
-            let c = needs_e(p, n.c, x);
-            either(either(a, b), c)
-        }
-        _ => {
-            let a = needs_e(p, n.a, x);
-            let b = needs_e(p, n.b, x);
-            either(a, b)
-        }
-    }
-}
 
 // A place, if its rule is broken.
 fn wrong_if(wrong: bool, n: usize) -> Place
@@ -63,128 +28,134 @@ fn wrong_if(wrong: bool, n: usize) -> Place
     }
 }
 
-// The smallest of three places.
-fn soonest(x: Place, y: Place, z: Place) -> Place
-    ensures { λ r. ⌜ r ≡ soonerOf x (soonerOf y z) ⌝ }
+// The let x, if its definition is around in this region.
+fn needed(marks: &[u16], region: usize, x: usize) -> Place
+    requires { ⌜ (length (now marks) ≡ 1008) × (0 < region) ⌝ }
+    ensures { λ r. ⌜ r ≡ wrongIf (markedIn (now (marks .entry)) region x) x ⌝ }
 {
-    let others = sooner(y, z);
-    sooner(x, others)
+    if x < marks.len() {
+        let own = marks[x] as usize;
+        return wrong_if(own == region, x);
+    }
+    Place::Nowhere
 }
 
-// Signal i needs variable x at once.
-pub fn needs_s(p: &[u8], i: usize, x: usize) -> bool
-    requires { ⌜ NodeOf isSignal (now p) i ⌝ }
-    ensures { λ r. ⌜ r ≡ needsS x (signalAt (now (p .entry)) i) ⌝ }
+// The smallest let marked with the region that expression i needs at once.
+fn pass_e(p: &[u8], marks: &[u16], region: usize, i: usize) -> Place
+    requires { ⌜ Entered isExpression (now p) (now marks) region i ⌝ }
+    ensures { λ r. ⌜ r ≡ foundE (markedIn (now (marks .entry)) region) (exprAt (now (p .entry)) i) ⌝ }
 {
     let n = fields(p, i);
     let k = n.kind;
     match k {
-        1 => false,
-        3 => needs_e(p, n.a, x),
-        4 => false,
-        5 => {
-            let d = needs_s(p, n.a, x);
-            let b = needs_s(p, n.b, x);
-            either(d, b)
+        16 => needed(marks, region, n.a),
+        17 => Place::Nowhere,
+        24 => pass_e(p, marks, region, n.a),
+        27 => {
+            let test = pass_e(p, marks, region, n.a);
+            let x = pass_e(p, marks, region, n.b);
+            let y = pass_e(p, marks, region, n.c);
+            sooner(test, sooner(x, y))
         }
-        6 => {
-            let f = needs_s(p, n.a, x);
-            let s = needs_s(p, n.c, x);
-            either(f, s)
+        28 => pass_e(p, marks, region, n.a),
+        29 => {
+            let m = pass_e(p, marks, region, n.a);
+            let x = pass_e(p, marks, region, n.b);
+            let y = pass_e(p, marks, region, n.c);
+            sooner(m, sooner(x, y))
         }
-        7 => {
-            let body = needs_s(p, n.a, x);
-            let brs = needs_b(p, n.b, x);
-            either(body, brs)
+        _ => {
+            let x = pass_e(p, marks, region, n.a);
+            let y = pass_e(p, marks, region, n.b);
+            sooner(x, y)
         }
-        8 => needs_s(p, n.a, x),
-        _ => false,
     }
 }
 
-// A body of the list of branches at node j needs variable x at once.
-pub fn needs_b(p: &[u8], j: usize, x: usize) -> bool
-    requires { ⌜ NodeOf isBranch (now p) j ⌝ }
-    ensures { λ r. ⌜ r ≡ needsB x (branchesAt (now (p .entry)) j) ⌝ }
-{
-    let n = fields(p, j);
-    let body = needs_s(p, n.a, x);
-    if n.b == 65535 {
-        return either(body, false);
-    }
-    let rest = needs_b(p, n.b, x);
-    either(body, rest)
-}
-
-// The smallest let of signal i that is not ready.
-pub fn ready_s(p: &[u8], i: usize) -> Place
-    requires { ⌜ NodeOf isSignal (now p) i ⌝ }
-    ensures { λ r. ⌜ r ≡ readyS (signalAt (now (p .entry)) i) ⌝ }
+// The same of signal i, and its lets that are not ready.
+fn pass_s(p: &[u8], marks: &mut [u16], region: usize, i: usize) -> Place
+    requires { ⌜ Entered isSignal (now p) (now marks) region i ⌝ }
+    ensures { λ r. ⌜ (r ≡ foundS (markedIn (now (marks .entry)) region) (signalAt (now (p .entry)) i)) × (now (marks .exit) ≡ now (marks .entry)) ⌝ }
 {
     let n = fields(p, i);
     let k = n.kind;
     match k {
         1 => Place::Nowhere,
-        3 => Place::Nowhere,
-        4 => ready_s(p, n.a),
+        3 => pass_e(p, marks, region, n.a),
+        4 => {
+            let apart = n.a + 1;
+            pass_s(p, marks, apart, n.a)
+        }
         5 => {
-            let here = wrong_if(needs_s(p, n.a, i), i);
-            let d = ready_s(p, n.a);
-            let b = ready_s(p, n.b);
-            soonest(here, d, b)
+            let d = inside(p, marks, region, i, n.a);
+            let b = pass_s(p, marks, region, n.b);
+            sooner(d, b)
         }
         6 => {
-            let x = ready_s(p, n.a);
-            let e = ready_s(p, n.b);
-            let y = ready_s(p, n.c);
-            soonest(x, e, y)
+            let x = pass_s(p, marks, region, n.a);
+            let e = pass_s(p, marks, n.b + 1, n.b);
+            let y = pass_s(p, marks, region, n.c);
+            sooner(x, sooner(e, y))
         }
         7 => {
-            let body = ready_s(p, n.a);
-            let brs = ready_b(p, n.b);
+            let body = pass_s(p, marks, region, n.a);
+            let brs = pass_b(p, marks, region, n.b);
             sooner(body, brs)
         }
         8 => {
-            let s = ready_s(p, n.a);
-            let cases = ready_c(p, n.b);
+            let s = pass_s(p, marks, region, n.a);
+            let cases = pass_c(p, marks, n.b);
             sooner(s, cases)
         }
         _ => Place::Nowhere,
     }
 }
 
-// The smallest such let of the list of branches at node j.
-pub fn ready_b(p: &[u8], j: usize) -> Place
-    requires { ⌜ NodeOf isBranch (now p) j ⌝ }
-    ensures { λ r. ⌜ r ≡ readyB (branchesAt (now (p .entry)) j) ⌝ }
+// Signal k, in the definition of let i.
+fn inside(p: &[u8], marks: &mut [u16], region: usize, i: usize, k: usize) -> Place
+    requires { ⌜ Entered isSignal (now p) (now marks) region k × (i < length (now marks)) ⌝ }
+    ensures { λ r. ⌜ (r ≡ foundS (adding i (markedIn (now (marks .entry)) region)) (signalAt (now (p .entry)) k)) × (now (marks .exit) ≡ now (marks .entry)) ⌝ }
+{
+    let old = marks[i];
+    marks[i] = region as u16;
+    let r = pass_s(p, marks, region, k);
+    marks[i] = old;
+    r
+}
+
+// The list of branches at node j.
+fn pass_b(p: &[u8], marks: &mut [u16], region: usize, j: usize) -> Place
+    requires { ⌜ Entered isBranch (now p) (now marks) region j ⌝ }
+    ensures { λ r. ⌜ (r ≡ foundB (markedIn (now (marks .entry)) region) (branchesAt (now (p .entry)) j)) × (now (marks .exit) ≡ now (marks .entry)) ⌝ }
 {
     let n = fields(p, j);
-    let body = ready_s(p, n.a);
+    let body = pass_s(p, marks, region, n.a);
     if n.b == 65535 {
         return sooner(body, Place::Nowhere);
     }
-    let rest = ready_b(p, n.b);
+    let rest = pass_b(p, marks, region, n.b);
     sooner(body, rest)
 }
 
-// The smallest such let of the list of cases at node j.
-pub fn ready_c(p: &[u8], j: usize) -> Place
-    requires { ⌜ NodeOf isCase (now p) j ⌝ }
-    ensures { λ r. ⌜ r ≡ readyC (casesAt (now (p .entry)) j) ⌝ }
+// The list of cases at node j: each event is a region of its own.
+fn pass_c(p: &[u8], marks: &mut [u16], j: usize) -> Place
+    requires { ⌜ Entered isCase (now p) (now marks) (j + 1) j ⌝ }
+    ensures { λ r. ⌜ (r ≡ readyC (casesAt (now (p .entry)) j)) × (now (marks .exit) ≡ now (marks .entry)) ⌝ }
 {
     let n = fields(p, j);
-    let event = ready_s(p, n.a);
+    let event = pass_s(p, marks, n.a + 1, n.a);
     if n.b == 65535 {
         return sooner(event, Place::Nowhere);
     }
-    let rest = ready_c(p, n.b);
+    let rest = pass_c(p, marks, n.b);
     sooner(event, rest)
 }
 
-// The smallest let that is not ready, of a program whose root is a signal.
+// The smallest let that is not ready, of a program whose root is a signal: above it no let is marked.
 pub fn ready_fault(p: &[u8], count: usize) -> Place
     requires { ⌜ (count ≡ nodes (now p)) × (0 < count) × NodeOf isSignal (now p) (count - 1) ⌝ }
     ensures { λ r. ⌜ r ≡ readyFault (now (p .entry)) ⌝ }
 {
-    ready_s(p, count - 1)
+    let mut marks: [u16; 1008] = [0; 1008];
+    pass_s(p, &mut marks, count, count - 1)
 }

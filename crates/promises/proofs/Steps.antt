@@ -14,12 +14,13 @@ use Rattle.rules.specs.Layout.{mostNodes, cells, typeAt, cellAt, stateLength, l
 use Rattle.rules.specs.Work.{_plus_, Updated, Next}
 use Rattle.rules.specs.Tree.{root}
 use Rattle.rules.specs.Scope.{unmarked, isMarked, isOffered, scopeFault}
-use Rattle.rules.specs.Typing.{typeFault}
+use Rattle.rules.specs.Typing.{typeS, typeFault}
+use Rattle.rules.specs.Values.{typeOf}
 use Rattle.rules.specs.Ready.{readyFault}
 use Rattle.rules.specs.WellFormed.{wellS, wellFormed, lastMoment}
 use Rattle.rules.specs.Bound.{bound, boundS, boundU}
 use Rattle.rules.specs.Evaluate.{Env, unbound}
-use Rattle.rules.specs.Update.{updS, updated, evaluated, stepOf}
+use Rattle.rules.specs.Update.{Made, updS, updated, evaluated, stepOf}
 use Rattle.rules.specs.Accepted.{Accepted}
 use Rattle.rules.specs.declared.Tally.{Tally}
 use Rattle.rules.specs.declared.Evaluated.{Evaluated}
@@ -31,6 +32,7 @@ use Rattle.promises.specs.Small.{Small}
 use Rattle.promises.specs.Kept.{Kept}
 use Rattle.promises.specs.Seated.{Seated}
 use Rattle.promises.specs.Step.{StepMade}
+use Rattle.promises.specs.Valid.{Valid}
 use Rattle.promises.proofs.SmallLaws.{u32-small, small-setTime}
 use Rattle.promises.proofs.ValidLaws.{and-join}
 use Rattle.promises.proofs.SoundE.{Known}
@@ -125,11 +127,21 @@ total : (u v : Tally) (a b : ℕ) → u .work ≤ a → v .work ≤ b → (u plu
 unfolding _plus_
 total u v a b h g = omega arith
 
--- The step is made.
-pub step-goes-on : (p rec st : Bytes) → Accepted p → Seated p → wellFormed p st ≡ true → Small st → Small rec → timeIn rec ≤ lastMoment
-    → StepMade p rec st
+-- The step is made, whatever the record's time is.
+pub record StepGoes (p rec st : Bytes) : Type 0 where
+  pub output : Value
+  pub state : Bytes
+  pub tally : Tally
+  pub made : stepOf p rec st ≡ Made output state tally
+  pub valid : Valid output
+  pub typed : typeOf output ≡ typeS (root p)
+  pub well : timeIn rec ≤ lastMoment → wellFormed p state ≡ true
+  pub bytes : Small state
+  pub within : tally .work ≤ bound p
+
+pub step-goes : (p rec st : Bytes) → Accepted p → Seated p → wellFormed p st ≡ true → Small st → Small rec → StepGoes p rec st
 unfolding stepOf evaluated updated bound scopeFault typeFault readyFault stateLength
-step-goes-on p rec st acc seat well hs hr ht =
+step-goes p rec st acc seat well hs hr =
     let env : Env = unbound mostNodes in
     let w = well-parts p st well in
     let g = soundS (root p) mostNodes (cells p) (typeAt p) rec st hr hs (seat .sits) (unmarked mostNodes) [] env (unbound-length mostNodes)
@@ -143,9 +155,26 @@ step-goes-on p rec st acc seat well hs hr ht =
       made = ap (λ r. evaluated r λ v t. updated v t rec (updS rec env (root p) st)) (g .done) ∙ ap (updated (g .value) (g .tally) rec) (u .is);
       valid = g .valid;
       typed = g .typed;
-      well = parts-well p _ (timed p rec (u .state) hr (u .kept .long ∙ w .long) (u .holds) ht);
+      well = λ ht. parts-well p _ (timed p rec (u .state) hr (u .kept .long ∙ w .long) (u .holds) ht);
       bytes = small-setTime (u .state) (timeIn rec) (u .kept .bytes);
       within = total (g .tally) (u .tally) (boundS (root p)) (boundU (root p))
           (evaluated-work _ (g .value) (g .tally) (g .done) (evalS-within rec st env (root p)))
           (updated-work _ (u .state) (u .tally) (u .is) (updS-within rec env (root p) st));
+    }
+
+-- With a time that is not too large, the state that it leaves is well-formed.
+pub step-goes-on : (p rec st : Bytes) → Accepted p → Seated p → wellFormed p st ≡ true → Small st → Small rec → timeIn rec ≤ lastMoment
+    → StepMade p rec st
+step-goes-on p rec st acc seat well hs hr ht =
+    let g = step-goes p rec st acc seat well hs hr in
+    record {
+      output = g .output;
+      state = g .state;
+      tally = g .tally;
+      made = g .made;
+      valid = g .valid;
+      typed = g .typed;
+      well = g .well ht;
+      bytes = g .bytes;
+      within = g .within;
     }

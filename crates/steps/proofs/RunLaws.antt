@@ -19,7 +19,7 @@ use Rattle.rules.specs.Layout.{timeIn}
 use Rattle.rules.specs.Bound.{bound}
 use Rattle.rules.specs.WellFormed.{lastMoment}
 use Rattle.rules.specs.Update.{Stepped}
-use Rattle.rules.specs.Calls.{stepVerdict, stepOutcome, totalWrong}
+use Rattle.rules.specs.Calls.{stepOutcome, totalWrong}
 use Rattle.rules.specs.declared.Verdict.{Verdict}
 use Rattle.rules.proofs.Verdicts.{both-fine, if-fine}
 use Rattle.promises.proofs.Runs.{in-time}
@@ -31,6 +31,7 @@ use Rattle.rules.specs.Evaluate.{Env}
 use Rattle.rules.proofs.Cells.{length-writeAt}
 use Rattle.promises.proofs.Steps.{well-parts}
 use Rattle.steps.specs.Going.{Going, Taken, Leaves, OnTheWay}
+use Rattle.steps.proofs.StepLaws.{gone}
 
 next : (p recs : Bytes) (left done work : ℕ) (st out : Bytes) {v : Value} {st₁ : Bytes} {w : Tally}
     → recordVerdict p done work st (inputAt recs done) ≡ Fine → stepOf p (inputAt recs done) st ≡ Made v st₁ w
@@ -74,11 +75,7 @@ run-ends p recs n done work st out h =
     ap (λ (k : ℕ). runFrom p recs k done work st out) a ∙ ends p recs done work st out
 
 -- a record that is not refused: its time is not too large, and the total stays in 32 bits
-pub step-in-time : (st rec : Bytes) → stepVerdict st rec ≡ Fine → timeIn rec ≤ lastMoment
-unfolding stepVerdict
-step-in-time st rec e = in-time rec (if-fine _ _ (both-fine _ _ e .0))
-
-pub record-in-time : (p : Bytes) (done work : ℕ) (st rec : Bytes) → recordVerdict p done work st rec ≡ Fine → timeIn rec ≤ lastMoment
+record-in-time : (p : Bytes) (done work : ℕ) (st rec : Bytes) → recordVerdict p done work st rec ≡ Fine → timeIn rec ≤ lastMoment
 unfolding recordVerdict
 record-in-time p done work st rec e = in-time rec (if-fine _ _ (both-fine _ _ e .0))
 
@@ -87,9 +84,10 @@ unfolding recordVerdict totalWrong
 total-fits p done work st rec e = ltb-false _ _ (if-fine _ _ (both-fine _ _ (both-fine _ _ e .1) .0))
 
 -- what a step leaves, refused or made
-pub step-refused : (st out : Bytes) (s : Stepped) (v : Verdict) {r : Refusal} → v ≡ Refuse r → Leaves (stepOutcome st out v s) (Ran.Refused r 0) st out
+pub step-refused : (st out : Bytes) (s : Stepped) (v : Verdict) {found : Verdict} {r : Refusal} → found ≡ v → found ≡ Refuse r
+    → Leaves (stepOutcome st out v s) (Ran.Refused r 0) st out
 unfolding stepOutcome
-step-refused st out s v e = rw e (record { answer-is = refl; state-is = refl; output-is = refl })
+step-refused st out s v q e = rw (sym q ∙ e) (record { answer-is = refl; state-is = refl; output-is = refl })
 
 pub step-finished : (p rec st st₁ out out₁ : Bytes) (v : Verdict) {w : ℕ} → v ≡ Fine → Taken p rec st st₁ out out₁ 0 w
     → Leaves (stepOutcome st out v (stepOf p rec st)) (Finished 1 w) st₁ out₁
@@ -109,29 +107,26 @@ pub one-length : (p st st₁ : Bytes) → wellFormed p st ≡ true → wellForme
 one-length p st st₁ e f = well-parts p st e .long ∙ sym (well-parts p st₁ f .long)
 
 -- a run on its way, at its next record: it goes on, stops, or has come to its end
-module _ {p : Bytes} {index : List ℕ} {recs st₀ out₀ st : Bytes} {env : Env} {out : Bytes} {count left done work : ℕ}
-    (w : OnTheWay p index recs st₀ out₀ st env out count left done work) where
+module _ {p : Bytes} {index : List ℕ} {recs st₀ : Bytes} {env₀ : Env} {out₀ st : Bytes} {env : Env} {out : Bytes} {count left done work : ℕ}
+    (w : OnTheWay p index recs st₀ env₀ out₀ st env out count left done work) where
   module _ (h : done < left) {v : Verdict} (e : v ≡ recordVerdict p done work st (take (40 * done + 40 - 40 * done) (drop (40 * done) recs))) where
     judged : v ≡ recordVerdict p done work st (inputAt recs done)
     judged = e ∙ ap (recordVerdict p done work st) (slice-is recs done)
 
     pub goes-on : v ≡ Fine → {st₁ out₁ : Bytes} {n : ℕ}
         → Taken p (take (40 * done + 40 - 40 * done) (drop (40 * done) recs)) st st₁ out out₁ (8 * done) n → {env₁ : Env} → env₁ ≡ env
-        → OnTheWay p index recs st₀ out₀ st₁ env₁ out₁ count left (done + 1) (work + n)
+        → OnTheWay p index recs st₀ env₀ out₀ st₁ env₁ out₁ count left (done + 1) (work + n)
     goes-on f {st₁} {out₁} {n} t q =
         let fine : recordVerdict p done work st (inputAt recs done) ≡ Fine = sym judged ∙ f in
+        let well = t .well (record-in-time p done work st _ (sym e ∙ f)) in
         let t₁ : Taken p (inputAt recs done) st st₁ out out₁ (8 * done) n = rw (slice-is recs done) at t in
         record {
-          going = record {
-            accepted = w .going .accepted;
-            indexed = w .going .indexed;
-            counted = w .going .counted;
-            well = t .well;
-            blank = q ∙ w .going .blank;
-          };
+          going = gone (w .going) well q;
           all = w .all;
           within = omega arith;
           fits = omega (arith, total-fits p done work st (inputAt recs done) fine, t .within);
+          cells = one-length p st₁ st well (w .going .well) ∙ w .cells;
+          slots = ap length q ∙ w .slots;
           room = ap length (t .shown) ∙ length-writeAt (valueBytes (t .output)) out (8 * done) ∙ w .room;
           same = sym (run-next p recs left done work n st st₁ out out₁ h fine t₁) ∙ w .same;
         }
@@ -148,7 +143,7 @@ module _ {p : Bytes} {index : List ℕ} {recs st₀ out₀ st : Bytes} {env : En
 
 -- at its beginning
 pub begun : (p : Bytes) (index : List ℕ) (recs st : Bytes) (env : Env) (out : Bytes) (count : ℕ) → Going p index st env count
-    → OnTheWay p index recs st out st env out count (length recs / 40) 0 0
+    → OnTheWay p index recs st env out st env out count (length recs / 40) 0 0
 begun p index recs st env out count g =
     let e : length recs / 40 - 0 ≡ length recs / 40 = omega arith in
     record {
@@ -156,6 +151,8 @@ begun p index recs st env out count g =
       all = refl;
       within = omega arith;
       fits = omega arith;
+      cells = refl;
+      slots = refl;
       room = refl;
       same = ap (λ (k : ℕ). runFrom p recs k 0 0 st out) e;
     }

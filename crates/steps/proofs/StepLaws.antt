@@ -32,17 +32,19 @@ use native.Mathlib.Nat.{mul-le-mul}
 use lib.Dec.{ltb}
 use borrow.Author.Tests.{ltb-true, ltb-false, lt-ltb, le-ltb}
 use Rattle.rules.specs.Calls.{totalWrong}
+use Rattle.values.specs.Combine.{workOf}
+use Rattle.values.proofs.Outcomes.{work-within}
+use Rattle.rules.proofs.Within.{evalS-within}
 use Rattle.promises.specs.Small.{Small}
-use Rattle.promises.specs.Step.{StepMade}
 use Rattle.promises.proofs.FromTable.{seated}
-use Rattle.promises.proofs.Steps.{step-goes-on, well-parts}
-use Rattle.steps.specs.Going.{Going, Taken, Leaves}
+use Rattle.promises.proofs.Steps.{StepGoes, step-goes, well-parts}
+use Rattle.steps.specs.Going.{Going, Held, Taken, Shown, Advanced, shownIn, mostWork}
 
 -- a program of at most 1,008 nodes has a small bound
-few : (n : ℕ) → n ≤ 1008 → n * (n + 1) < 4294967296
+few : (n : ℕ) → n ≤ 1008 → n * (n + 1) ≤ mostWork
 few n h = omega (arith, mul-le-mul {n₁ = n} {m₁ = n + 1} {n₂ = 1008} {m₂ = 1009} h (omega arith))
 
-pub small-bound : (p : Bytes) → Accepted p → bound p < 4294967296
+pub small-bound : (p : Bytes) → Accepted p → bound p ≤ mostWork
 small-bound p a =
     omega (arith, bound-small p (a .formed .length-right) (a .shape-right) (some-node p (a .formed)), few (nodes p) (shaped-of p a .small))
 
@@ -62,27 +64,24 @@ bound-parts : (p : Bytes) → (boundS (root p) ≤ bound p) × (boundU (root p) 
 unfolding bound
 bound-parts p = (omega arith, omega arith)
 
-module _ {p : Bytes} {index : List ℕ} {st : Bytes} {env : Env} {count : ℕ} (g : Going p index st env count) where
-  long : stateLength p ≤ length st
-  long = omega (arith, well-parts p st (g .well) .long)
-
+module _ {p : Bytes} {index : List ℕ} {size : ℕ} {env : Env} {count : ℕ} (g : Held p index size env count) where
   roomy : nodes p ≤ length env
   roomy = omega (arith, room env (g .blank), shaped-of p (g .accepted) .small)
 
   -- what the root's evaluation and its update ask
-  pub eval-ready : ReadyS p index st env (count - 1)
-  eval-ready = record {
+  pub eval-ready : (st : Bytes) → size ≡ length st → ReadyS p index st env (count - 1)
+  eval-ready st h = record {
     node = rooted p count (g .accepted) (g .counted);
     indexed = g .indexed;
-    state = long;
+    state = omega (arith, g .cells);
     room = roomy;
     small = rw (root-at p count (g .counted)) (omega (arith, bound-parts p .0, small-bound p (g .accepted)));
   }
 
-  pub update-ready : (s e : ℕ) → s ≡ length st → e ≡ length env → Ready p index s e (count - 1)
+  pub update-ready : (s e : ℕ) → s ≡ size → e ≡ length env → Ready p index s e (count - 1)
   update-ready s e hs he = record {
     node = rooted p count (g .accepted) (g .counted);
-    lent = record { table = g .indexed; cells = rw hs long; room = rw he roomy };
+    lent = record { table = g .indexed; cells = rw hs (g .cells); room = rw he roomy };
     small = rw (root-at p count (g .counted)) (omega (arith, bound-parts p .1, small-bound p (g .accepted)));
   }
 
@@ -90,9 +89,25 @@ module _ {p : Bytes} {index : List ℕ} {st : Bytes} {env : Env} {count : ℕ} (
   some = rw (g .counted) (some-node p (g .accepted .formed))
 
   -- it has at least a header
-  pub headed : 4 ≤ length st
+  pub header : 4 ≤ size
   unfolding stateLength cellAt
-  headed = omega (arith, long)
+  header = omega (arith, g .cells)
+
+  -- the same with memory that came back
+  pub held-again : {s : ℕ} {env₁ : Env} → s ≡ size → env₁ ≡ env → Held p index s env₁ count
+  held-again h q = record { accepted = g .accepted; indexed = g .indexed; counted = g .counted; cells = rw h (g .cells); blank = q ∙ g .blank }
+
+module _ {p : Bytes} {index : List ℕ} {st : Bytes} {env : Env} {count : ℕ} (g : Going p index st env count) where
+  pub held : Held p index (length st) env count
+  held = record { accepted = g .accepted; indexed = g .indexed; counted = g .counted; cells = omega (arith, well-parts p st (g .well) .long); blank = g .blank }
+
+  pub headed : 4 ≤ length st
+  headed = header held
+
+  -- the same after memory was lent and came back
+  pub gone : {st₁ : Bytes} {env₁ : Env} → wellFormed p st₁ ≡ true → env₁ ≡ env → Going p index st₁ env₁ count
+  gone w q =
+      record { accepted = g .accepted; indexed = g .indexed; counted = g .counted; well = w; blank = q ∙ g .blank }
 
 -- a step goes by its two parts
 module _ (p rec st : Bytes) where
@@ -115,69 +130,107 @@ module _ (p rec st : Bytes) where
   unfolding stepOf evaluated updated
   jumped e f = rw (e, f)
 
-  not-made : StepMade p rec st → stepOf p rec st ≡ NotMade → ⊥
+  not-made : StepGoes p rec st → stepOf p rec st ≡ NotMade → ⊥
   not-made m e = let z : _≡_ {A = ℕ} 0 1 = cc (m .made) in omega arith
 
-  taken : StepMade p rec st → {v : Value} {u w : Tally} {st₁ : Bytes} → evalS rec st (unbound mostNodes) (root p) ≡ Done v u
-      → updS rec (unbound mostNodes) (root p) st ≡ Next st₁ w → (out : Bytes) (place : ℕ)
-      → Taken p rec st (setTime st₁ (timeIn rec)) out (writeAt out place (valueBytes v)) place (u .work + w .work)
-  unfolding _plus_
-  taken m {v} {u} {w} {st₁} e f out place =
-      let q = by-parts e f in
-      let s : setTime st₁ (timeIn rec) ≡ m .state = cc (m .made) in
-      let t : (u plus w) ≡ m .tally = cc (m .made) in
-      record {
-        output = v;
-        tally = u plus w;
-        made = q;
-        shown = refl;
-        worked = refl;
-        well = rw s (m .well);
-        within = omega (arith, m .within, ap (λ (x : Tally). x .work) t);
-      }
+  -- a step that is made: its evaluation and its update
+  record Both : Type 0 where
+    value : Value
+    seen : Tally
+    state : Bytes
+    tally : Tally
+    evaluates : evalS rec st (unbound mostNodes) (root p) ≡ Done value seen
+    updates : updS rec (unbound mostNodes) (root p) st ≡ Next state tally
 
--- in the terms of the code: the calls at node count - 1 and the lent scratch
-module _ {p rec st : Bytes} {index : List ℕ} {env : Env} {count : ℕ} (g : Going p index st env count) (hp : Small p) (hs : Small st)
-    (hr : Small rec) (ht : timeIn rec ≤ lastMoment) where
-  goes : StepMade p rec st
-  goes = step-goes-on p rec st (g .accepted) (seated p hp (g .accepted)) (g .well) hs hr ht
+  both : StepGoes p rec st → Both
+  both m = go (evalS rec st (unbound mostNodes) (root p)) (updS rec (unbound mostNodes) (root p) st) refl refl
+    where
+      go : (e : Evaluated) (x : Updated) → evalS rec st (unbound mostNodes) (root p) ≡ e → updS rec (unbound mostNodes) (root p) st ≡ x → Both
+      go Stuck x a b = absurd (not-made m (stuck-eval a))
+      go (Done v u) Halted a b = absurd (not-made m (stuck-update a b))
+      go (Done v u) (Jump k w s t) a b = absurd (not-made m (jumped a b))
+      go (Done v u) (Next s t) a b = record { value = v; seen = u; state = s; tally = t; evaluates = a; updates = b }
 
-  evaluated-at : {r : Evaluated} → r ≡ evalS rec st env (signalAt p (count - 1)) → evalS rec st (unbound mostNodes) (root p) ≡ r
-  evaluated-at e = sym (e ∙ (λ i. evalS rec st (g .blank i) (root-at p count (g .counted) i)))
+-- in the terms of the code: a call at node count - 1 with the lent scratch
+module _ {p : Bytes} {index : List ℕ} {size : ℕ} {env : Env} {count : ℕ} (g : Held p index size env count) where
+  module _ (rec st : Bytes) {r : Evaluated} (e : r ≡ evalS rec st env (signalAt p (count - 1))) where
+    evaluated-at : r ≡ evalS rec st (unbound mostNodes) (root p)
+    evaluated-at = e ∙ (λ i. evalS rec st (g .blank i) (root-at p count (g .counted) i))
 
-  updated-at : {env′ : Env} → env′ ≡ env → {r : Updated} → r ≡ updS rec env′ (signalAt p (count - 1)) st → updS rec (unbound mostNodes) (root p) st ≡ r
-  updated-at q e = sym (e ∙ (λ i. updS rec ((q ∙ g .blank) i) (root-at p count (g .counted) i) st))
+    -- what is shown of it
+    pub shows-none : r ≡ Stuck → (out : Bytes) (place : ℕ) → Shown (evalS rec st (unbound mostNodes) (root p)) out out place 0
+    unfolding shownIn
+    shows-none f out place = rw (sym evaluated-at ∙ f) (record { written = refl; counted = refl; below = omega arith })
 
-  pub never-stuck : {r : Evaluated} → r ≡ evalS rec st env (signalAt p (count - 1)) → r ≡ Stuck → ⊥
-  never-stuck e f = not-made p rec st goes (stuck-eval p rec st (evaluated-at e ∙ f))
+    pub evaluation-small : {v : Value} {u : Tally} → r ≡ Done v u → u .work ≤ mostWork
+    evaluation-small f =
+        omega (arith, bound-parts p .0, small-bound p (g .accepted), work-within _ (evalS-within rec st (unbound mostNodes) (root p)), ap workOf (sym evaluated-at ∙ f))
 
-  -- after the evaluation gave a value: the update neither halts nor jumps, and stays
-  module _ {r : Evaluated} {v : Value} {u : Tally} (e : r ≡ evalS rec st env (signalAt p (count - 1))) (f : r ≡ Done v u)
-      {env′ : Env} (q : env′ ≡ env) {x : Moved} (st₁ : Bytes) (h : moved x st₁ ≡ updS rec env′ (signalAt p (count - 1)) st) where
-    pub never-halted : x ≡ Moved.Stuck → ⊥
-    unfolding moved
-    never-halted k = not-made p rec st goes (stuck-update p rec st (evaluated-at e ∙ f) (updated-at q h ∙ ap (λ (y : Moved). moved y st₁) k))
+    pub shows : {v : Value} {u : Tally} → r ≡ Done v u → {out out₁ : Bytes} {place m : ℕ} → out₁ ≡ writeAt out place (bytesOf 8 m) → m ≡ packed v
+        → Shown (evalS rec st (unbound mostNodes) (root p)) out out₁ place (u .work)
+    unfolding shownIn valueBytes
+    shows f {out} {out₁} {place} a b =
+        rw (sym evaluated-at ∙ f) (record { written = a ∙ ap (λ (n : ℕ). writeAt out place (bytesOf 8 n)) b; counted = refl; below = evaluation-small f })
 
-    pub never-jumps : {w : Value} {t : Tally} {j : ℕ} → x ≡ Moved.Jump j w t → ⊥
-    unfolding moved
-    never-jumps k = not-made p rec st goes (jumped p rec st (evaluated-at e ∙ f) (updated-at q h ∙ ap (λ (y : Moved). moved y st₁) k))
+-- the update neither halts nor jumps, and stays
+module _ {p st : Bytes} {index : List ℕ} {env : Env} {count : ℕ} (g : Going p index st env count) where
+  module _ {rec : Bytes} (hp : Small p) (hs : Small st) (hr : Small rec) where
+    goes : StepGoes p rec st
+    goes = step-goes p rec st (g .accepted) (seated p hp (g .accepted)) (g .well) hs hr
 
-    stayed : {t : Tally} → x ≡ Moved.Stay t → updS rec (unbound mostNodes) (root p) st ≡ Next st₁ t
-    unfolding moved
-    stayed k = updated-at q h ∙ ap (λ (y : Moved). moved y st₁) k
+    updated-at : {u : Updated} → u ≡ updS rec env (signalAt p (count - 1)) st → updS rec (unbound mostNodes) (root p) st ≡ u
+    updated-at h = sym (h ∙ (λ i. updS rec (g .blank i) (root-at p count (g .counted) i) st))
 
-    pub work-small : {t : Tally} → x ≡ Moved.Stay t → u .work + t .work < 4294967296
-    work-small k =
-        omega (arith, taken p rec st goes (evaluated-at e ∙ f) (stayed k) st 0 .within, small-bound p (g .accepted))
+    module _ {x : Moved} (st₁ : Bytes) (h : moved x st₁ ≡ updS rec env (signalAt p (count - 1)) st) where
+      pub never-halted : x ≡ Moved.Stuck → ⊥
+      unfolding moved
+      never-halted k = let e = both p rec st goes .updates in let z : _≡_ {A = ℕ} 0 1 = cc (updated-at h ∙ ap (λ (y : Moved). moved y st₁) k) in omega arith
 
-    pub step-taken : {t : Tally} → x ≡ Moved.Stay t → {st₂ out out₁ : Bytes} {place moment m : ℕ} → st₂ ≡ setTime st₁ moment → moment ≡ timeIn rec
-        → out₁ ≡ writeAt out place (bytesOf 8 m) → m ≡ packed v
-        → Taken p rec st st₂ out out₁ place (u .work + t .work)
-    unfolding valueBytes
-    step-taken {t} k {st₂} {out} {out₁} {place} a b d o =
-        let s : st₂ ≡ setTime st₁ (timeIn rec) = a ∙ ap (setTime st₁) b in
-        let w : out₁ ≡ writeAt out place (bytesOf 8 (packed v)) = d ∙ ap (λ (n : ℕ). writeAt out place (bytesOf 8 n)) o in
-        rw (s, w) (taken p rec st goes (evaluated-at e ∙ f) (stayed k) out place)
+      pub never-jumps : {w : Value} {t : Tally} {j : ℕ} → x ≡ Moved.Jump j w t → ⊥
+      unfolding moved
+      never-jumps k = let e = both p rec st goes .updates in let z : _≡_ {A = ℕ} 0 1 = cc (updated-at h ∙ ap (λ (y : Moved). moved y st₁) k) in omega arith
+
+      pub advances : {t : Tally} → x ≡ Moved.Stay t → {st₂ : Bytes} {moment : ℕ} → st₂ ≡ setTime st₁ moment → moment ≡ timeIn rec
+          → Advanced p rec st st₂ (t .work)
+      unfolding moved _plus_
+      advances {t} k {st₂} a b =
+          let m = goes in
+          let e = both p rec st m .evaluates in
+          let q : stepOf p rec st ≡ Made (both p rec st m .value) st₂ (both p rec st m .seen plus t) =
+          by-parts p rec st e (updated-at h ∙ ap (λ (y : Moved). moved y st₁) k)
+          ∙ ap (λ (s : Bytes). Made (both p rec st m .value) s (both p rec st m .seen plus t)) (sym (a ∙ ap (setTime st₁) b)) in
+          let s : st₂ ≡ m .state = cc (m .made) in
+          let w : (both p rec st m .seen plus t) ≡ m .tally = cc (m .made) in
+          record {
+            output = both p rec st m .value;
+            seen = both p rec st m .seen;
+            tally = t;
+            evaluates = e;
+            made = q;
+            worked = refl;
+            well = λ h. rw s (m .well h);
+            within = omega (arith, m .within, ap (λ (x : Tally). x .work) w);
+            below = omega (arith, small-bound p (g .accepted), m .within, ap (λ (x : Tally). x .work) w);
+          }
+
+      pub update-small : {t : Tally} → x ≡ Moved.Stay t → t .work ≤ mostWork
+      update-small k = advances k {st₂ = setTime st₁ (timeIn rec)} {moment = timeIn rec} refl refl .below
+
+-- shown and advanced, a step is taken
+pub step-taken : {p rec st st₁ out out₁ : Bytes} {place a b : ℕ} → Shown (evalS rec st (unbound mostNodes) (root p)) out out₁ place a
+    → Advanced p rec st st₁ b → Taken p rec st st₁ out out₁ place (a + b)
+unfolding _plus_ shownIn
+step-taken {out = out} {place = place} {a = a} s m =
+    let w : a ≡ m .seen .work = s .counted ∙ ap workOf (m .evaluates) in
+    record {
+      output = m .output;
+      tally = m .seen plus m .tally;
+      made = m .made;
+      shown = s .written ∙ ap (λ (e : Evaluated). shownIn e out place) (m .evaluates);
+      worked = omega (arith, m .worked);
+      well = m .well;
+      within = omega (arith, m .within);
+    }
 
 -- code 14's test, without a sum that could leave 32 bits
 pub total-law : (work most : ℕ) → most ≤ 4294967295 → ltb (4294967295 - most) work ≡ totalWrong work most

@@ -3,20 +3,25 @@
 use mathlib.Core.Path.{_≡_}
 use mathlib.Core.Bool.{true}
 use mathlib.Core.List.{List}
-use Prim.Native.Nat.{ℕ, _-_, _/_, _≤_}
+use Prim.Native.Nat.{ℕ, _+_, _-_, _/_, _≤_}
 use lib.ListN.{length}
 use Rattle.rules.specs.Bytes.{Bytes, writeAt}
 use Rattle.rules.specs.Values.{valueBytes}
-use Rattle.rules.specs.Layout.{nodes, mostNodes, inputLength}
+use Rattle.rules.specs.Layout.{nodes, mostNodes, inputLength, stateLength, timeIn}
 use Rattle.rules.specs.Bound.{bound}
+use Rattle.rules.specs.Tree.{root}
+use Rattle.rules.specs.Work.{_plus_}
 use Rattle.rules.specs.Accepted.{Accepted}
-use Rattle.rules.specs.WellFormed.{wellFormed}
-use Rattle.rules.specs.Evaluate.{Env, unbound}
+use Rattle.rules.specs.WellFormed.{wellFormed, lastMoment}
+use Rattle.rules.specs.Evaluate.{Env, unbound, evalS}
 use Rattle.rules.specs.Update.{Made, stepOf}
 use Rattle.rules.specs.Calls.{RunOutcome, runFrom}
 use Rattle.rules.specs.declared.Value.{Value}
 use Rattle.rules.specs.declared.Tally.{Tally}
 use Rattle.rules.specs.declared.Ran.{Ran}
+use Rattle.rules.specs.declared.Evaluated.{Evaluated}
+use Rattle.rules.specs.declared.Evaluated.the-variants.{Done, Stuck}
+use Rattle.values.specs.Combine.{workOf}
 use Rattle.cells.specs.Indexed.{Indexed}
 
 -- An accepted program of so many nodes with its table of cells, a well-formed state, and a scratch in which nothing is bound.
@@ -27,6 +32,40 @@ pub record Going (p : Bytes) (index : List ℕ) (st : Bytes) (env : Env) (count 
   pub well : wellFormed p st ≡ true
   pub blank : env ≡ unbound mostNodes
 
+-- The same program with room for its state, whatever that holds: enough to evaluate it.
+pub record Held (p : Bytes) (index : List ℕ) (size : ℕ) (env : Env) (count : ℕ) : Type 0 where
+  pub accepted : Accepted p
+  pub indexed : Indexed p index
+  pub counted : count ≡ nodes p
+  pub cells : stateLength p ≤ size
+  pub blank : env ≡ unbound mostNodes
+
+-- What is shown of an evaluation at a place of the output room: its value, where there is one.
+unfoldable pub shownIn : Evaluated → Bytes → ℕ → Bytes
+shownIn (Done v u) out place = writeAt out place (valueBytes v)
+shownIn Stuck out place = out
+
+-- No bound is larger: 1,008 nodes, by `bound-small` 1,008 * 1,009.
+abbrev pub mostWork : ℕ
+mostWork = 1017072
+
+pub record Shown (e : Evaluated) (out out₁ : Bytes) (place work : ℕ) : Type 0 where
+  pub written : out₁ ≡ shownIn e out place
+  pub counted : work ≡ workOf e
+  pub below : work ≤ mostWork
+
+-- A step made, from state st to st₁, with so much work in its update. Its value stands in no room yet.
+pub record Advanced (p rec st st₁ : Bytes) (work : ℕ) : Type 0 where
+  pub output : Value
+  pub seen : Tally
+  pub tally : Tally
+  pub evaluates : evalS rec st (unbound mostNodes) (root p) ≡ Done output seen
+  pub made : stepOf p rec st ≡ Made output st₁ (seen plus tally)
+  pub worked : work ≡ tally .work
+  pub well : timeIn rec ≤ lastMoment → wellFormed p st₁ ≡ true
+  pub within : seen .work + work ≤ bound p
+  pub below : work ≤ mostWork
+
 -- A step made, from state st to st₁, with its value written into the output room at a place, and so much work.
 pub record Taken (p rec st st₁ out out₁ : Bytes) (place work : ℕ) : Type 0 where
   pub output : Value
@@ -34,7 +73,7 @@ pub record Taken (p rec st st₁ out out₁ : Bytes) (place work : ℕ) : Type 0
   pub made : stepOf p rec st ≡ Made output st₁ tally
   pub shown : out₁ ≡ writeAt out place (valueBytes output)
   pub worked : work ≡ tally .work
-  pub well : wellFormed p st₁ ≡ true
+  pub well : timeIn rec ≤ lastMoment → wellFormed p st₁ ≡ true
   pub within : work ≤ bound p
 
 -- The answer, state and output room of an outcome.
@@ -44,10 +83,12 @@ pub record Leaves (o : RunOutcome) (answer : Ran) (st out : Bytes) : Type 0 wher
   pub output-is : out ≡ o .output
 
 -- A run on its way: so many of its records are done, with so much work, and what is left to do from here is what the run began with.
-pub record OnTheWay (p : Bytes) (index : List ℕ) (recs st₀ out₀ st : Bytes) (env : Env) (out : Bytes) (count left done work : ℕ) : Type 0 where
+pub record OnTheWay (p : Bytes) (index : List ℕ) (recs st₀ : Bytes) (env₀ : Env) (out₀ st : Bytes) (env : Env) (out : Bytes) (count left done work : ℕ) : Type 0 where
   pub going : Going p index st env count
   pub all : left ≡ length recs / inputLength
   pub within : done ≤ left
   pub fits : work ≤ 4294967295
+  pub cells : length st ≡ length st₀
+  pub slots : length env ≡ length env₀
   pub room : length out ≡ length out₀
   pub same : runFrom p recs (left - done) done work st out ≡ runFrom p recs left 0 0 st₀ out₀

@@ -2,12 +2,13 @@
 ghost use mathlib.Core.Path.{_≡_};
 ghost use Prim.Native.Nat.{_+_, _*_, _≤_, _<_, _/_};
 ghost use lib.ListN.{length};
-ghost use Rattle.rules.specs.Layout.{timeIn, inputLength, headerLength};
+ghost use Rattle.rules.specs.Layout.{inputLength, headerLength, mostNodes};
+ghost use Rattle.rules.specs.Tree.{root};
+ghost use Rattle.rules.specs.Evaluate.{unbound, evalS};
 ghost use Rattle.rules.specs.Bound.{bound};
-ghost use Rattle.rules.specs.WellFormed.{lastMoment};
 ghost use Rattle.rules.specs.Update.{stepOf};
 ghost use Rattle.rules.specs.Calls.{recordVerdict, stepVerdict, stepOutcome, totalWrong, runFrom};
-ghost use Rattle.steps.specs.Going.{Going, Taken, Leaves};
+ghost use Rattle.steps.specs.Going.{Going, Held, Shown, Advanced, Taken, Leaves};
 use answers::otherwise;
 use answers::refuse_if;
 use cells::put64;
@@ -52,8 +53,48 @@ fn step_verdict(st: &[u8], rec: &[u8]) -> Verdict
     otherwise(input, time)
 }
 
-// The step of a record that is not refused: it evaluates the root, whose value goes to the output room, and then updates it. The answer is
-// the work. (No accepted program is stuck in a well-formed state, nor jumps out of its root: those arms are never taken.)
+// The output of a step: the root is evaluated, and its value goes to the output room. The answer is the work.
+fn show(
+    p: &[u8],
+    index: &[u16],
+    rec: &[u8],
+    st: &[u8],
+    env: &mut [u64],
+    out: &mut [u8],
+    at: usize,
+    count: usize,
+) -> u32
+    requires { ⌜ Held (now p) (now index) (length (now st)) (now env) count × (at + 8 ≤ length (now out)) ⌝ }
+    ensures { λ w. ⌜ Shown (evalS (now (rec .entry)) (now (st .entry)) (unbound mostNodes) (root (now (p .entry)))) (now (out .entry)) (now (out .exit)) at w × (now (env .exit) ≡ now (env .entry)) ⌝ }
+{
+    let shown = eval_s(p, index, rec, st, env, count - 1);
+    match shown {
+        Evaluated::Stuck => 0,
+        Evaluated::Done(v, u) => {
+            put64(out, at, pack(v));
+            u.work as u32
+        }
+    }
+}
+
+// The state after a step: the root is updated, and the time becomes the record's. The answer is the work. (No accepted program halts in a
+// well-formed state, nor jumps out of its root: those arms are never taken.)
+fn advance(p: &[u8], index: &[u16], rec: &[u8], st: &mut [u8], env: &mut [u64], count: usize) -> u32
+    requires { ⌜ Going (now p) (now index) (now st) (now env) count × (inputLength ≤ length (now rec)) ⌝ }
+    ensures { λ w. ⌜ Advanced (now (p .entry)) (now (rec .entry)) (now (st .entry)) (now (st .exit)) w × Held (now (p .entry)) (now (index .entry)) (length (now (st .exit))) (now (env .exit)) count ⌝ }
+{
+    let moved = update_s(p, index, rec, st, env, count - 1);
+    match moved {
+        Moved::Stuck => 0,
+        Moved::Jump(_, _, _) => 0,
+        Moved::Stay(w) => {
+            set_time(st, time_of(rec));
+            w.work as u32
+        }
+    }
+}
+
+// A step: its value is that of the state before the update. The answer is the work.
 fn make_step(
     p: &[u8],
     index: &[u16],
@@ -64,26 +105,12 @@ fn make_step(
     at: usize,
     count: usize,
 ) -> u32
-    requires { ⌜ Going (now p) (now index) (now st) (now env) count × (inputLength ≤ length (now rec)) × (timeIn (now rec) ≤ lastMoment) × (at + 8 ≤ length (now out)) ⌝ }
+    requires { ⌜ Going (now p) (now index) (now st) (now env) count × (inputLength ≤ length (now rec)) × (at + 8 ≤ length (now out)) ⌝ }
     ensures { λ w. ⌜ Taken (now (p .entry)) (now (rec .entry)) (now (st .entry)) (now (st .exit)) (now (out .entry)) (now (out .exit)) at w × (now (env .exit) ≡ now (env .entry)) ⌝ }
 {
-    let root = count - 1;
-    let shown = eval_s(p, index, rec, st, env, root);
-    match shown {
-        Evaluated::Stuck => 0,
-        Evaluated::Done(v, u) => {
-            let moved = update_s(p, index, rec, st, env, root);
-            match moved {
-                Moved::Stuck => 0,
-                Moved::Jump(_, _, _) => 0,
-                Moved::Stay(w) => {
-                    set_time(st, time_of(rec));
-                    put64(out, at, pack(v));
-                    (u.work + w.work) as u32
-                }
-            }
-        }
-    }
+    let seen = show(p, index, rec, st, env, out, at, count);
+    let moved = advance(p, index, rec, st, env, count);
+    seen + moved
 }
 
 // The records of a run, one after the other, until one is refused.
@@ -111,7 +138,8 @@ pub fn run_records(
         if let Verdict::Refuse(r) = found {
             return Ran::Refused(r, work);
         }
-        work += make_step(p, index, rec, st, env, out, 8 * done, count);
+        let spent = make_step(p, index, rec, st, env, out, 8 * done, count);
+        work += spent;
         done += 1;
     }
     Ran::Finished(done as u32, work)

@@ -41,7 +41,7 @@ loop-less c = omega arith
 
 -- src/lib.rt:33:5
 loop-again : tie.Need-loop-again Inv-loop μ-loop
-loop-again c = (omega arith, simp length-set (c .before .loop .inv .1), write-step _ _ _ _ _ _ _ (c .loop-test .taken) (c .before .loop .inv .2))
+loop-again c = (omega arith, simp length-set (c .before .loop .inv .1), write-step _ _ _ _ _ _ _ (omega arith) (c .before .loop .inv .2))
 
 -- src/lib.rt:27:1
 same-length : tie.Need-same-length Inv-loop μ-loop

@@ -1,6 +1,6 @@
-use Rattle.steps.proofs.RunLaws.{step-in-time, step-refused, step-finished}
+use mathlib.Core.Path.{sym, _∙_}
 use Rattle.steps.proofs.StepLaws.{headed}
-use mathlib.Core.Path.{_≡_, refl, sym, ap, _∙_}
+use Rattle.steps.proofs.RunLaws.{step-refused, step-finished}
 use borrow.Author.Needs.{needs}
 use Rattle.steps.proofs.step_record.Statement.{statement}
 use Rattle.steps.proofs.step_record.Tie as tie
@@ -9,43 +9,43 @@ use Rattle.steps.proofs.step_record.Lts as lts
 use Rattle.steps.proofs.make_step.Reads as make-step-reads
 use Rattle.steps.proofs.step_verdict.Reads as step-verdict-reads
 
--- src/lib.rt:107:9
+-- src/lib.rt:161:9
 step-verdict-requires : tie.Need-step-verdict-requires
 step-verdict-requires c κs = (headed (c .before .before .before .before .before .before .before .pre .0), c .before .before .before .before .before .before .before .pre .1)
 
--- src/lib.rt:109:25
+-- src/lib.rt:163:25
 enum-known-found : tie.Need-enum-known-found
 enum-known-found c = search needs
 
--- src/lib.rt:111:49
+-- src/lib.rt:165:49
 enum-told : tie.Need-enum-told
 enum-told c = search needs
 
--- src/lib.rt:111:17
+-- src/lib.rt:165:17
 make-step-requires : tie.Need-make-step-requires
-make-step-requires c κs = (c .before .before .before .before .before .before .before .before .before .before .before .before .before .pre .0, c .before .before .before .before .before .before .before .before .before .before .before .before .before .pre .1, step-in-time _ _ (sym (c .before .before .before .before .before .step-verdict .ensures) ∙ c .before .before .before .enum-told .given .1), c .before .before .before .before .before .before .before .before .before .before .before .before .before .pre .2)
+make-step-requires c κs = search needs
 
--- src/lib.rt:103:1
+-- src/lib.rt:149:1
 same-length : tie.Need-same-length
 same-length c = search needs
 
--- src/lib.rt:103:1
+-- src/lib.rt:149:1
 returns : tie.Need-returns
-returns c = step-refused _ _ _ _ (sym (c .before .before .before .step-verdict .ensures) ∙ c .before .found .given .1)
+returns c = search step-refused
 
--- src/lib.rt:103:1
+-- src/lib.rt:149:1
 same-length-2 : tie.Need-same-length-2
 same-length-2 c = search needs
 
--- src/lib.rt:103:1
+-- src/lib.rt:149:1
 same-length-3 : tie.Need-same-length-3
 same-length-3 c = search needs
 
--- src/lib.rt:103:1
+-- src/lib.rt:149:1
 same-length-4 : tie.Need-same-length-4
 same-length-4 c = search needs
 
--- src/lib.rt:103:1
+-- src/lib.rt:149:1
 returns-2 : tie.Need-returns-2
 returns-2 c = step-finished _ _ _ _ _ _ _ (sym (c .before .before .before .before .before .before .before .before .before .before .before .before .step-verdict .ensures) ∙ c .before .before .before .before .before .before .before .before .before .before .enum-told .given .1) (c .before .before .before .before .before .before .make-step .ensures .0)
 

@@ -1,23 +1,24 @@
-// A group's list of branches, searched by number.
+// Whether a branch is one of a group's, by the table.
 ghost use mathlib.Core.Path.{_≡_};
+ghost use lib.ListN.{getD};
 ghost use Rattle.rules.specs.Kinds.{isBranch};
 ghost use Rattle.rules.specs.Tree.{branchesAt};
 ghost use Rattle.rules.specs.Scope.{hasBranch};
 ghost use Rattle.rules.specs.Shaped.{NodeOf};
-use table::fields;
+ghost use Rattle.cells.specs.Indexed.{Indexed};
+use cells::kind_of;
+use cells::number_of;
 
-// Whether the list of branches at j has the branch k.
-pub fn has_branch(p: &[u8], j: usize, k: usize) -> bool
-    requires { ⌜ NodeOf isBranch (now p) j ⌝ }
+// Whether the list of branches that begins with branch j has the branch k. The table gives each branch the first of its list.
+pub fn has_branch(p: &[u8], index: &[u16], j: usize, k: usize) -> bool
+    requires { ⌜ NodeOf isBranch (now p) j × Indexed (now p) (now index) × (getD (now index) j 0 ≡ j) ⌝ }
     ensures { λ r. ⌜ r ≡ hasBranch k (branchesAt (now (p .entry)) j) ⌝ }
 {
-    let mut at = j;
-    while at != k {
-        let n = fields(p, at);
-        if n.b == 65535 {
-            return false;
-        }
-        at = n.b;
+    if k > j {
+        return false;
     }
-    true
+    if kind_of(p, k) != 9 {
+        return false;
+    }
+    number_of(index, k) == j
 }

@@ -1,2 +1,4 @@
 pub mod Written
 pub mod Numbered
+pub mod Listed
+pub mod Passed

@@ -1,11 +1,12 @@
-// The cells of a state and its time, as bytes that are read and written in place; and the table of the cells' numbers.
+// The cells of a state and its time, as bytes that are read and written in place; and the table of the cells' and branches' numbers.
 ghost use mathlib.Core.Path.{_≡_};
 ghost use Prim.Native.Nat.{_+_, _*_, _≤_, _<_};
 ghost use lib.ListN.{length, getD};
 ghost use Rattle.rules.specs.Bytes.{u64At, bytesOf, writeAt};
 ghost use Rattle.rules.specs.Layout.{nodes, records, kindAt, hasCell, cellsBefore, cellAt, cell as cellIn, setCell, headerLength, lastTime, setTime};
 ghost use Rattle.rules.specs.Shaped.{Shaped};
-ghost use Rattle.cells.specs.Indexed.{Indexed};
+ghost use Rattle.cells.specs.Indexed.{ListedOnce, Numbers, ListedFrom, Indexed};
+use table::fields;
 use table::record_at;
 use table::u32_at;
 
@@ -97,7 +98,7 @@ pub fn set_time(st: &mut [u8], t: u32)
 }
 
 // The kind of record i.
-fn kind_of(p: &[u8], i: usize) -> u8
+pub fn kind_of(p: &[u8], i: usize) -> u8
     requires { ⌜ i < records (now p) ⌝ }
     ensures { λ k. ⌜ k ≡ kindAt (now (p .entry)) i ⌝ }
 {
@@ -118,7 +119,7 @@ fn has_cell(k: u8) -> bool
     k == 7
 }
 
-// The number of the cell of node i, from the table.
+// What the table has for node i: the number of its cell, or of the first branch of its list.
 pub fn number_of(index: &[u16], i: usize) -> usize
     requires { ⌜ i < length (now index) ⌝ }
     ensures { λ r. ⌜ r ≡ getD (now (index .entry)) i 0 ⌝ }
@@ -126,9 +127,44 @@ pub fn number_of(index: &[u16], i: usize) -> usize
     index[i] as usize
 }
 
-// The table of the cells' numbers, filled in one pass; the answer is how many cells the nodes passed have.
+// The branch that node i names gets its number: a group's first branch its own, a branch's next one what the branch has.
+fn name_branch(p: &[u8], index: &mut [u16], i: usize)
+    requires { ⌜ Shaped (now p) × (i < nodes (now p)) × ListedOnce (now p) × ListedFrom (i + 1) (now p) (now index) ⌝ }
+    ensures { λ _. ⌜ ListedFrom i (now (p .entry)) (now (index .exit)) ⌝ }
+{
+    let kind = kind_of(p, i);
+    if kind == 7 {
+        let group = fields(p, i);
+        let first = group.b;
+        index[first] = first as u16;
+        return;
+    }
+    if kind != 9 {
+        return;
+    }
+    let branch = fields(p, i);
+    let next = branch.b;
+    if next == 65535 {
+        return;
+    }
+    index[next] = index[i];
+}
+
+// The numbers of the branches, from the last node down: children have smaller numbers, so what a branch has is known when it is passed.
+fn index_branches(p: &[u8], index: &mut [u16], count: usize)
+    requires { ⌜ Shaped (now p) × ListedOnce (now p) × (count ≡ nodes (now p)) × (count ≤ length (now index)) × Numbers (now p) (now index) ⌝ }
+    ensures { λ _. ⌜ Indexed (now (p .entry)) (now (index .exit)) ⌝ }
+{
+    let mut left = count;
+    while left > 0 {
+        left -= 1;
+        name_branch(p, index, left);
+    }
+}
+
+// The table, filled in two passes; the answer is how many cells the nodes have.
 pub fn index_cells(p: &[u8], index: &mut [u16], count: usize) -> usize
-    requires { ⌜ Shaped (now p) × (count ≡ nodes (now p)) × (count ≤ length (now index)) ⌝ }
+    requires { ⌜ Shaped (now p) × ListedOnce (now p) × (count ≡ nodes (now p)) × (count ≤ length (now index)) ⌝ }
     ensures { λ r. ⌜ Indexed (now (p .entry)) (now (index .exit)) × (r ≡ cellsBefore (now (p .entry)) count) ⌝ }
 {
     let mut seen: usize = 0;
@@ -140,5 +176,6 @@ pub fn index_cells(p: &[u8], index: &mut [u16], count: usize) -> usize
         }
         i += 1;
     }
+    index_branches(p, index, count);
     seen
 }

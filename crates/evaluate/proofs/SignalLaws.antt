@@ -110,7 +110,7 @@ module _ (p : Bytes) (n : ℕ) (w : NodeOf isSignal p n) (s : boundS (signalAt p
 module _ (p : Bytes) (n : ℕ) (w : NodeOf isSignal p n) (index : List ℕ) (x : Indexed p index) (st : Bytes) (h : stateLength p ≤ length st) where
   pub cell-in : hasCell (kindAt p n) ≡ true → (n < length index) × (cellAt (getD index n 0) + 8 ≤ length st)
   unfolding stateLength cellAt
-  cell-in e = (omega (arith, w .inside, x .room), omega (arith, x .numbers n (w .inside), cell-below p n (w .inside) e, h))
+  cell-in e = (omega (arith, w .inside, x .room), omega (arith, x .numbers n w, cell-below p n (w .inside) e, h))
 
 pub delay-cell : {k : ℕ} → k ≡ 4 → hasCell k ≡ true
 unfolding hasCell _or_

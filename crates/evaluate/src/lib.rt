@@ -130,7 +130,7 @@ pub fn eval_s(p: &[u8], ix: &[u16], rec: &[u8], st: &[u8], env: &mut [u64], i: u
                 return ruled(eval_s(p, ix, rec, st, env, n.a));
             }
             let which = branch_in(m);
-            if has_branch(p, n.b, which) {
+            if has_branch(p, ix, n.b, which) {
                 let branch = fields(p, which);
                 return ruled(inside_s(p, ix, rec, st, env, which, unpack(m), branch.a));
             }

@@ -200,8 +200,8 @@ unfolding stateLength cellAt
 celled {p} {index} {s} {i} w x h e =
     record {
       listed = omega (arith, w .inside, x .room);
-      room = omega (arith, x .numbers i (w .inside), cell-below p i (w .inside) e, h);
+      room = omega (arith, x .numbers i w, cell-below p i (w .inside) e, h);
     }
 
 pub cell-number : {p : Bytes} {index : List ℕ} {i : ℕ} → NodeOf isSignal p i → Indexed p index → getD index i 0 ≡ cellsBefore p i
-cell-number {p} {index} {i} w x = x .numbers i (w .inside)
+cell-number {p} {index} {i} w x = x .numbers i w

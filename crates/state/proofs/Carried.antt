@@ -32,7 +32,7 @@ fits p k size h e = omega arith
 
 module _ (p : Bytes) (index : List ℕ) (size n : ℕ) (w : Stated isSignal p index size n) where
   pub number : getD index n 0 ≡ cellsBefore p n
-  number = w .indexed .numbers n (w .node .inside)
+  number = w .indexed .numbers n (w .node)
 
   own : hasCell (kindAt p n) ≡ true → (n < length index) × (cellAt (getD index n 0) + 8 ≤ size)
   own e = (

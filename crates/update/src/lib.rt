@@ -71,7 +71,7 @@ fn catches(p: &[u8], index: &[u16], st: &mut [u8], i: usize, n: Node, r: Moved) 
         Moved::Stay(_) => ruled(r),
         Moved::Jump(target, v, w) => {
             let which = target as usize;
-            if has_branch(p, n.b, which) {
+            if has_branch(p, index, n.b, which) {
                 enters(p, index, st, i, n, which, v);
                 return ruled(Moved::Stay(w));
             }
@@ -261,7 +261,7 @@ fn in_group(
         return update_s(p, index, rec, st, env, n.a);
     }
     let which = branch_in(m);
-    if has_branch(p, n.b, which) {
+    if has_branch(p, index, n.b, which) {
         let branch = fields(p, which);
         return inside(p, index, rec, st, env, which, unpack(m), branch.a);
     }

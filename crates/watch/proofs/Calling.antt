@@ -2,14 +2,15 @@
 -- Assumes nothing.
 use mathlib.Core.Path.{_≡_, refl, sym, ap, _∙_}
 use mathlib.Core.Bool.{Bool, true, not}
-use Prim.Native.Nat.{ℕ, _-_, _*_, _/_, _%_, _<_, _≤_}
+use Prim.Native.Nat.{ℕ, suc, _-_, _*_, _/_, _%_, _<_, _≤_}
 use native.Mathlib.Omega.{arith}
 use lib.Dec.{eqb}
 use lib.ListN.{length}
 use borrow.Author.Tests.{eq-eqb, ne-eqb, eqb-true, leb-true}
-use Rattle.rules.specs.Bytes.{Bytes}
-use Rattle.rules.specs.Layout.{nodes, cells, cellsBefore, cellAt, stateLength, inputLength}
-use Rattle.rules.specs.Kinds.{isSignal}
+use Rattle.rules.specs.Bytes.{Bytes, first}
+use Rattle.rules.specs.Layout.{nodes, kindAt, cells, cellsBefore, cellAt, stateLength, inputLength}
+use Rattle.rules.specs.Kinds.{isSignal, isBranch}
+use Rattle.rules.specs.Shape.{named, shapeWrong}
 use Rattle.rules.specs.Shaped.{Shaped, NodeOf}
 use Rattle.rules.specs.Size.{sizeS}
 use Rattle.rules.specs.Tree.{root}
@@ -29,8 +30,12 @@ use Rattle.rules.specs.declared.Started.{Started}
 use Rattle.rules.specs.declared.Started.the-variants.{Ready}
 use Rattle.rules.specs.declared.Ran.{Ran}
 use Rattle.rules.proofs.Static.{and-both}
-use Rattle.rules.proofs.Kids.{not-not}
+use Rattle.rules.proofs.Kids.{or-none, not-not}
+use Rattle.rules.proofs.ByKind.{choose}
+use Rattle.rules.proofs.Established.{nowhere-from}
 use Rattle.rules.proofs.Verdicts.{both-fine, if-fine}
+use Rattle.cells.specs.Indexed.{ListedOnce}
+use Rattle.cells.proofs.Listed.{not-signal}
 use Rattle.steps.specs.Going.{Leaves}
 use Rattle.watch.specs.Lent.{lentRest, runFits}
 use Rattle.rules.proofs.Rooted.{some-node, root-of, shaped-of}
@@ -41,12 +46,27 @@ pub fine-first : (v : Verdict) → (Fine otherwise v) ≡ v
 unfolding _otherwise_
 fine-first v = refl
 
+-- a branch is not the last node, which is a signal
+branch-not-last : (p : Bytes) (n : ℕ) → NodeOf isSignal p (nodes p - 1) → NodeOf isBranch p n → suc n < nodes p
+branch-not-last p n r w =
+    choose (suc n) (nodes p)
+    (λ e. absurd (not-signal (kindAt p n) (w .sorted) (ap (λ (k : ℕ). isSignal (kindAt p k)) (let q : n ≡ nodes p - 1 = omega arith in q) ∙ r .sorted)))
+    (λ d. omega (arith, d, w .inside))
+
+-- and each node but the last is named once
+named-once : (p : Bytes) (n : ℕ) → Accepted p → suc n < nodes p → named p n ≡ 1
+unfolding first shapeWrong
+named-once p n a h =
+    let f = or-none _ _ (nowhere-from (shapeWrong p) (nodes p) 0 n (a .shape-right) (omega arith) (omega arith)) .1 in
+    eqb-true _ _ (not-not _ (simp (ne-eqb (suc n) (nodes p) (λ z. omega arith)) at f))
+
 -- the facts of an accepted program of so many nodes
 pub record Counted (p : Bytes) (count : ℕ) : Type 0 where
   pub some : 0 < count
   pub most : count ≤ 1008
   pub rooted : NodeOf isSignal p (count - 1)
   pub shaped : Shaped p
+  pub listed : ListedOnce p
   pub small : sizeS (root p) ≤ 1008
 
 pub counted : (p : Bytes) (count : ℕ) → Accepted p → count ≡ nodes p → Counted p count
@@ -58,6 +78,7 @@ counted p count a e =
       most = rw e (s .small);
       rooted = rw e (root-of p a);
       shaped = s;
+      listed = λ n w. named-once p n a (branch-not-last p n (root-of p a) w);
       small = tree-small p (a .formed .length-right) (a .shape-right) h;
     }
 

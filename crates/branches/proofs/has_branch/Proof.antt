@@ -1,50 +1,35 @@
-use Rattle.rules.specs.Layout.{bAt}
-use mathlib.Core.Path.{_≡_, refl, sym, ap, _∙_}
+use Rattle.branches.proofs.ByTable.{too-large, no-branch, by-table}
+use lib.Dec.{eqb}
+use Prim.Native.Nat.{ℕ}
+use mathlib.Core.Path.{sym, ap, _∙_}
 use native.Mathlib.Omega.{arith}
-use Rattle.rules.proofs.Branches.{number-here, number-last, number-next}
-use Rattle.rules.proofs.Signals.{branch-next}
-use Rattle.rules.proofs.Kids.{read}
-use Rattle.rules.specs.Shaped.{NodeOf}
-use Rattle.rules.specs.Scope.{hasBranch}
-use Rattle.rules.specs.Tree.{branchesAt}
-use Rattle.rules.specs.Kinds.{isBranch}
 use Rattle.branches.proofs.has_branch.Statement.{statement}
 use Rattle.branches.proofs.has_branch.Tie as tie
 use Rattle.branches.proofs.has_branch.Reads as reads
 use Rattle.branches.proofs.has_branch.Lts as lts
-use Rattle.table.proofs.fields.Reads as fields-reads
+use Rattle.cells.proofs.kind_of.Reads as kind-of-reads
+use Rattle.cells.proofs.number_of.Reads as number-of-reads
 
-abbrev Inv-loop : tie.InvT-loop
-Inv-loop p j k at₀ at = NodeOf isBranch p at × (hasBranch k (branchesAt p at) ≡ hasBranch k (branchesAt p j))
+-- src/lib.rt:18:9
+returns : tie.Need-returns
+returns c = too-large _ _ _ (c .before .before .before .pre .0) (c .if1 .taken)
 
-abbrev μ-loop : tie.MeasureT-loop
-μ-loop p j k at₀ at = at
+-- src/lib.rt:20:8
+kind-of-requires : tie.Need-kind-of-requires
+kind-of-requires c κs = omega (arith, c .before .before .before .pre .0 .inside, c .before .before .before .pre .0 .shaped .within)
 
--- src/lib.rt:15:5
-loop-holds : tie.Need-loop-holds Inv-loop μ-loop
-loop-holds c = (c .before .pre, refl)
+-- src/lib.rt:21:9
+returns-2 : tie.Need-returns-2
+returns-2 c = no-branch _ _ _ (c .before .before .before .before .before .pre .0) (λ e. c .if2 .taken (c .before .kind-of .ensures ∙ e))
 
--- src/lib.rt:16:13
-fields-requires : tie.Need-fields-requires Inv-loop μ-loop
-fields-requires c κs = omega (arith, c .before .loop .inv .0 .inside, c .before .loop .inv .0 .shaped .within)
+-- src/lib.rt:23:5
+number-of-requires : tie.Need-number-of-requires
+number-of-requires c κs = omega (arith, c .before .before .before .before .before .pre .0 .inside, c .before .before .before .before .before .pre .1 .room)
 
--- src/lib.rt:18:13
-returns : tie.Need-returns Inv-loop μ-loop
-returns c = sym (number-last (c .before .before .before .before .before .before .args .p .now) (c .before .before .before .before .loop .at) (c .before .before .before .before .loop .inv .0) (c .before .before .before .before .before .before .args .k) (c .before .before .before .loop-test .taken) (sym (c .before .before .fields .ensures .b-is) ∙ c .if1 .taken)) ∙ c .before .before .before .before .loop .inv .1
-
--- src/lib.rt:15:5
-loop-less : tie.Need-loop-less Inv-loop μ-loop
-loop-less c = let k = read (c .before .before .fields .ensures .b-is) (branch-next (c .before .before .before .before .before .before .args .p .now) (c .before .before .before .before .loop .at) (c .before .before .before .before .loop .inv .0) (λ h. c .if1 .left (c .before .before .fields .ensures .b-is ∙ h))) in k .less
-
--- src/lib.rt:15:5
-loop-again : tie.Need-loop-again Inv-loop μ-loop
-loop-again c = let m : bAt (c .before .before .before .before .before .before .args .p .now) (c .before .before .before .before .loop .at) ≡ 65535 → ⊥ = λ h. c .if1 .left (c .before .before .fields .ensures .b-is ∙ h) in let k = read (c .before .before .fields .ensures .b-is) (branch-next (c .before .before .before .before .before .before .args .p .now) (c .before .before .before .before .loop .at) (c .before .before .before .before .loop .inv .0) m) in (k .node, cc (number-next (c .before .before .before .before .before .before .args .p .now) (c .before .before .before .before .loop .at) (c .before .before .before .before .loop .inv .0) (c .before .before .before .before .before .before .args .k) (c .before .before .before .loop-test .taken) m))
-
--- src/lib.rt:10:1
-returns-2 : tie.Need-returns-2 Inv-loop μ-loop
-returns-2 c = sym (number-here (c .before .before .before .args .p .now) (c .before .loop .at) (c .before .loop .inv .0) (c .before .before .before .args .k) (c .loop-test .left)) ∙ c .before .loop .inv .1
+-- src/lib.rt:13:1
+returns-3 : tie.Need-returns-3
+returns-3 c = ap (λ (n : ℕ). eqb n (c .before .before .before .before .before .before .args .j)) (c .number-of .ensures) ∙ by-table _ _ (c .before .before .before .before .before .before .pre .1) _ _ (c .before .before .before .before .before .before .pre .0) (c .before .before .before .before .before .before .pre .2) (omega arith) (sym (c .before .before .kind-of .ensures) ∙ c .before .if2 .left)
 
 pub has-branch-spec : {M : Type 1} → statement M
 has-branch-spec =
-    tie.close
-    (tie.spec Inv-loop μ-loop loop-holds fields-requires returns loop-less loop-again returns-2)
+    tie.close (tie.spec returns kind-of-requires returns-2 number-of-requires returns-3)

@@ -1,6 +1,5 @@
 use mathlib.Core.Logic.{⊎-elim}
 use borrow.Author.Needs.{needs}
-use Rattle.cells.specs.Indexed.{Indexed}
 use Rattle.cells.proofs.Numbered.{Below, cells-most, counts-cell, counts-none, one-more}
 use Rattle.rules.specs.Bytes.{howMany}
 use Rattle.rules.specs.Layout.{cellsBefore}
@@ -15,6 +14,7 @@ use Rattle.cells.proofs.index_cells.Reads as reads
 use Rattle.cells.proofs.index_cells.Lts as lts
 use Rattle.cells.proofs.has_cell.Reads as has-cell-reads
 use Rattle.cells.proofs.kind_of.Reads as kind-of-reads
+use Rattle.cells.proofs.index_branches.Reads as index-branches-reads
 
 abbrev Inv-loop : tie.InvT-loop
 Inv-loop p index₀ count seen₀ i₀ index seen i = (i ≤ count) × (seen ≡ cellsBefore p i) × (length index ≡ length index₀) × Below p index i
@@ -22,44 +22,44 @@ Inv-loop p index₀ count seen₀ i₀ index seen i = (i ≤ count) × (seen ≡
 abbrev μ-loop : tie.MeasureT-loop
 μ-loop p index₀ count seen₀ i₀ index seen i = count - i
 
--- src/lib.rt:135:5
+-- src/lib.rt:172:5
 loop-holds : tie.Need-loop-holds Inv-loop μ-loop
 unfolding cellsBefore howMany
 loop-holds c = (omega arith, refl, refl, λ j h. absurd (not-suc-le-zero h))
 
--- src/lib.rt:136:20
+-- src/lib.rt:173:20
 cast-index : tie.Need-cast-index Inv-loop μ-loop
 cast-index c = omega (arith, cells-most (c .before .before .before .before .args .p .now) (c .before .loop .i), c .before .before .before .before .pre .0 .small)
 
--- src/lib.rt:136:9
+-- src/lib.rt:173:9
 mul-index : tie.Need-mul-index Inv-loop μ-loop
 mul-index c = omega arith
 
--- src/lib.rt:136:9
+-- src/lib.rt:173:9
 slice-write-index : tie.Need-slice-write-index Inv-loop μ-loop
 slice-write-index c = omega arith
 
--- src/lib.rt:137:21
+-- src/lib.rt:174:21
 kind-of-requires : tie.Need-kind-of-requires Inv-loop μ-loop
 kind-of-requires c κs = omega (arith, c .before .before .before .before .pre .0 .within)
 
--- src/lib.rt:137:12
+-- src/lib.rt:174:12
 has-cell-requires : tie.Need-has-cell-requires Inv-loop μ-loop
 has-cell-requires c κs = search needs
 
--- src/lib.rt:138:13
+-- src/lib.rt:175:13
 add-seen : tie.Need-add-seen Inv-loop μ-loop
 add-seen c = omega (arith, cells-most (c .before .before .before .before .before .before .before .args .p .now) (c .before .before .before .before .loop .i))
 
--- src/lib.rt:140:9
+-- src/lib.rt:177:9
 add-i : tie.Need-add-i Inv-loop μ-loop
 add-i c = omega arith
 
--- src/lib.rt:135:5
+-- src/lib.rt:172:5
 loop-less : tie.Need-loop-less Inv-loop μ-loop
 loop-less c = omega arith
 
--- src/lib.rt:135:5
+-- src/lib.rt:172:5
 loop-again : tie.Need-loop-again Inv-loop μ-loop
 loop-again c = let p = c .before .before .before .before .before .before .before .args .p .now in
     let i = c .before .before .before .before .loop .i in
@@ -75,16 +75,17 @@ loop-again c = let p = c .before .before .before .before .before .before .before
       one-more p (c .before .before .before .before .loop .index) i _ inside (c .before .before .before .before .loop .inv .1) (c .before .before .before .before .loop .inv .3),
     )
 
--- src/lib.rt:129:1
-same-length : tie.Need-same-length Inv-loop μ-loop
-same-length c = c .before .loop .inv .2
+-- src/lib.rt:179:5
+index-branches-requires : tie.Need-index-branches-requires Inv-loop μ-loop
+index-branches-requires c κs = (c .before .before .before .before .before .pre .0, c .before .before .before .before .before .pre .1, c .before .before .before .before .before .pre .2, omega (arith, c .before .before .before .before .before .pre .3, c .before .before .loop .inv .2), λ i w. c .before .before .loop .inv .3 i (omega (arith, c .before .before .before .before .before .pre .2, w .inside)))
 
--- src/lib.rt:129:1
+-- src/lib.rt:166:1
+same-length : tie.Need-same-length Inv-loop μ-loop
+same-length c = c .before .before .index-branches .kept .1 .0 ∙ c .before .before .before .before .before .loop .inv .2
+
+-- src/lib.rt:166:1
 returns : tie.Need-returns Inv-loop μ-loop
-returns c = let e : c .before .loop .i ≡ c .before .before .before .before .args .count = omega arith in (
-  record { room = omega (arith, c .before .before .before .before .pre .1, c .before .before .before .before .pre .2, c .before .loop .inv .2); numbers = λ i h. c .before .loop .inv .3 i (omega (arith, c .before .before .before .before .pre .1)) },
-  c .before .loop .inv .1 ∙ ap (cellsBefore (c .before .before .before .before .args .p .now)) e,
-)
+returns c = let e : c .before .before .before .before .before .loop .i ≡ c .before .before .before .before .before .before .before .before .args .count = omega arith in (c .before .before .index-branches .ensures, c .before .before .before .before .before .loop .inv .1 ∙ ap (cellsBefore (c .before .before .before .before .before .before .before .before .args .p .now)) e)
 
 pub index-cells-spec : {M : Type 1} → statement M
 index-cells-spec =
@@ -102,5 +103,6 @@ index-cells-spec =
     add-i
     loop-less
     loop-again
+    index-branches-requires
     same-length
     returns)

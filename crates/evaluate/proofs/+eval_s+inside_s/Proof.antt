@@ -1,8 +1,8 @@
 use Rattle.evaluate.proofs.SignalLaws.{read-s, part-work-s, ext-part, let-parts, switch-parts, group-part, branch-part, until-part, cell-in, delay-cell, switch-cell, group-cell, input-eval, time-eval, ext-eval, until-eval, let-goes, let-stuck, delay-eval, switch-first, switch-second, group-body, group-branch, group-stuck}
 use Rattle.evaluate.proofs.ExprLaws.{read as read-e, part-work, put-back}
 use Rattle.values.specs.Combine.{workOf}
-use Rattle.rules.proofs.Signals.{group-kids, time-left}
-use Rattle.rules.proofs.Kids.{read}
+use Rattle.branches.proofs.ByTable.{group-first}
+use Rattle.rules.proofs.Signals.{time-left}
 use Rattle.rules.specs.Evaluate.{bind}
 use lib.ListN.{length, length-set, set, getD}
 use Prim.Native.Nat.{_+_, _*_}
@@ -207,7 +207,7 @@ eval-s-returns-2 t c =
     let rec = c .before .before .before .before .before .before .before .before .before .before .before .before .before .before .args .rec .now in
     let st = c .before .before .before .before .before .before .before .before .before .before .before .before .before .before .args .st .now in
     let node = c .before .before .before .before .before .before .before .before .fields .ensures in
-    (cc (switch-first p i w rec st env (c .before .before .before .before .before .before .content2 .ensures) (c .before .before .before .before .before .before .before .before .before .before .before .before .before .before .pre .1 .indexed .numbers i (c .before .before .before .before .before .before .before .before .before .before .before .before .before .before .pre .1 .node .inside)) (sym (node .kind-is) ∙ c .before .before .before .before .before .before .before .match .keys5) (c .before .before .before .before .before .if1 .taken)), c .before .before .before .eval-s2 .ensures .1)
+    (cc (switch-first p i w rec st env (c .before .before .before .before .before .before .content2 .ensures) (c .before .before .before .before .before .before .before .before .before .before .before .before .before .before .pre .1 .indexed .numbers i (c .before .before .before .before .before .before .before .before .before .before .before .before .before .before .pre .1 .node)) (sym (node .kind-is) ∙ c .before .before .before .before .before .before .before .match .keys5) (c .before .before .before .before .before .if1 .taken)), c .before .before .before .eval-s2 .ensures .1)
 
 -- src/lib.rt:127:55
 eval-s-unpack-requires-2 : (t : ℕ) → eval-s-lts.Need-unpack-requires-2 (eval-s-calls t) (eval-s-at t) eval-s.Post
@@ -284,7 +284,7 @@ eval-s-returns-3 t c =
     let rec = c .before .before .before .before .before .before .before .before .before .before .before .before .before .before .args .rec .now in
     let st = c .before .before .before .before .before .before .before .before .before .before .before .before .before .before .args .st .now in
     let node = c .before .before .before .before .before .before .before .before .fields .ensures in
-    (cc (group-body p i w rec st env (c .before .before .before .before .before .before .content3 .ensures) (c .before .before .before .before .before .before .before .before .before .before .before .before .before .before .pre .1 .indexed .numbers i (c .before .before .before .before .before .before .before .before .before .before .before .before .before .before .pre .1 .node .inside)) (sym (node .kind-is) ∙ c .before .before .before .before .before .before .before .match .keys6) (c .before .before .before .before .before .if2 .taken)), c .before .before .before .eval-s3 .ensures .1)
+    (cc (group-body p i w rec st env (c .before .before .before .before .before .before .content3 .ensures) (c .before .before .before .before .before .before .before .before .before .before .before .before .before .before .pre .1 .indexed .numbers i (c .before .before .before .before .before .before .before .before .before .before .before .before .before .before .pre .1 .node)) (sym (node .kind-is) ∙ c .before .before .before .before .before .before .before .match .keys6) (c .before .before .before .before .before .if2 .taken)), c .before .before .before .eval-s3 .ensures .1)
 
 -- src/lib.rt:134:17
 eval-s-branch-in-requires : (t : ℕ) → eval-s-lts.Need-branch-in-requires (eval-s-calls t) (eval-s-at t) eval-s.Post
@@ -293,11 +293,9 @@ eval-s-branch-in-requires t c κs = search needs
 -- src/lib.rt:135:16
 eval-s-has-branch-requires : (t : ℕ) → eval-s-lts.Need-has-branch-requires (eval-s-calls t) (eval-s-at t) eval-s.Post
 eval-s-has-branch-requires t c κs =
-    let p = c .before .before .before .before .before .before .before .before .before .before .args .p .now in
-    let i = c .before .before .before .before .before .before .before .before .before .before .args .i in
-    let w = c .before .before .before .before .before .before .before .before .before .before .pre .1 .node in
+    let ready = c .before .before .before .before .before .before .before .before .before .before .pre .1 in
     let node = c .before .before .before .before .fields .ensures in
-    (read (node .b-is) (group-kids p i w (sym (node .kind-is) ∙ c .before .before .before .match .keys6) .1)) .node
+    group-first (ready .indexed) (ready .node) (sym (node .kind-is) ∙ c .before .before .before .match .keys6) (node .b-is)
 
 -- src/lib.rt:136:21
 eval-s-fields-requires-2 : (t : ℕ) → eval-s-lts.Need-fields-requires-2 (eval-s-calls t) (eval-s-at t) eval-s.Post
@@ -348,7 +346,7 @@ eval-s-returns-4 t c =
     let rec = c .before .before .before .before .before .before .before .before .before .before .before .before .before .before .before .before .before .before .before .args .rec .now in
     let st = c .before .before .before .before .before .before .before .before .before .before .before .before .before .before .before .before .before .before .before .args .st .now in
     let node = c .before .before .before .before .before .before .before .before .before .before .before .before .before .fields .ensures in
-    (cc (group-branch p i w rec st env (c .before .before .before .before .before .before .before .before .before .before .before .content3 .ensures) (c .before .before .before .before .before .before .before .before .before .before .before .before .before .before .before .before .before .before .before .pre .1 .indexed .numbers i (c .before .before .before .before .before .before .before .before .before .before .before .before .before .before .before .before .before .before .before .pre .1 .node .inside)) (sym (node .kind-is) ∙ c .before .before .before .before .before .before .before .before .before .before .before .before .match .keys6) (c .before .before .before .before .before .before .before .before .before .before .if2 .left) (node .b-is) (c .before .before .before .before .before .before .before .before .before .branch-in .ensures) (c .before .before .before .before .before .before .before .before .has-branch .ensures) (c .before .before .before .before .before .before .before .if3 .taken)), c .before .before .before .inside-s3 .ensures .1)
+    (cc (group-branch p i w rec st env (c .before .before .before .before .before .before .before .before .before .before .before .content3 .ensures) (c .before .before .before .before .before .before .before .before .before .before .before .before .before .before .before .before .before .before .before .pre .1 .indexed .numbers i (c .before .before .before .before .before .before .before .before .before .before .before .before .before .before .before .before .before .before .before .pre .1 .node)) (sym (node .kind-is) ∙ c .before .before .before .before .before .before .before .before .before .before .before .before .match .keys6) (c .before .before .before .before .before .before .before .before .before .before .if2 .left) (node .b-is) (c .before .before .before .before .before .before .before .before .before .branch-in .ensures) (c .before .before .before .before .before .before .before .before .has-branch .ensures) (c .before .before .before .before .before .before .before .if3 .taken)), c .before .before .before .inside-s3 .ensures .1)
 
 -- src/lib.rt:141:20
 eval-s-eval-s-requires-4 : (t : ℕ) → eval-s-lts.Need-eval-s-requires-4 (eval-s-calls t) (eval-s-at t) eval-s.Post
@@ -417,7 +415,7 @@ eval-s-returns-7 t c =
     let rec = c .before .before .before .before .before .before .before .before .before .before .args .rec .now in
     let st = c .before .before .before .before .before .before .before .before .before .before .args .st .now in
     let node = c .before .before .before .before .fields .ensures in
-    (cc (delay-eval p i w rec st env (c .before .before .content .ensures) (c .before .before .before .before .before .before .before .before .before .before .pre .1 .indexed .numbers i (c .before .before .before .before .before .before .before .before .before .before .pre .1 .node .inside)) (sym (node .kind-is) ∙ c .before .before .before .match .keys3)), refl)
+    (cc (delay-eval p i w rec st env (c .before .before .content .ensures) (c .before .before .before .before .before .before .before .before .before .before .pre .1 .indexed .numbers i (c .before .before .before .before .before .before .before .before .before .before .pre .1 .node)) (sym (node .kind-is) ∙ c .before .before .before .match .keys3)), refl)
 
 -- src/lib.rt:104:1
 eval-s-same-length-6 : (t : ℕ) → eval-s-lts.Need-same-length-6 (eval-s-calls t) (eval-s-at t) eval-s.Post
@@ -449,7 +447,7 @@ eval-s-returns-9 t c =
     let rec = c .before .before .before .before .before .before .before .before .before .before .before .before .before .before .before .args .rec .now in
     let st = c .before .before .before .before .before .before .before .before .before .before .before .before .before .before .before .args .st .now in
     let node = c .before .before .before .before .before .before .before .before .before .fields .ensures in
-    (cc (switch-second p i w rec st env (c .before .before .before .before .before .before .before .content2 .ensures) (c .before .before .before .before .before .before .before .before .before .before .before .before .before .before .before .pre .1 .indexed .numbers i (c .before .before .before .before .before .before .before .before .before .before .before .before .before .before .before .pre .1 .node .inside)) (sym (node .kind-is) ∙ c .before .before .before .before .before .before .before .before .match .keys5) (c .before .before .before .before .before .before .if1 .left)), c .before .before .before .inside-s2 .ensures .1)
+    (cc (switch-second p i w rec st env (c .before .before .before .before .before .before .before .content2 .ensures) (c .before .before .before .before .before .before .before .before .before .before .before .before .before .before .before .pre .1 .indexed .numbers i (c .before .before .before .before .before .before .before .before .before .before .before .before .before .before .before .pre .1 .node)) (sym (node .kind-is) ∙ c .before .before .before .before .before .before .before .before .match .keys5) (c .before .before .before .before .before .before .if1 .left)), c .before .before .before .inside-s2 .ensures .1)
 
 -- src/lib.rt:104:1
 eval-s-returns-10 : (t : ℕ) → eval-s-lts.Need-returns-10 (eval-s-calls t) (eval-s-at t) eval-s.Post
@@ -461,7 +459,7 @@ eval-s-returns-10 t c =
     let rec = c .before .before .before .before .before .before .before .before .before .before .before .before .args .rec .now in
     let st = c .before .before .before .before .before .before .before .before .before .before .before .before .args .st .now in
     let node = c .before .before .before .before .before .before .fields .ensures in
-    (sym (group-stuck p i w rec st env (c .before .before .before .before .content3 .ensures) (c .before .before .before .before .before .before .before .before .before .before .before .before .pre .1 .indexed .numbers i (c .before .before .before .before .before .before .before .before .before .before .before .before .pre .1 .node .inside)) (sym (node .kind-is) ∙ c .before .before .before .before .before .match .keys6) (c .before .before .before .if2 .left) (node .b-is) (c .before .before .branch-in .ensures) (c .before .has-branch .ensures) (c .if3 .left)), refl)
+    (sym (group-stuck p i w rec st env (c .before .before .before .before .content3 .ensures) (c .before .before .before .before .before .before .before .before .before .before .before .before .pre .1 .indexed .numbers i (c .before .before .before .before .before .before .before .before .before .before .before .before .pre .1 .node)) (sym (node .kind-is) ∙ c .before .before .before .before .before .match .keys6) (c .before .before .before .if2 .left) (node .b-is) (c .before .before .branch-in .ensures) (c .before .has-branch .ensures) (c .if3 .left)), refl)
 
 -- src/lib.rt:104:1
 eval-s-same-length-8 : (t : ℕ) → eval-s-lts.Need-same-length-8 (eval-s-calls t) (eval-s-at t) eval-s.Post

@@ -1,5 +1,5 @@
 use Rattle.moves.proofs.SmallLaws.{done-small, parts-small, moved-small, still-small, switch-small, group-small}
-use Rattle.moves.proofs.ReadyLaws.{ready-again, as-again, walk-again, delay-part, let-parts, switch-parts, group-part, group-list, branch-node, branch-part, until-parts, case-part, case-rest, placed, celled, cell-number}
+use Rattle.moves.proofs.ReadyLaws.{ready-again, as-again, walk-again, delay-part, let-parts, switch-parts, group-part, branch-node, branch-part, until-parts, case-part, case-rest, placed, celled, cell-number}
 use Rattle.evaluate.proofs.SignalLaws.{delay-cell, switch-cell, group-cell}
 use Rattle.evaluate.proofs.ExprLaws.{put-back}
 use Rattle.update.proofs.Evaluable.{evaluable}
@@ -8,6 +8,7 @@ use Rattle.moves.proofs.KindLaws.{delay-stuck, delay-broken, delay-done, let-st
 use Rattle.moves.specs.Outcomes.{countOf, occurred}
 use Rattle.values.specs.declared.Parts.the-variants.{Maybe}
 use Rattle.values.specs.declared.Event.{Event}
+use Rattle.branches.proofs.ByTable.{group-first as list-first}
 use Rattle.rules.specs.Evaluate.{bind}
 use Rattle.rules.specs.Work.{moved}
 use Rattle.rules.specs.Tree.{signalAt, casesAt}
@@ -236,7 +237,7 @@ in-group-branch-in-requires t c κs = search needs
 
 -- src/lib.rt:228:8
 in-group-has-branch-requires : (t : ℕ) → in-group-lts.Need-has-branch-requires (in-group-calls t) (in-group-at t) in-group.Post
-in-group-has-branch-requires t c κs = group-list (c .before .before .before .before .before .before .before .before .before .pre .1)
+in-group-has-branch-requires t c κs = let n = c .before .before .before .before .before .before .before .before .before .pre .1 in list-first (n .ready .lent .table) (n .ready .node) (n .kind) (n .fields .b-is)
 
 -- src/lib.rt:229:13
 in-group-fields-requires : (t : ℕ) → in-group-lts.Need-fields-requires (in-group-calls t) (in-group-at t) in-group.Post

@@ -1,3 +1,4 @@
+use Rattle.branches.proofs.ByTable.{group-first}
 use Rattle.rules.specs.declared.Moved.{Moved}
 use Rattle.rules.specs.Work.{moved, ruleᵘ}
 use Rattle.moves.proofs.SmallLaws.{caught-stay, caught-stuck, caught-other, caught-here}
@@ -33,7 +34,7 @@ cast-which c = search needs
 
 -- src/lib.rt:103:16
 has-branch-requires : tie.Need-has-branch-requires
-has-branch-requires c κs = read (c .before .before .before .before .before .before .pre .0 .fields .b-is) (group-kids (c .before .before .before .before .before .before .args .p .now) (c .before .before .before .before .before .before .args .i) (c .before .before .before .before .before .before .pre .0 .node) (c .before .before .before .before .before .before .pre .0 .kind) .1) .node
+has-branch-requires c κs = let n = c .before .before .before .before .before .before .pre .0 in group-first (n .table) (n .node) (n .kind) (n .fields .b-is)
 
 -- src/lib.rt:104:17
 enters-requires : tie.Need-enters-requires

@@ -2,7 +2,7 @@
 ghost use mathlib.Core.Path.{_≡_};
 ghost use Prim.Native.Nat.{_+_, _*_, _%_, _≤_, _<_};
 ghost use lib.ListN.{length};
-ghost use Rattle.rules.specs.Bytes.{u16At, u32At};
+ghost use Rattle.rules.specs.Bytes.{byteAt, u16At, u32At};
 ghost use Rattle.rules.specs.Layout.{records, recordAt, typeAt};
 ghost use Rattle.rules.specs.Node.{IsNode};
 use rules::Node;
@@ -48,12 +48,19 @@ pub fn record_at(p: &[u8], i: usize) -> usize
     12 * i + 8 * (i / 42) + 4
 }
 
-// The fields of record i.
-pub fn fields(p: &[u8], i: usize) -> Node
-    requires { ⌜ i < records (now p) ⌝ }
-    ensures { λ n. ⌜ IsNode (now (p .entry)) i n ⌝ }
+// Where node i stands, by a product in place of the division: below 1,008 both are the same.
+pub fn node_at(p: &[u8], i: usize) -> usize
+    requires { ⌜ (i < records (now p)) × (i < 1008) ⌝ }
+    ensures { λ n. ⌜ (n ≡ recordAt i) × (n + 12 ≤ length (now (p .entry))) ⌝ }
 {
-    let at = record_at(p, i);
+    12 * i + 8 * (i * 1561 / 65536) + 4
+}
+
+// The fields of the record at a position.
+fn read(p: &[u8], at: usize) -> Node
+    requires { ⌜ at + 12 ≤ length (now p) ⌝ }
+    ensures { λ n. ⌜ (n .kind ≡ byteAt (now (p .entry)) at) × (n .ty ≡ byteAt (now (p .entry)) (at + 1)) × (n .a ≡ u16At (now (p .entry)) (at + 2)) × (n .b ≡ u16At (now (p .entry)) (at + 4)) × (n .c ≡ u16At (now (p .entry)) (at + 6)) × (n .word ≡ u32At (now (p .entry)) (at + 8)) ⌝ }
+{
     Node {
         kind: p[at],
         ty: p[at + 1],
@@ -62,6 +69,24 @@ pub fn fields(p: &[u8], i: usize) -> Node
         c: u16_at(p, at + 6),
         word: u32_at(p, at + 8),
     }
+}
+
+// The fields of record i.
+pub fn fields(p: &[u8], i: usize) -> Node
+    requires { ⌜ i < records (now p) ⌝ }
+    ensures { λ n. ⌜ IsNode (now (p .entry)) i n ⌝ }
+{
+    let at = record_at(p, i);
+    read(p, at)
+}
+
+// The fields of node i.
+pub fn node(p: &[u8], i: usize) -> Node
+    requires { ⌜ (i < records (now p)) × (i < 1008) ⌝ }
+    ensures { λ n. ⌜ IsNode (now (p .entry)) i n ⌝ }
+{
+    let at = node_at(p, i);
+    read(p, at)
 }
 
 // The type that record i declares; 0 where there is no such record.

@@ -1,26 +1,27 @@
--- What an evaluation carries: a node, a slot for each node, and a tree whose bound is small.
+-- What an evaluation carries: a node, slots that hold values, and a tree whose bound is small, so that a count fits in two bytes.
 -- Assumes nothing: these are definitions.
 use Prim.Native.Nat.{ℕ, _≤_, _<_}
 use mathlib.Core.List.{List}
 use lib.ListN.{length}
 use Rattle.rules.specs.Bytes.{Bytes}
-use Rattle.rules.specs.Layout.{nodes, stateLength}
+use Rattle.rules.specs.Layout.{stateLength}
 use Rattle.rules.specs.Kinds.{isExpression, isSignal}
 use Rattle.rules.specs.Tree.{exprAt, signalAt}
 use Rattle.rules.specs.Bound.{boundE, boundS}
 use Rattle.rules.specs.Evaluate.{Env}
 use Rattle.rules.specs.Shaped.{NodeOf}
 use Rattle.cells.specs.Indexed.{Indexed}
+use Rattle.outcomes.specs.Outcome.{Slots}
 
 pub record ReadyE (p : Bytes) (env : Env) (i : ℕ) : Type 0 where
   pub node : NodeOf isExpression p i
-  pub room : nodes p ≤ length env
-  pub small : boundE (exprAt p i) < 4294967296
+  pub slots : Slots env
+  pub small : boundE (exprAt p i) < 65535
 
 -- For a signal also the numbers of the cells, and a state with room for them.
 pub record ReadyS (p : Bytes) (index : List ℕ) (st : Bytes) (env : Env) (i : ℕ) : Type 0 where
   pub node : NodeOf isSignal p i
   pub indexed : Indexed p index
   pub state : stateLength p ≤ length st
-  pub room : nodes p ≤ length env
-  pub small : boundS (signalAt p i) < 4294967296
+  pub slots : Slots env
+  pub small : boundS (signalAt p i) < 65535

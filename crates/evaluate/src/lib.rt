@@ -1,43 +1,45 @@
-// Evaluation of expressions and of signals, with the values of variables in lent slots, set and put back.
+// Evaluation of expressions and of signals, with the values of variables in lent slots, set and put back. An outcome is one number.
 ghost use mathlib.Core.Path.{_≡_};
 ghost use Prim.Native.Nat.{_+_, _≤_, _<_};
 ghost use lib.ListN.{length, getD};
 ghost use Rattle.rules.specs.Layout.{cellAt, cell as cellIn};
-ghost use Rattle.rules.specs.Values.{middleIn};
+ghost use Rattle.rules.specs.Values.{unpacked, middleIn};
 ghost use Rattle.rules.specs.Tree.{exprAt, signalAt};
 ghost use Rattle.rules.specs.Evaluate.{bind, evalE, evalS};
+ghost use Rattle.outcomes.specs.Outcome.{outcomeIn, IsOutcome, IsValue};
 ghost use Rattle.evaluate.specs.Ready.{ReadyE, ReadyS};
 use branches::has_branch;
 use cells::cell;
 use cells::number_of;
 use inputs::channel_value;
 use inputs::time_in;
-use rules::Evaluated;
+use outcomes::Arm;
+use outcomes::Event;
+use outcomes::Parts;
+use outcomes::Shown;
+use outcomes::apart;
+use outcomes::chosen;
+use outcomes::exactly;
+use outcomes::given;
+use outcomes::held;
+use outcomes::later;
+use outcomes::lifted;
+use outcomes::negated;
+use outcomes::operated;
+use outcomes::ruled;
+use outcomes::show;
+use outcomes::variable;
 use rules::INT;
 use rules::Value;
-use table::fields;
-use values::Arm;
-use values::Event;
-use values::Parts;
-use values::apart;
-use values::chosen;
-use values::given;
-use values::later;
-use values::lifted;
-use values::negated;
-use values::operated;
-use values::pack;
-use values::ruled;
-use values::unpack;
+use table::node;
 use values::value_from;
-use values::variable;
 
 // Expression i. If and take evaluate one arm only.
-pub fn eval_e(p: &[u8], env: &mut [u64], i: usize) -> Evaluated
-    requires { ⌜ ReadyE (now p) (now env) i ⌝ }
-    ensures { λ r. ⌜ (r ≡ evalE (now (env .entry)) (exprAt (now (p .entry)) i)) × (now (env .exit) ≡ now (env .entry)) ⌝ }
+fn eval_e(p: &&[u8], env: &mut [u64; 1008], i: usize) -> u64
+    requires { ⌜ ReadyE (now (now p)) (now env) i ⌝ }
+    ensures { λ r. ⌜ (outcomeIn r ≡ evalE (now (env .entry)) (exprAt (now (now (p .entry))) i)) × IsOutcome r × (now (env .exit) ≡ now (env .entry)) ⌝ }
 {
-    let n = fields(p, i);
+    let n = node(*p, i);
     let k = n.kind;
     match k {
         16 => variable(env, n.a),
@@ -46,7 +48,7 @@ pub fn eval_e(p: &[u8], env: &mut [u64], i: usize) -> Evaluated
         27 => {
             let test = eval_e(p, env, n.a);
             let Arm::Go(arm, count) = chosen(test, n.b, n.c) else {
-                return Evaluated::Stuck;
+                return 0;
             };
             let r = eval_e(p, env, arm);
             later(count, r)
@@ -55,7 +57,7 @@ pub fn eval_e(p: &[u8], env: &mut [u64], i: usize) -> Evaluated
         29 => {
             let maybe = eval_e(p, env, n.a);
             let Parts::Maybe(event, count) = apart(maybe) else {
-                return Evaluated::Stuck;
+                return 0;
             };
             let Event::Occurs(v) = event else {
                 let absent = eval_e(p, env, n.b);
@@ -73,12 +75,12 @@ pub fn eval_e(p: &[u8], env: &mut [u64], i: usize) -> Evaluated
 }
 
 // Expression k with the value v in slot i, which is then put back.
-fn inside_e(p: &[u8], env: &mut [u64], i: usize, v: Value, k: usize) -> Evaluated
-    requires { ⌜ ReadyE (now p) (now env) k × (i < length (now env)) ⌝ }
-    ensures { λ r. ⌜ (r ≡ evalE (bind (now (env .entry)) i v) (exprAt (now (p .entry)) k)) × (now (env .exit) ≡ now (env .entry)) ⌝ }
+fn inside_e(p: &&[u8], env: &mut [u64; 1008], i: usize, v: u64, k: usize) -> u64
+    requires { ⌜ ReadyE (now (now p)) (now env) k × (i < 1008) × IsValue v ⌝ }
+    ensures { λ r. ⌜ (outcomeIn r ≡ evalE (bind (now (env .entry)) i (unpacked v)) (exprAt (now (now (p .entry))) k)) × IsOutcome r × (now (env .exit) ≡ now (env .entry)) ⌝ }
 {
     let old = env[i];
-    env[i] = pack(v);
+    env[i] = v;
     let r = eval_e(p, env, k);
     env[i] = old;
     r
@@ -101,63 +103,86 @@ pub fn branch_in(m: u64) -> usize
 }
 
 // Signal i. Switch and let continue evaluate the current part; a group's branch is known by its number in the cell.
-pub fn eval_s(p: &[u8], ix: &[u16], rec: &[u8], st: &[u8], env: &mut [u64], i: usize) -> Evaluated
-    requires { ⌜ ReadyS (now p) (now ix) (now st) (now env) i ⌝ }
-    ensures { λ r. ⌜ (r ≡ evalS (now (rec .entry)) (now (st .entry)) (now (env .entry)) (signalAt (now (p .entry)) i)) × (now (env .exit) ≡ now (env .entry)) ⌝ }
+fn eval_s(
+    p: &&[u8],
+    ix: &[u16; 1008],
+    rec: &&[u8],
+    st: &&[u8],
+    env: &mut [u64; 1008],
+    i: usize,
+) -> u64
+    requires { ⌜ ReadyS (now (now p)) (now ix) (now (now st)) (now env) i ⌝ }
+    ensures { λ r. ⌜ (outcomeIn r ≡ evalS (now (now (rec .entry))) (now (now (st .entry))) (now (env .entry)) (signalAt (now (now (p .entry))) i)) × IsOutcome r × (now (env .exit) ≡ now (env .entry)) ⌝ }
 {
-    let n = fields(p, i);
+    let n = node(*p, i);
     let k = n.kind;
     match k {
-        1 => given(channel_value(rec, n.a)),
+        1 => given(channel_value(*rec, n.a)),
         3 => ruled(eval_e(p, env, n.a)),
-        4 => given(unpack(content(ix, st, i))),
+        4 => held(content(ix, *st, i)),
         5 => {
-            let Evaluated::Done(v, count) = eval_s(p, ix, rec, st, env, n.a) else {
-                return Evaluated::Stuck;
+            let d = eval_s(p, ix, rec, st, env, n.a);
+            let Shown::Value(v, count) = show(d) else {
+                return 0;
             };
             later(count, inside_s(p, ix, rec, st, env, i, v, n.b))
         }
         6 => {
-            let m = content(ix, st, i);
+            let m = content(ix, *st, i);
             if m == 0 {
                 return ruled(eval_s(p, ix, rec, st, env, n.a));
             }
-            ruled(inside_s(p, ix, rec, st, env, i, unpack(m), n.c))
+            ruled(inside_s(p, ix, rec, st, env, i, exactly(m), n.c))
         }
         7 => {
-            let m = content(ix, st, i);
+            let m = content(ix, *st, i);
             if m == 0 {
                 return ruled(eval_s(p, ix, rec, st, env, n.a));
             }
             let which = branch_in(m);
-            if has_branch(p, ix, n.b, which) {
-                let branch = fields(p, which);
-                return ruled(inside_s(p, ix, rec, st, env, which, unpack(m), branch.a));
+            if has_branch(*p, ix, n.b, which) {
+                let branch = node(*p, which);
+                return ruled(inside_s(p, ix, rec, st, env, which, exactly(m), branch.a));
             }
-            Evaluated::Stuck
+            0
         }
         8 => ruled(eval_s(p, ix, rec, st, env, n.a)),
-        _ => given(Value::Plain(INT, time_in(rec))),
+        _ => given(Value::Plain(INT, time_in(*rec))),
     }
 }
 
 // Signal k with the value v in slot i, which is then put back.
 fn inside_s(
-    p: &[u8],
-    ix: &[u16],
-    rec: &[u8],
-    st: &[u8],
-    env: &mut [u64],
+    p: &&[u8],
+    ix: &[u16; 1008],
+    rec: &&[u8],
+    st: &&[u8],
+    env: &mut [u64; 1008],
     i: usize,
-    v: Value,
+    v: u64,
     k: usize,
-) -> Evaluated
-    requires { ⌜ ReadyS (now p) (now ix) (now st) (now env) k × (i < length (now env)) ⌝ }
-    ensures { λ r. ⌜ (r ≡ evalS (now (rec .entry)) (now (st .entry)) (bind (now (env .entry)) i v) (signalAt (now (p .entry)) k)) × (now (env .exit) ≡ now (env .entry)) ⌝ }
+) -> u64
+    requires { ⌜ ReadyS (now (now p)) (now ix) (now (now st)) (now env) k × (i < 1008) × IsValue v ⌝ }
+    ensures { λ r. ⌜ (outcomeIn r ≡ evalS (now (now (rec .entry))) (now (now (st .entry))) (bind (now (env .entry)) i (unpacked v)) (signalAt (now (now (p .entry))) k)) × IsOutcome r × (now (env .exit) ≡ now (env .entry)) ⌝ }
 {
     let outer = env[i];
-    env[i] = pack(v);
+    env[i] = v;
     let r = eval_s(p, ix, rec, st, env, k);
     env[i] = outer;
     r
+}
+
+// Signal i in a state that is lent as a slice: what a step and an update call.
+pub fn evaluated(
+    p: &&[u8],
+    ix: &[u16; 1008],
+    rec: &&[u8],
+    st: &[u8],
+    env: &mut [u64; 1008],
+    i: usize,
+) -> u64
+    requires { ⌜ ReadyS (now (now p)) (now ix) (now st) (now env) i ⌝ }
+    ensures { λ r. ⌜ (outcomeIn r ≡ evalS (now (now (rec .entry))) (now (st .entry)) (now (env .entry)) (signalAt (now (now (p .entry))) i)) × IsOutcome r × (now (env .exit) ≡ now (env .entry)) ⌝ }
+{
+    eval_s(p, ix, rec, &st, env, i)
 }

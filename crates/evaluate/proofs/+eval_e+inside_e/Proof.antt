@@ -55,7 +55,7 @@ eval-e-calls t = (fields-reads.Asked, fields-reads.Learnt, variable-reads.Asked,
 
 -- src/lib.rt:30:9
 eval-e-fields-requires : (t : ℕ) → eval-e-lts.Need-fields-requires (eval-e-calls t) (eval-e-at t) eval-e.Post
-eval-e-fields-requires t c κs = omega (arith, c .before .before .pre .1 .node .inside, c .before .before .pre .1 .node .shaped .within)
+eval-e-fields-requires t c κs = omega (arith, @pre .1 .node .inside, @pre .1 .node .shaped .within)
 
 -- src/lib.rt:33:15
 eval-e-variable-requires : (t : ℕ) → eval-e-lts.Need-variable-requires (eval-e-calls t) (eval-e-at t) eval-e.Post
@@ -72,34 +72,34 @@ eval-e-given-requires t c κs = search needs
 -- src/lib.rt:35:23
 eval-e-eval-e-requires : (t : ℕ) → eval-e-lts.Need-eval-e-requires (eval-e-calls t) (eval-e-at t) eval-e.Post
 eval-e-eval-e-requires t c κs =
-    let p = c .before .before .before .before .before .args .p .now in
-    let i = c .before .before .before .before .before .args .i in
-    let w = c .before .before .before .before .before .pre .1 .node in
-    let small = c .before .before .before .before .before .pre .1 .small in
-    let node = c .before .before .fields .ensures in
-    let k = read (node .a-is) (negation-part p i w small (sym (node .kind-is) ∙ c .before .match .keys3)) in
-    (omega (arith, k .less, c .before .before .before .before .before .pre .0), record { node = k .node; room = c .before .before .before .before .before .pre .1 .room; small = k .small })
+    let p = @args .p .now in
+    let i = @args .i in
+    let w = @pre .1 .node in
+    let small = @pre .1 .small in
+    let node = @fields .ensures in
+    let k = read (node .a-is) (negation-part p i w small (sym (node .kind-is) ∙ @match .keys3)) in
+    (omega (arith, k .less, @pre .0), record { node = k .node; room = @pre .1 .room; small = k .small })
 
 -- src/lib.rt:35:15
 eval-e-negated-requires : (t : ℕ) → eval-e-lts.Need-negated-requires (eval-e-calls t) (eval-e-at t) eval-e.Post
 eval-e-negated-requires t c κs =
-    let p = c .before .before .before .before .before .before .before .before .args .p .now in
-    let i = c .before .before .before .before .before .before .before .before .args .i in
-    let w = c .before .before .before .before .before .before .before .before .pre .1 .node in
-    let small = c .before .before .before .before .before .before .before .before .pre .1 .small in
-    let node = c .before .before .before .before .before .fields .ensures in
-    (part-work _ (read (node .a-is) (negation-part p i w small (sym (node .kind-is) ∙ c .before .before .before .before .match .keys3))) (c .before .before .eval-e .ensures .0))
+    let p = @args .p .now in
+    let i = @args .i in
+    let w = @pre .1 .node in
+    let small = @pre .1 .small in
+    let node = @fields .ensures in
+    (part-work _ (read (node .a-is) (negation-part p i w small (sym (node .kind-is) ∙ @match .keys3))) (@eval-e .ensures .0))
 
 -- src/lib.rt:37:17
 eval-e-eval-e-requires-2 : (t : ℕ) → eval-e-lts.Need-eval-e-requires-2 (eval-e-calls t) (eval-e-at t) eval-e.Post
 eval-e-eval-e-requires-2 t c κs =
-    let p = c .before .before .before .before .before .args .p .now in
-    let i = c .before .before .before .before .before .args .i in
-    let w = c .before .before .before .before .before .pre .1 .node in
-    let small = c .before .before .before .before .before .pre .1 .small in
-    let node = c .before .before .fields .ensures in
-    let k = read (node .a-is) (choice-parts p i w small (sym (node .kind-is) ∙ c .before .match .keys4) .0) in
-    (omega (arith, k .less, c .before .before .before .before .before .pre .0), record { node = k .node; room = c .before .before .before .before .before .pre .1 .room; small = k .small })
+    let p = @args .p .now in
+    let i = @args .i in
+    let w = @pre .1 .node in
+    let small = @pre .1 .small in
+    let node = @fields .ensures in
+    let k = read (node .a-is) (choice-parts p i w small (sym (node .kind-is) ∙ @match .keys4) .0) in
+    (omega (arith, k .less, @pre .0), record { node = k .node; room = @pre .1 .room; small = k .small })
 
 -- src/lib.rt:38:39
 eval-e-chosen-requires : (t : ℕ) → eval-e-lts.Need-chosen-requires (eval-e-calls t) (eval-e-at t) eval-e.Post
@@ -115,70 +115,70 @@ eval-e-enum-told t c = search needs
 
 -- src/lib.rt:39:17
 eval-e-same-length : (t : ℕ) → eval-e-lts.Need-same-length (eval-e-calls t) (eval-e-at t) eval-e.Post
-eval-e-same-length t c = c .before .before .before .before .before .eval-e2 .kept .1 .0
+eval-e-same-length t c = @eval-e2 .kept .1 .0
 
 -- src/lib.rt:39:17
 eval-e-returns : (t : ℕ) → eval-e-lts.Need-returns (eval-e-calls t) (eval-e-at t) eval-e.Post
 eval-e-returns t c =
-    let p = c .before .before .before .before .before .before .before .before .before .before .before .args .p .now in
-    let i = c .before .before .before .before .before .before .before .before .before .before .before .args .i in
-    let w = c .before .before .before .before .before .before .before .before .before .before .before .pre .1 .node in
-    let env = c .before .before .before .before .before .before .before .before .before .before .before .args .env .now in
-    let node = c .before .before .before .before .before .before .before .before .fields .ensures in
-    (sym (choice-stuck p i w env (sym (node .kind-is) ∙ c .before .before .before .before .before .before .before .match .keys4) (c .before .before .before .before .before .before .before .before .fields .result .b) (c .before .before .before .before .before .before .before .before .fields .result .c) (node .a-is) (c .before .before .before .before .before .eval-e2 .ensures .0) (sym (c .before .before .chosen .ensures) ∙ c .enum-told .given .1)), c .before .before .before .before .before .eval-e2 .ensures .1)
+    let p = @args .p .now in
+    let i = @args .i in
+    let w = @pre .1 .node in
+    let env = @args .env .now in
+    let node = @fields .ensures in
+    (sym (choice-stuck p i w env (sym (node .kind-is) ∙ @match .keys4) (@fields .result .b) (@fields .result .c) (node .a-is) (@eval-e2 .ensures .0) (sym (@chosen .ensures) ∙ @enum-told .given .1)), @eval-e2 .ensures .1)
 
 -- src/lib.rt:41:17
 eval-e-eval-e-requires-3 : (t : ℕ) → eval-e-lts.Need-eval-e-requires-3 (eval-e-calls t) (eval-e-at t) eval-e.Post
 eval-e-eval-e-requires-3 t c κs =
-    let p = c .before .before .before .before .before .before .before .before .before .before .before .before .before .args .p .now in
-    let i = c .before .before .before .before .before .before .before .before .before .before .before .before .before .args .i in
-    let w = c .before .before .before .before .before .before .before .before .before .before .before .before .before .pre .1 .node in
-    let small = c .before .before .before .before .before .before .before .before .before .before .before .before .before .pre .1 .small in
-    let node = c .before .before .before .before .before .before .before .before .before .before .fields .ensures in
-    let k = (chosen-part p i w small (sym (node .kind-is) ∙ c .before .before .before .before .before .before .before .before .before .match .keys4) (c .before .before .before .before .before .before .before .eval-e2 .result) (node .b-is) (node .c-is) (sym (c .before .before .before .before .chosen .ensures) ∙ c .before .before .arm .given .1)) in
-    (omega (arith, k .less, c .before .before .before .before .before .before .before .before .before .before .before .before .before .pre .0), record { node = k .node; room = omega (arith, c .before .before .before .before .before .before .before .before .before .before .before .before .before .pre .1 .room, c .before .before .before .before .before .before .before .eval-e2 .kept .1 .0); small = k .small })
+    let p = @args .p .now in
+    let i = @args .i in
+    let w = @pre .1 .node in
+    let small = @pre .1 .small in
+    let node = @fields .ensures in
+    let k = (chosen-part p i w small (sym (node .kind-is) ∙ @match .keys4) (@eval-e2 .result) (node .b-is) (node .c-is) (sym (@chosen .ensures) ∙ @arm .given .1)) in
+    (omega (arith, k .less, @pre .0), record { node = k .node; room = omega (arith, @pre .1 .room, @eval-e2 .kept .1 .0); small = k .small })
 
 -- src/lib.rt:42:13
 eval-e-later-requires : (t : ℕ) → eval-e-lts.Need-later-requires (eval-e-calls t) (eval-e-at t) eval-e.Post
 eval-e-later-requires t c κs =
-    let p = c .before .before .before .before .before .before .before .before .before .before .before .before .before .before .before .before .args .p .now in
-    let i = c .before .before .before .before .before .before .before .before .before .before .before .before .before .before .before .before .args .i in
-    let w = c .before .before .before .before .before .before .before .before .before .before .before .before .before .before .before .before .pre .1 .node in
-    let small = c .before .before .before .before .before .before .before .before .before .before .before .before .before .before .before .before .pre .1 .small in
-    let node = c .before .before .before .before .before .before .before .before .before .before .before .before .before .fields .ensures in
-    (rw (arm-work _ _ (c .before .before .before .before .before .before .before .before .before .before .eval-e2 .result) (sym (c .before .before .before .before .before .before .before .chosen .ensures) ∙ c .before .before .before .before .before .arm .given .1)) (part-work _ (read (node .a-is) (choice-parts p i w small (sym (node .kind-is) ∙ c .before .before .before .before .before .before .before .before .before .before .before .before .match .keys4) .0)) (c .before .before .before .before .before .before .before .before .before .before .eval-e2 .ensures .0)), (part-work _ (chosen-part p i w small (sym (node .kind-is) ∙ c .before .before .before .before .before .before .before .before .before .before .before .before .match .keys4) (c .before .before .before .before .before .before .before .before .before .before .eval-e2 .result) (node .b-is) (node .c-is) (sym (c .before .before .before .before .before .before .before .chosen .ensures) ∙ c .before .before .before .before .before .arm .given .1)) (c .before .before .eval-e3 .ensures .0)))
+    let p = @args .p .now in
+    let i = @args .i in
+    let w = @pre .1 .node in
+    let small = @pre .1 .small in
+    let node = @fields .ensures in
+    (rw (arm-work _ _ (@eval-e2 .result) (sym (@chosen .ensures) ∙ @arm .given .1)) (part-work _ (read (node .a-is) (choice-parts p i w small (sym (node .kind-is) ∙ @match .keys4) .0)) (@eval-e2 .ensures .0)), (part-work _ (chosen-part p i w small (sym (node .kind-is) ∙ @match .keys4) (@eval-e2 .result) (node .b-is) (node .c-is) (sym (@chosen .ensures) ∙ @arm .given .1)) (@eval-e3 .ensures .0)))
 
 -- src/lib.rt:44:22
 eval-e-eval-e-requires-4 : (t : ℕ) → eval-e-lts.Need-eval-e-requires-4 (eval-e-calls t) (eval-e-at t) eval-e.Post
 eval-e-eval-e-requires-4 t c κs =
-    let p = c .before .before .before .before .before .args .p .now in
-    let i = c .before .before .before .before .before .args .i in
-    let w = c .before .before .before .before .before .pre .1 .node in
-    let small = c .before .before .before .before .before .pre .1 .small in
-    let node = c .before .before .fields .ensures in
-    let k = read (node .a-is) (just-part p i w small (sym (node .kind-is) ∙ c .before .match .keys5)) in
-    (omega (arith, k .less, c .before .before .before .before .before .pre .0), record { node = k .node; room = c .before .before .before .before .before .pre .1 .room; small = k .small })
+    let p = @args .p .now in
+    let i = @args .i in
+    let w = @pre .1 .node in
+    let small = @pre .1 .small in
+    let node = @fields .ensures in
+    let k = read (node .a-is) (just-part p i w small (sym (node .kind-is) ∙ @match .keys5)) in
+    (omega (arith, k .less, @pre .0), record { node = k .node; room = @pre .1 .room; small = k .small })
 
 -- src/lib.rt:44:15
 eval-e-lifted-requires : (t : ℕ) → eval-e-lts.Need-lifted-requires (eval-e-calls t) (eval-e-at t) eval-e.Post
 eval-e-lifted-requires t c κs =
-    let p = c .before .before .before .before .before .before .before .before .args .p .now in
-    let i = c .before .before .before .before .before .before .before .before .args .i in
-    let w = c .before .before .before .before .before .before .before .before .pre .1 .node in
-    let small = c .before .before .before .before .before .before .before .before .pre .1 .small in
-    let node = c .before .before .before .before .before .fields .ensures in
-    (part-work _ (read (node .a-is) (just-part p i w small (sym (node .kind-is) ∙ c .before .before .before .before .match .keys5))) (c .before .before .eval-e4 .ensures .0))
+    let p = @args .p .now in
+    let i = @args .i in
+    let w = @pre .1 .node in
+    let small = @pre .1 .small in
+    let node = @fields .ensures in
+    (part-work _ (read (node .a-is) (just-part p i w small (sym (node .kind-is) ∙ @match .keys5))) (@eval-e4 .ensures .0))
 
 -- src/lib.rt:46:17
 eval-e-eval-e-requires-5 : (t : ℕ) → eval-e-lts.Need-eval-e-requires-5 (eval-e-calls t) (eval-e-at t) eval-e.Post
 eval-e-eval-e-requires-5 t c κs =
-    let p = c .before .before .before .before .before .args .p .now in
-    let i = c .before .before .before .before .before .args .i in
-    let w = c .before .before .before .before .before .pre .1 .node in
-    let small = c .before .before .before .before .before .pre .1 .small in
-    let node = c .before .before .fields .ensures in
-    let k = read (node .a-is) (taking-parts p i w small (sym (node .kind-is) ∙ c .before .match .keys6) .0) in
-    (omega (arith, k .less, c .before .before .before .before .before .pre .0), record { node = k .node; room = c .before .before .before .before .before .pre .1 .room; small = k .small })
+    let p = @args .p .now in
+    let i = @args .i in
+    let w = @pre .1 .node in
+    let small = @pre .1 .small in
+    let node = @fields .ensures in
+    let k = read (node .a-is) (taking-parts p i w small (sym (node .kind-is) ∙ @match .keys6) .0) in
+    (omega (arith, k .less, @pre .0), record { node = k .node; room = @pre .1 .room; small = k .small })
 
 -- src/lib.rt:47:46
 eval-e-apart-requires : (t : ℕ) → eval-e-lts.Need-apart-requires (eval-e-calls t) (eval-e-at t) eval-e.Post
@@ -194,17 +194,17 @@ eval-e-enum-told-2 t c = search needs
 
 -- src/lib.rt:48:17
 eval-e-same-length-2 : (t : ℕ) → eval-e-lts.Need-same-length-2 (eval-e-calls t) (eval-e-at t) eval-e.Post
-eval-e-same-length-2 t c = c .before .before .before .before .before .eval-e5 .kept .1 .0
+eval-e-same-length-2 t c = @eval-e5 .kept .1 .0
 
 -- src/lib.rt:48:17
 eval-e-returns-2 : (t : ℕ) → eval-e-lts.Need-returns-2 (eval-e-calls t) (eval-e-at t) eval-e.Post
 eval-e-returns-2 t c =
-    let p = c .before .before .before .before .before .before .before .before .before .before .before .args .p .now in
-    let i = c .before .before .before .before .before .before .before .before .before .before .before .args .i in
-    let w = c .before .before .before .before .before .before .before .before .before .before .before .pre .1 .node in
-    let env = c .before .before .before .before .before .before .before .before .before .before .before .args .env .now in
-    let node = c .before .before .before .before .before .before .before .before .fields .ensures in
-    (sym (taking-stuck p i w env (sym (node .kind-is) ∙ c .before .before .before .before .before .before .before .match .keys6) (node .a-is) (c .before .before .before .before .before .eval-e5 .ensures .0) (sym (c .before .before .apart .ensures) ∙ c .enum-told2 .given .1)), c .before .before .before .before .before .eval-e5 .ensures .1)
+    let p = @args .p .now in
+    let i = @args .i in
+    let w = @pre .1 .node in
+    let env = @args .env .now in
+    let node = @fields .ensures in
+    (sym (taking-stuck p i w env (sym (node .kind-is) ∙ @match .keys6) (node .a-is) (@eval-e5 .ensures .0) (sym (@apart .ensures) ∙ @enum-told2 .given .1)), @eval-e5 .ensures .1)
 
 -- src/lib.rt:50:31
 eval-e-enum-known-event-2 : (t : ℕ) → eval-e-lts.Need-enum-known-event-2 (eval-e-calls t) (eval-e-at t) eval-e.Post
@@ -217,90 +217,90 @@ eval-e-enum-told-3 t c = search needs
 -- src/lib.rt:51:21
 eval-e-eval-e-requires-6 : (t : ℕ) → eval-e-lts.Need-eval-e-requires-6 (eval-e-calls t) (eval-e-at t) eval-e.Post
 eval-e-eval-e-requires-6 t c κs =
-    let p = c .before .before .before .before .before .before .before .before .before .before .before .before .before .before .before .args .p .now in
-    let i = c .before .before .before .before .before .before .before .before .before .before .before .before .before .before .before .args .i in
-    let w = c .before .before .before .before .before .before .before .before .before .before .before .before .before .before .before .pre .1 .node in
-    let small = c .before .before .before .before .before .before .before .before .before .before .before .before .before .before .before .pre .1 .small in
-    let node = c .before .before .before .before .before .before .before .before .before .before .before .before .fields .ensures in
-    let k = read (node .b-is) (taking-parts p i w small (sym (node .kind-is) ∙ c .before .before .before .before .before .before .before .before .before .before .before .match .keys6) .1) in
-    (omega (arith, k .less, c .before .before .before .before .before .before .before .before .before .before .before .before .before .before .before .pre .0), record { node = k .node; room = omega (arith, c .before .before .before .before .before .before .before .before .before .before .before .before .before .before .before .pre .1 .room, c .before .before .before .before .before .before .before .before .before .eval-e5 .kept .1 .0); small = k .small })
+    let p = @args .p .now in
+    let i = @args .i in
+    let w = @pre .1 .node in
+    let small = @pre .1 .small in
+    let node = @fields .ensures in
+    let k = read (node .b-is) (taking-parts p i w small (sym (node .kind-is) ∙ @match .keys6) .1) in
+    (omega (arith, k .less, @pre .0), record { node = k .node; room = omega (arith, @pre .1 .room, @eval-e5 .kept .1 .0); small = k .small })
 
 -- src/lib.rt:52:17
 eval-e-later-requires-2 : (t : ℕ) → eval-e-lts.Need-later-requires-2 (eval-e-calls t) (eval-e-at t) eval-e.Post
 eval-e-later-requires-2 t c κs =
-    let p = c .before .before .before .before .before .before .before .before .before .before .before .before .before .before .before .before .before .before .args .p .now in
-    let i = c .before .before .before .before .before .before .before .before .before .before .before .before .before .before .before .before .before .before .args .i in
-    let w = c .before .before .before .before .before .before .before .before .before .before .before .before .before .before .before .before .before .before .pre .1 .node in
-    let small = c .before .before .before .before .before .before .before .before .before .before .before .before .before .before .before .before .before .before .pre .1 .small in
-    let node = c .before .before .before .before .before .before .before .before .before .before .before .before .before .before .before .fields .ensures in
-    (rw (take-work (c .before .before .before .before .before .before .before .before .before .before .before .before .eval-e5 .result) (sym (c .before .before .before .before .before .before .before .before .before .apart .ensures) ∙ c .before .before .before .before .before .before .before .event .given .1)) (part-work _ (read (node .a-is) (taking-parts p i w small (sym (node .kind-is) ∙ c .before .before .before .before .before .before .before .before .before .before .before .before .before .before .match .keys6) .0)) (c .before .before .before .before .before .before .before .before .before .before .before .before .eval-e5 .ensures .0)), (part-work _ (read (node .b-is) (taking-parts p i w small (sym (node .kind-is) ∙ c .before .before .before .before .before .before .before .before .before .before .before .before .before .before .match .keys6) .1)) (c .before .before .eval-e6 .ensures .0)))
+    let p = @args .p .now in
+    let i = @args .i in
+    let w = @pre .1 .node in
+    let small = @pre .1 .small in
+    let node = @fields .ensures in
+    (rw (take-work (@eval-e5 .result) (sym (@apart .ensures) ∙ @event .given .1)) (part-work _ (read (node .a-is) (taking-parts p i w small (sym (node .kind-is) ∙ @match .keys6) .0)) (@eval-e5 .ensures .0)), (part-work _ (read (node .b-is) (taking-parts p i w small (sym (node .kind-is) ∙ @match .keys6) .1)) (@eval-e6 .ensures .0)))
 
 -- src/lib.rt:52:17
 eval-e-same-length-3 : (t : ℕ) → eval-e-lts.Need-same-length-3 (eval-e-calls t) (eval-e-at t) eval-e.Post
-eval-e-same-length-3 t c = c .before .before .before .eval-e6 .kept .1 .0 ∙ c .before .before .before .before .before .before .before .before .before .before .before .before .before .eval-e5 .kept .1 .0
+eval-e-same-length-3 t c = @eval-e6 .kept .1 .0 ∙ @eval-e5 .kept .1 .0
 
 -- src/lib.rt:52:17
 eval-e-returns-3 : (t : ℕ) → eval-e-lts.Need-returns-3 (eval-e-calls t) (eval-e-at t) eval-e.Post
 eval-e-returns-3 t c =
-    let p = c .before .before .before .before .before .before .before .before .before .before .before .before .before .before .before .before .before .before .before .args .p .now in
-    let i = c .before .before .before .before .before .before .before .before .before .before .before .before .before .before .before .before .before .before .before .args .i in
-    let w = c .before .before .before .before .before .before .before .before .before .before .before .before .before .before .before .before .before .before .before .pre .1 .node in
-    let env = c .before .before .before .before .before .before .before .before .before .before .before .before .before .before .before .before .before .before .before .args .env .now in
-    let node = c .before .before .before .before .before .before .before .before .before .before .before .before .before .before .before .before .fields .ensures in
-    (cc (taking-absent p i w env (sym (node .kind-is) ∙ c .before .before .before .before .before .before .before .before .before .before .before .before .before .before .before .match .keys6) (node .a-is) (c .before .before .before .before .before .before .before .before .before .before .before .before .before .eval-e5 .ensures .0) (sym (c .before .before .before .before .before .before .before .before .before .before .apart .ensures) ∙ c .before .before .before .before .before .before .before .before .event .given .1) (c .before .before .before .before .before .enum-told3 .given .1)), c .before .before .before .eval-e6 .ensures .1 ∙ c .before .before .before .before .before .before .before .before .before .before .before .before .before .eval-e5 .ensures .1)
+    let p = @args .p .now in
+    let i = @args .i in
+    let w = @pre .1 .node in
+    let env = @args .env .now in
+    let node = @fields .ensures in
+    (cc (taking-absent p i w env (sym (node .kind-is) ∙ @match .keys6) (node .a-is) (@eval-e5 .ensures .0) (sym (@apart .ensures) ∙ @event .given .1) (@enum-told3 .given .1)), @eval-e6 .ensures .1 ∙ @eval-e5 .ensures .1)
 
 -- src/lib.rt:54:17
 eval-e-inside-e-requires : (t : ℕ) → eval-e-lts.Need-inside-e-requires (eval-e-calls t) (eval-e-at t) eval-e.Post
 eval-e-inside-e-requires t c κs =
-    let p = c .before .before .before .before .before .before .before .before .before .before .before .before .before .before .before .before .args .p .now in
-    let i = c .before .before .before .before .before .before .before .before .before .before .before .before .before .before .before .before .args .i in
-    let w = c .before .before .before .before .before .before .before .before .before .before .before .before .before .before .before .before .pre .1 .node in
-    let small = c .before .before .before .before .before .before .before .before .before .before .before .before .before .before .before .before .pre .1 .small in
-    let node = c .before .before .before .before .before .before .before .before .before .before .before .before .before .fields .ensures in
-    let k = read (node .c-is) (taking-parts p i w small (sym (node .kind-is) ∙ c .before .before .before .before .before .before .before .before .before .before .before .before .match .keys6) .2) in
-    (omega (arith, k .less, c .before .before .before .before .before .before .before .before .before .before .before .before .before .before .before .before .pre .0), (record { node = k .node; room = omega (arith, c .before .before .before .before .before .before .before .before .before .before .before .before .before .before .before .before .pre .1 .room, c .before .before .before .before .before .before .before .before .before .before .eval-e5 .kept .1 .0); small = k .small }, omega (arith, c .before .before .before .before .before .before .before .before .before .before .before .before .before .before .before .before .pre .1 .node .inside, c .before .before .before .before .before .before .before .before .before .before .before .before .before .before .before .before .pre .1 .room, c .before .before .before .before .before .before .before .before .before .before .eval-e5 .kept .1 .0)))
+    let p = @args .p .now in
+    let i = @args .i in
+    let w = @pre .1 .node in
+    let small = @pre .1 .small in
+    let node = @fields .ensures in
+    let k = read (node .c-is) (taking-parts p i w small (sym (node .kind-is) ∙ @match .keys6) .2) in
+    (omega (arith, k .less, @pre .0), (record { node = k .node; room = omega (arith, @pre .1 .room, @eval-e5 .kept .1 .0); small = k .small }, omega (arith, @pre .1 .node .inside, @pre .1 .room, @eval-e5 .kept .1 .0)))
 
 -- src/lib.rt:55:13
 eval-e-later-requires-3 : (t : ℕ) → eval-e-lts.Need-later-requires-3 (eval-e-calls t) (eval-e-at t) eval-e.Post
 eval-e-later-requires-3 t c κs =
-    let p = c .before .before .before .before .before .before .before .before .before .before .before .before .before .before .before .before .before .before .before .args .p .now in
-    let i = c .before .before .before .before .before .before .before .before .before .before .before .before .before .before .before .before .before .before .before .args .i in
-    let w = c .before .before .before .before .before .before .before .before .before .before .before .before .before .before .before .before .before .before .before .pre .1 .node in
-    let small = c .before .before .before .before .before .before .before .before .before .before .before .before .before .before .before .before .before .before .before .pre .1 .small in
-    let node = c .before .before .before .before .before .before .before .before .before .before .before .before .before .before .before .before .fields .ensures in
-    (rw (take-work (c .before .before .before .before .before .before .before .before .before .before .before .before .before .eval-e5 .result) (sym (c .before .before .before .before .before .before .before .before .before .before .apart .ensures) ∙ c .before .before .before .before .before .before .before .before .event .given .1)) (part-work _ (read (node .a-is) (taking-parts p i w small (sym (node .kind-is) ∙ c .before .before .before .before .before .before .before .before .before .before .before .before .before .before .before .match .keys6) .0)) (c .before .before .before .before .before .before .before .before .before .before .before .before .before .eval-e5 .ensures .0)), (part-work _ (read (node .c-is) (taking-parts p i w small (sym (node .kind-is) ∙ c .before .before .before .before .before .before .before .before .before .before .before .before .before .before .before .match .keys6) .2)) (c .before .before .inside-e .ensures .0)))
+    let p = @args .p .now in
+    let i = @args .i in
+    let w = @pre .1 .node in
+    let small = @pre .1 .small in
+    let node = @fields .ensures in
+    (rw (take-work (@eval-e5 .result) (sym (@apart .ensures) ∙ @event .given .1)) (part-work _ (read (node .a-is) (taking-parts p i w small (sym (node .kind-is) ∙ @match .keys6) .0)) (@eval-e5 .ensures .0)), (part-work _ (read (node .c-is) (taking-parts p i w small (sym (node .kind-is) ∙ @match .keys6) .2)) (@inside-e .ensures .0)))
 
 -- src/lib.rt:58:17
 eval-e-eval-e-requires-7 : (t : ℕ) → eval-e-lts.Need-eval-e-requires-7 (eval-e-calls t) (eval-e-at t) eval-e.Post
 eval-e-eval-e-requires-7 t c κs =
-    let p = c .before .before .before .before .before .args .p .now in
-    let i = c .before .before .before .before .before .args .i in
-    let w = c .before .before .before .before .before .pre .1 .node in
-    let small = c .before .before .before .before .before .pre .1 .small in
-    let node = c .before .before .fields .ensures in
-    let k = read (node .a-is) (operation-parts p i w small (left (node .kind-is) (c .before .match .rest)) .0) in
-    (omega (arith, k .less, c .before .before .before .before .before .pre .0), record { node = k .node; room = c .before .before .before .before .before .pre .1 .room; small = k .small })
+    let p = @args .p .now in
+    let i = @args .i in
+    let w = @pre .1 .node in
+    let small = @pre .1 .small in
+    let node = @fields .ensures in
+    let k = read (node .a-is) (operation-parts p i w small (left (node .kind-is) (@match .rest)) .0) in
+    (omega (arith, k .less, @pre .0), record { node = k .node; room = @pre .1 .room; small = k .small })
 
 -- src/lib.rt:59:17
 eval-e-eval-e-requires-8 : (t : ℕ) → eval-e-lts.Need-eval-e-requires-8 (eval-e-calls t) (eval-e-at t) eval-e.Post
 eval-e-eval-e-requires-8 t c κs =
-    let p = c .before .before .before .before .before .before .before .before .before .args .p .now in
-    let i = c .before .before .before .before .before .before .before .before .before .args .i in
-    let w = c .before .before .before .before .before .before .before .before .before .pre .1 .node in
-    let small = c .before .before .before .before .before .before .before .before .before .pre .1 .small in
-    let node = c .before .before .before .before .before .before .fields .ensures in
-    let k = read (node .b-is) (operation-parts p i w small (left (node .kind-is) (c .before .before .before .before .before .match .rest)) .1) in
-    (omega (arith, k .less, c .before .before .before .before .before .before .before .before .before .pre .0), record { node = k .node; room = omega (arith, c .before .before .before .before .before .before .before .before .before .pre .1 .room, c .before .before .before .eval-e7 .kept .1 .0); small = k .small })
+    let p = @args .p .now in
+    let i = @args .i in
+    let w = @pre .1 .node in
+    let small = @pre .1 .small in
+    let node = @fields .ensures in
+    let k = read (node .b-is) (operation-parts p i w small (left (node .kind-is) (@match .rest)) .1) in
+    (omega (arith, k .less, @pre .0), record { node = k .node; room = omega (arith, @pre .1 .room, @eval-e7 .kept .1 .0); small = k .small })
 
 -- src/lib.rt:60:13
 eval-e-operated-requires : (t : ℕ) → eval-e-lts.Need-operated-requires (eval-e-calls t) (eval-e-at t) eval-e.Post
 eval-e-operated-requires t c κs =
-    let p = c .before .before .before .before .before .before .before .before .before .before .before .before .args .p .now in
-    let i = c .before .before .before .before .before .before .before .before .before .before .before .before .args .i in
-    let w = c .before .before .before .before .before .before .before .before .before .before .before .before .pre .1 .node in
-    let small = c .before .before .before .before .before .before .before .before .before .before .before .before .pre .1 .small in
-    let node = c .before .before .before .before .before .before .before .before .before .fields .ensures in
-    ((part-work _ (read (node .a-is) (operation-parts p i w small (left (node .kind-is) (c .before .before .before .before .before .before .before .before .match .rest)) .0)) (c .before .before .before .before .before .before .eval-e7 .ensures .0)), (part-work _ (read (node .b-is) (operation-parts p i w small (left (node .kind-is) (c .before .before .before .before .before .before .before .before .match .rest)) .1)) (c .before .before .eval-e8 .ensures .0)))
+    let p = @args .p .now in
+    let i = @args .i in
+    let w = @pre .1 .node in
+    let small = @pre .1 .small in
+    let node = @fields .ensures in
+    ((part-work _ (read (node .a-is) (operation-parts p i w small (left (node .kind-is) (@match .rest)) .0)) (@eval-e7 .ensures .0)), (part-work _ (read (node .b-is) (operation-parts p i w small (left (node .kind-is) (@match .rest)) .1)) (@eval-e8 .ensures .0)))
 
 -- src/lib.rt:26:1
 eval-e-same-length-4 : (t : ℕ) → eval-e-lts.Need-same-length-4 (eval-e-calls t) (eval-e-at t) eval-e.Post
@@ -309,92 +309,92 @@ eval-e-same-length-4 t c = search needs
 -- src/lib.rt:26:1
 eval-e-returns-4 : (t : ℕ) → eval-e-lts.Need-returns-4 (eval-e-calls t) (eval-e-at t) eval-e.Post
 eval-e-returns-4 t c =
-    let p = c .before .before .before .before .before .before .args .p .now in
-    let i = c .before .before .before .before .before .before .args .i in
-    let w = c .before .before .before .before .before .before .pre .1 .node in
-    let env = c .before .before .before .before .before .before .args .env .now in
-    let node = c .before .before .before .fields .ensures in
-    (cc (variable-eval p i w env (sym (node .kind-is) ∙ c .before .before .match .keys1)), refl)
+    let p = @args .p .now in
+    let i = @args .i in
+    let w = @pre .1 .node in
+    let env = @args .env .now in
+    let node = @fields .ensures in
+    (cc (variable-eval p i w env (sym (node .kind-is) ∙ @match .keys1)), refl)
 
 -- src/lib.rt:26:1
 eval-e-returns-5 : (t : ℕ) → eval-e-lts.Need-returns-5 (eval-e-calls t) (eval-e-at t) eval-e.Post
 eval-e-returns-5 t c =
-    let p = c .before .before .before .before .before .before .args .p .now in
-    let i = c .before .before .before .before .before .before .args .i in
-    let w = c .before .before .before .before .before .before .pre .1 .node in
-    let env = c .before .before .before .before .before .before .args .env .now in
-    let node = c .before .before .before .fields .ensures in
-    (cc (constant-eval p i w env (sym (node .kind-is) ∙ c .before .before .match .keys2)), refl)
+    let p = @args .p .now in
+    let i = @args .i in
+    let w = @pre .1 .node in
+    let env = @args .env .now in
+    let node = @fields .ensures in
+    (cc (constant-eval p i w env (sym (node .kind-is) ∙ @match .keys2)), refl)
 
 -- src/lib.rt:26:1
 eval-e-same-length-5 : (t : ℕ) → eval-e-lts.Need-same-length-5 (eval-e-calls t) (eval-e-at t) eval-e.Post
-eval-e-same-length-5 t c = c .before .before .before .eval-e .kept .1 .0
+eval-e-same-length-5 t c = @eval-e .kept .1 .0
 
 -- src/lib.rt:26:1
 eval-e-returns-6 : (t : ℕ) → eval-e-lts.Need-returns-6 (eval-e-calls t) (eval-e-at t) eval-e.Post
 eval-e-returns-6 t c =
-    let p = c .before .before .before .before .before .before .before .before .before .args .p .now in
-    let i = c .before .before .before .before .before .before .before .before .before .args .i in
-    let w = c .before .before .before .before .before .before .before .before .before .pre .1 .node in
-    let env = c .before .before .before .before .before .before .before .before .before .args .env .now in
-    let node = c .before .before .before .before .before .before .fields .ensures in
-    (cc (negation-eval p i w env (sym (node .kind-is) ∙ c .before .before .before .before .before .match .keys3)), c .before .before .before .eval-e .ensures .1)
+    let p = @args .p .now in
+    let i = @args .i in
+    let w = @pre .1 .node in
+    let env = @args .env .now in
+    let node = @fields .ensures in
+    (cc (negation-eval p i w env (sym (node .kind-is) ∙ @match .keys3)), @eval-e .ensures .1)
 
 -- src/lib.rt:26:1
 eval-e-same-length-6 : (t : ℕ) → eval-e-lts.Need-same-length-6 (eval-e-calls t) (eval-e-at t) eval-e.Post
-eval-e-same-length-6 t c = c .before .before .before .eval-e3 .kept .1 .0 ∙ c .before .before .before .before .before .before .before .before .before .before .before .eval-e2 .kept .1 .0
+eval-e-same-length-6 t c = @eval-e3 .kept .1 .0 ∙ @eval-e2 .kept .1 .0
 
 -- src/lib.rt:26:1
 eval-e-returns-7 : (t : ℕ) → eval-e-lts.Need-returns-7 (eval-e-calls t) (eval-e-at t) eval-e.Post
 eval-e-returns-7 t c =
-    let p = c .before .before .before .before .before .before .before .before .before .before .before .before .before .before .before .before .before .args .p .now in
-    let i = c .before .before .before .before .before .before .before .before .before .before .before .before .before .before .before .before .before .args .i in
-    let w = c .before .before .before .before .before .before .before .before .before .before .before .before .before .before .before .before .before .pre .1 .node in
-    let env = c .before .before .before .before .before .before .before .before .before .before .before .before .before .before .before .before .before .args .env .now in
-    let node = c .before .before .before .before .before .before .before .before .before .before .before .before .before .before .fields .ensures in
-    (cc (choice-goes p i w env (sym (node .kind-is) ∙ c .before .before .before .before .before .before .before .before .before .before .before .before .before .match .keys4) (node .a-is) (node .b-is) (node .c-is) (c .before .before .before .before .before .before .before .before .before .before .before .eval-e2 .ensures .0) (sym (c .before .before .before .before .before .before .before .before .chosen .ensures) ∙ c .before .before .before .before .before .before .arm .given .1)), c .before .before .before .eval-e3 .ensures .1 ∙ c .before .before .before .before .before .before .before .before .before .before .before .eval-e2 .ensures .1)
+    let p = @args .p .now in
+    let i = @args .i in
+    let w = @pre .1 .node in
+    let env = @args .env .now in
+    let node = @fields .ensures in
+    (cc (choice-goes p i w env (sym (node .kind-is) ∙ @match .keys4) (node .a-is) (node .b-is) (node .c-is) (@eval-e2 .ensures .0) (sym (@chosen .ensures) ∙ @arm .given .1)), @eval-e3 .ensures .1 ∙ @eval-e2 .ensures .1)
 
 -- src/lib.rt:26:1
 eval-e-same-length-7 : (t : ℕ) → eval-e-lts.Need-same-length-7 (eval-e-calls t) (eval-e-at t) eval-e.Post
-eval-e-same-length-7 t c = c .before .before .before .eval-e4 .kept .1 .0
+eval-e-same-length-7 t c = @eval-e4 .kept .1 .0
 
 -- src/lib.rt:26:1
 eval-e-returns-8 : (t : ℕ) → eval-e-lts.Need-returns-8 (eval-e-calls t) (eval-e-at t) eval-e.Post
 eval-e-returns-8 t c =
-    let p = c .before .before .before .before .before .before .before .before .before .args .p .now in
-    let i = c .before .before .before .before .before .before .before .before .before .args .i in
-    let w = c .before .before .before .before .before .before .before .before .before .pre .1 .node in
-    let env = c .before .before .before .before .before .before .before .before .before .args .env .now in
-    let node = c .before .before .before .before .before .before .fields .ensures in
-    (cc (just-eval p i w env (sym (node .kind-is) ∙ c .before .before .before .before .before .match .keys5)), c .before .before .before .eval-e4 .ensures .1)
+    let p = @args .p .now in
+    let i = @args .i in
+    let w = @pre .1 .node in
+    let env = @args .env .now in
+    let node = @fields .ensures in
+    (cc (just-eval p i w env (sym (node .kind-is) ∙ @match .keys5)), @eval-e4 .ensures .1)
 
 -- src/lib.rt:26:1
 eval-e-same-length-8 : (t : ℕ) → eval-e-lts.Need-same-length-8 (eval-e-calls t) (eval-e-at t) eval-e.Post
-eval-e-same-length-8 t c = c .before .before .before .inside-e .kept .1 .0 ∙ c .before .before .before .before .before .before .before .before .before .before .before .before .before .before .eval-e5 .kept .1 .0
+eval-e-same-length-8 t c = @inside-e .kept .1 .0 ∙ @eval-e5 .kept .1 .0
 
 -- src/lib.rt:26:1
 eval-e-returns-9 : (t : ℕ) → eval-e-lts.Need-returns-9 (eval-e-calls t) (eval-e-at t) eval-e.Post
 eval-e-returns-9 t c =
-    let p = c .before .before .before .before .before .before .before .before .before .before .before .before .before .before .before .before .before .before .before .before .args .p .now in
-    let i = c .before .before .before .before .before .before .before .before .before .before .before .before .before .before .before .before .before .before .before .before .args .i in
-    let w = c .before .before .before .before .before .before .before .before .before .before .before .before .before .before .before .before .before .before .before .before .pre .1 .node in
-    let env = c .before .before .before .before .before .before .before .before .before .before .before .before .before .before .before .before .before .before .before .before .args .env .now in
-    let node = c .before .before .before .before .before .before .before .before .before .before .before .before .before .before .before .before .before .fields .ensures in
-    (cc (taking-present p i w env (sym (node .kind-is) ∙ c .before .before .before .before .before .before .before .before .before .before .before .before .before .before .before .before .match .keys6) (node .a-is) (c .before .before .before .before .before .before .before .before .before .before .before .before .before .before .eval-e5 .ensures .0) (sym (c .before .before .before .before .before .before .before .before .before .before .before .apart .ensures) ∙ c .before .before .before .before .before .before .before .before .before .event .given .1) (c .before .before .before .before .before .before .event2 .given .1)), c .before .before .before .inside-e .ensures .1 ∙ c .before .before .before .before .before .before .before .before .before .before .before .before .before .before .eval-e5 .ensures .1)
+    let p = @args .p .now in
+    let i = @args .i in
+    let w = @pre .1 .node in
+    let env = @args .env .now in
+    let node = @fields .ensures in
+    (cc (taking-present p i w env (sym (node .kind-is) ∙ @match .keys6) (node .a-is) (@eval-e5 .ensures .0) (sym (@apart .ensures) ∙ @event .given .1) (@event2 .given .1)), @inside-e .ensures .1 ∙ @eval-e5 .ensures .1)
 
 -- src/lib.rt:26:1
 eval-e-same-length-9 : (t : ℕ) → eval-e-lts.Need-same-length-9 (eval-e-calls t) (eval-e-at t) eval-e.Post
-eval-e-same-length-9 t c = c .before .before .before .eval-e8 .kept .1 .0 ∙ c .before .before .before .before .before .before .before .eval-e7 .kept .1 .0
+eval-e-same-length-9 t c = @eval-e8 .kept .1 .0 ∙ @eval-e7 .kept .1 .0
 
 -- src/lib.rt:26:1
 eval-e-returns-10 : (t : ℕ) → eval-e-lts.Need-returns-10 (eval-e-calls t) (eval-e-at t) eval-e.Post
 eval-e-returns-10 t c =
-    let p = c .before .before .before .before .before .before .before .before .before .before .before .before .before .args .p .now in
-    let i = c .before .before .before .before .before .before .before .before .before .before .before .before .before .args .i in
-    let w = c .before .before .before .before .before .before .before .before .before .before .before .before .before .pre .1 .node in
-    let env = c .before .before .before .before .before .before .before .before .before .before .before .before .before .args .env .now in
-    let node = c .before .before .before .before .before .before .before .before .before .before .fields .ensures in
-    (cc (operation-eval p i w env (left (node .kind-is) (c .before .before .before .before .before .before .before .before .before .match .rest))), c .before .before .before .eval-e8 .ensures .1 ∙ c .before .before .before .before .before .before .before .eval-e7 .ensures .1)
+    let p = @args .p .now in
+    let i = @args .i in
+    let w = @pre .1 .node in
+    let env = @args .env .now in
+    let node = @fields .ensures in
+    (cc (operation-eval p i w env (left (node .kind-is) (@match .rest))), @eval-e8 .ensures .1 ∙ @eval-e7 .ensures .1)
 
 abbrev inside-e-calls : ℕ → inside-e-lts.Claims
 inside-e-calls t = (pack-reads.Asked, pack-reads.Learnt, eval-e-below t, eval-e.Post)
@@ -421,7 +421,7 @@ inside-e-slice-write-env t c = search needs
 
 -- src/lib.rt:72:9
 inside-e-eval-e-requires : (t : ℕ) → inside-e-lts.Need-eval-e-requires (inside-e-calls t) (inside-e-at t) inside-e.Post
-inside-e-eval-e-requires t c κs = (omega (arith, c .before .before .before .before .before .pre .0), record { node = c .before .before .before .before .before .pre .1 .0 .node; room = simp length-set (c .before .before .before .before .before .pre .1 .0 .room); small = c .before .before .before .before .before .pre .1 .0 .small })
+inside-e-eval-e-requires t c κs = (omega (arith, @pre .0), record { node = @pre .1 .0 .node; room = simp length-set (@pre .1 .0 .room); small = @pre .1 .0 .small })
 
 -- src/lib.rt:73:5
 inside-e-mul-env-2 : (t : ℕ) → inside-e-lts.Need-mul-env-2 (inside-e-calls t) (inside-e-at t) inside-e.Post
@@ -429,16 +429,16 @@ inside-e-mul-env-2 t c = search needs
 
 -- src/lib.rt:73:5
 inside-e-slice-write-env-2 : (t : ℕ) → inside-e-lts.Need-slice-write-env-2 (inside-e-calls t) (inside-e-at t) inside-e.Post
-inside-e-slice-write-env-2 t c = omega (arith, c .before .before .eval-e .kept .1 .0, length-set (c .before .before .before .before .before .before .before .before .args .env .now) (c .before .before .before .before .before .before .before .before .args .i) (c .before .before .before .before .pack .result), c .before .before .before .before .before .before .before .before .pre .1 .1)
+inside-e-slice-write-env-2 t c = omega (arith, @eval-e .kept .1 .0, length-set (@args .env .now) (@args .i) (@pack .result), @pre .1 .1)
 
 -- src/lib.rt:66:1
 inside-e-same-length : (t : ℕ) → inside-e-lts.Need-same-length (inside-e-calls t) (inside-e-at t) inside-e.Post
-inside-e-same-length t c = simp length-set (simp length-set at (c .before .before .eval-e .kept .1 .0))
+inside-e-same-length t c = simp length-set (simp length-set at (@eval-e .kept .1 .0))
 
 -- src/lib.rt:66:1
 inside-e-returns : (t : ℕ) → inside-e-lts.Need-returns (inside-e-calls t) (inside-e-at t) inside-e.Post
 unfolding bind
-inside-e-returns t c = (rw (← c .before .before .before .before .pack .ensures) (c .before .before .eval-e .ensures .0), ap (λ (l : List ℕ). set l (c .before .before .before .before .before .before .before .before .args .i) (getD (c .before .before .before .before .before .before .before .before .args .env .now) (c .before .before .before .before .before .before .before .before .args .i) 0)) (c .before .before .eval-e .ensures .1) ∙ put-back _ _ (c .before .before .before .before .pack .result))
+inside-e-returns t c = (rw (← @pack .ensures) (@eval-e .ensures .0), ap (λ (l : List ℕ). set l (@args .i) (getD (@args .env .now) (@args .i) 0)) (@eval-e .ensures .1) ∙ put-back _ _ (@pack .result))
 
 pub +eval-e+inside-e-spec : {M : Type 1} → statement M
 +eval-e+inside-e-spec = close μ-eval-e μ-inside-e (λ t. eval-e-lts.spec (eval-e-calls t) (eval-e-at t)

@@ -58,7 +58,7 @@ eval-s-calls t = (fields-reads.Asked, fields-reads.Learnt, channel-value-reads.A
 
 -- src/lib.rt:108:9
 eval-s-fields-requires : (t : ℕ) → eval-s-lts.Need-fields-requires (eval-s-calls t) (eval-s-at t) eval-s.Post
-eval-s-fields-requires t c κs = omega (arith, c .before .before .before .before .before .pre .1 .node .inside, c .before .before .before .before .before .pre .1 .node .shaped .within)
+eval-s-fields-requires t c κs = omega (arith, @pre .1 .node .inside, @pre .1 .node .shaped .within)
 
 -- src/lib.rt:111:20
 eval-s-channel-value-requires : (t : ℕ) → eval-s-lts.Need-channel-value-requires (eval-s-calls t) (eval-s-at t) eval-s.Post
@@ -71,32 +71,32 @@ eval-s-given-requires t c κs = search needs
 -- src/lib.rt:112:20
 eval-s-eval-e-requires : (t : ℕ) → eval-s-lts.Need-eval-e-requires (eval-s-calls t) (eval-s-at t) eval-s.Post
 eval-s-eval-e-requires t c κs =
-    let p = c .before .before .before .before .before .before .before .before .args .p .now in
-    let i = c .before .before .before .before .before .before .before .before .args .i in
-    let w = c .before .before .before .before .before .before .before .before .pre .1 .node in
-    let small = c .before .before .before .before .before .before .before .before .pre .1 .small in
-    let node = c .before .before .fields .ensures in
-    let k = (read-e (node .a-is) (ext-part p i w small (sym (node .kind-is) ∙ c .before .match .keys2))) in record { node = k .node; room = c .before .before .before .before .before .before .before .before .pre .1 .room; small = k .small }
+    let p = @args .p .now in
+    let i = @args .i in
+    let w = @pre .1 .node in
+    let small = @pre .1 .small in
+    let node = @fields .ensures in
+    let k = (read-e (node .a-is) (ext-part p i w small (sym (node .kind-is) ∙ @match .keys2))) in record { node = k .node; room = @pre .1 .room; small = k .small }
 
 -- src/lib.rt:112:14
 eval-s-ruled-requires : (t : ℕ) → eval-s-lts.Need-ruled-requires (eval-s-calls t) (eval-s-at t) eval-s.Post
 eval-s-ruled-requires t c κs =
-    let p = c .before .before .before .before .before .before .before .before .before .before .before .args .p .now in
-    let i = c .before .before .before .before .before .before .before .before .before .before .before .args .i in
-    let w = c .before .before .before .before .before .before .before .before .before .before .before .pre .1 .node in
-    let small = c .before .before .before .before .before .before .before .before .before .before .before .pre .1 .small in
-    let node = c .before .before .before .before .before .fields .ensures in
-    part-work _ (read-e (node .a-is) (ext-part p i w small (sym (node .kind-is) ∙ c .before .before .before .before .match .keys2))) (c .before .before .eval-e .ensures .0)
+    let p = @args .p .now in
+    let i = @args .i in
+    let w = @pre .1 .node in
+    let small = @pre .1 .small in
+    let node = @fields .ensures in
+    part-work _ (read-e (node .a-is) (ext-part p i w small (sym (node .kind-is) ∙ @match .keys2))) (@eval-e .ensures .0)
 
 -- src/lib.rt:113:27
 eval-s-content-requires : (t : ℕ) → eval-s-lts.Need-content-requires (eval-s-calls t) (eval-s-at t) eval-s.Post
 eval-s-content-requires t c κs =
-    let p = c .before .before .before .before .before .before .before .args .p .now in
-    let i = c .before .before .before .before .before .before .before .args .i in
-    let w = c .before .before .before .before .before .before .before .pre .1 .node in
-    let st = c .before .before .before .before .before .before .before .args .st .now in
-    let node = c .before .fields .ensures in
-    cell-in p i w (c .before .before .before .before .before .before .before .args .ix .now) (c .before .before .before .before .before .before .before .pre .1 .indexed) st (c .before .before .before .before .before .before .before .pre .1 .state) (delay-cell (sym (node .kind-is) ∙ c .match .keys3))
+    let p = @args .p .now in
+    let i = @args .i in
+    let w = @pre .1 .node in
+    let st = @args .st .now in
+    let node = @fields .ensures in
+    cell-in p i w (@args .ix .now) (@pre .1 .indexed) st (@pre .1 .state) (delay-cell (sym (node .kind-is) ∙ @match .keys3))
 
 -- src/lib.rt:113:20
 eval-s-unpack-requires : (t : ℕ) → eval-s-lts.Need-unpack-requires (eval-s-calls t) (eval-s-at t) eval-s.Post
@@ -109,13 +109,13 @@ eval-s-given-requires-2 t c κs = search needs
 -- src/lib.rt:115:17
 eval-s-eval-s-requires : (t : ℕ) → eval-s-lts.Need-eval-s-requires (eval-s-calls t) (eval-s-at t) eval-s.Post
 eval-s-eval-s-requires t c κs =
-    let p = c .before .before .before .before .before .before .before .before .args .p .now in
-    let i = c .before .before .before .before .before .before .before .before .args .i in
-    let w = c .before .before .before .before .before .before .before .before .pre .1 .node in
-    let small = c .before .before .before .before .before .before .before .before .pre .1 .small in
-    let node = c .before .before .fields .ensures in
-    let k = read-s (node .a-is) (let-parts p i w small (sym (node .kind-is) ∙ c .before .match .keys4) .0) in
-    (omega (arith, k .less, c .before .before .before .before .before .before .before .before .pre .0), record { node = k .node; indexed = c .before .before .before .before .before .before .before .before .pre .1 .indexed; state = c .before .before .before .before .before .before .before .before .pre .1 .state; room = c .before .before .before .before .before .before .before .before .pre .1 .room; small = k .small })
+    let p = @args .p .now in
+    let i = @args .i in
+    let w = @pre .1 .node in
+    let small = @pre .1 .small in
+    let node = @fields .ensures in
+    let k = read-s (node .a-is) (let-parts p i w small (sym (node .kind-is) ∙ @match .keys4) .0) in
+    (omega (arith, k .less, @pre .0), record { node = k .node; indexed = @pre .1 .indexed; state = @pre .1 .state; room = @pre .1 .room; small = k .small })
 
 -- src/lib.rt:116:33
 eval-s-enum-known-v : (t : ℕ) → eval-s-lts.Need-enum-known-v (eval-s-calls t) (eval-s-at t) eval-s.Post
@@ -127,87 +127,87 @@ eval-s-enum-told t c = search needs
 
 -- src/lib.rt:117:17
 eval-s-same-length : (t : ℕ) → eval-s-lts.Need-same-length (eval-s-calls t) (eval-s-at t) eval-s.Post
-eval-s-same-length t c = c .before .before .before .before .eval-s .kept .1 .1 .1 .1 .0
+eval-s-same-length t c = @eval-s .kept .1 .1 .1 .1 .0
 
 -- src/lib.rt:117:17
 eval-s-returns : (t : ℕ) → eval-s-lts.Need-returns (eval-s-calls t) (eval-s-at t) eval-s.Post
 eval-s-returns t c =
-    let p = c .before .before .before .before .before .before .before .before .before .before .before .before .before .args .p .now in
-    let i = c .before .before .before .before .before .before .before .before .before .before .before .before .before .args .i in
-    let w = c .before .before .before .before .before .before .before .before .before .before .before .before .before .pre .1 .node in
-    let env = c .before .before .before .before .before .before .before .before .before .before .before .before .before .args .env .now in
-    let rec = c .before .before .before .before .before .before .before .before .before .before .before .before .before .args .rec .now in
-    let st = c .before .before .before .before .before .before .before .before .before .before .before .before .before .args .st .now in
-    let node = c .before .before .before .before .before .before .before .fields .ensures in
-    (sym (let-stuck p i w rec st env (sym (node .kind-is) ∙ c .before .before .before .before .before .before .match .keys4) (node .a-is) (c .before .before .before .before .eval-s .ensures .0) (c .enum-told .given .1)), c .before .before .before .before .eval-s .ensures .1)
+    let p = @args .p .now in
+    let i = @args .i in
+    let w = @pre .1 .node in
+    let env = @args .env .now in
+    let rec = @args .rec .now in
+    let st = @args .st .now in
+    let node = @fields .ensures in
+    (sym (let-stuck p i w rec st env (sym (node .kind-is) ∙ @match .keys4) (node .a-is) (@eval-s .ensures .0) (@enum-told .given .1)), @eval-s .ensures .1)
 
 -- src/lib.rt:119:17
 eval-s-inside-s-requires : (t : ℕ) → eval-s-lts.Need-inside-s-requires (eval-s-calls t) (eval-s-at t) eval-s.Post
 eval-s-inside-s-requires t c κs =
-    let p = c .before .before .before .before .before .before .before .before .before .before .before .before .before .before .before .args .p .now in
-    let i = c .before .before .before .before .before .before .before .before .before .before .before .before .before .before .before .args .i in
-    let w = c .before .before .before .before .before .before .before .before .before .before .before .before .before .before .before .pre .1 .node in
-    let small = c .before .before .before .before .before .before .before .before .before .before .before .before .before .before .before .pre .1 .small in
-    let node = c .before .before .before .before .before .before .before .before .before .fields .ensures in
-    let k = read-s (node .b-is) (let-parts p i w small (sym (node .kind-is) ∙ c .before .before .before .before .before .before .before .before .match .keys4) .1) in
-    (omega (arith, k .less, c .before .before .before .before .before .before .before .before .before .before .before .before .before .before .before .pre .0), (record { node = k .node; indexed = c .before .before .before .before .before .before .before .before .before .before .before .before .before .before .before .pre .1 .indexed; state = c .before .before .before .before .before .before .before .before .before .before .before .before .before .before .before .pre .1 .state; room = omega (arith, c .before .before .before .before .before .before .before .before .before .before .before .before .before .before .before .pre .1 .room, c .before .before .before .before .before .before .eval-s .kept .1 .1 .1 .1 .0); small = k .small }, omega (arith, c .before .before .before .before .before .before .before .before .before .before .before .before .before .before .before .pre .1 .node .inside, c .before .before .before .before .before .before .before .before .before .before .before .before .before .before .before .pre .1 .room, c .before .before .before .before .before .before .eval-s .kept .1 .1 .1 .1 .0)))
+    let p = @args .p .now in
+    let i = @args .i in
+    let w = @pre .1 .node in
+    let small = @pre .1 .small in
+    let node = @fields .ensures in
+    let k = read-s (node .b-is) (let-parts p i w small (sym (node .kind-is) ∙ @match .keys4) .1) in
+    (omega (arith, k .less, @pre .0), (record { node = k .node; indexed = @pre .1 .indexed; state = @pre .1 .state; room = omega (arith, @pre .1 .room, @eval-s .kept .1 .1 .1 .1 .0); small = k .small }, omega (arith, @pre .1 .node .inside, @pre .1 .room, @eval-s .kept .1 .1 .1 .1 .0)))
 
 -- src/lib.rt:120:13
 eval-s-later-requires : (t : ℕ) → eval-s-lts.Need-later-requires (eval-s-calls t) (eval-s-at t) eval-s.Post
 eval-s-later-requires t c κs =
-    let p = c .before .before .before .before .before .before .before .before .before .before .before .before .before .before .before .before .before .before .args .p .now in
-    let i = c .before .before .before .before .before .before .before .before .before .before .before .before .before .before .before .before .before .before .args .i in
-    let w = c .before .before .before .before .before .before .before .before .before .before .before .before .before .before .before .before .before .before .pre .1 .node in
-    let small = c .before .before .before .before .before .before .before .before .before .before .before .before .before .before .before .before .before .before .pre .1 .small in
-    let node = c .before .before .before .before .before .before .before .before .before .before .before .before .fields .ensures in
-    (rw (sym (ap workOf (c .before .before .before .before .before .v .given .1))) (part-work-s _ _ _ (read-s (node .a-is) (let-parts p i w small (sym (node .kind-is) ∙ c .before .before .before .before .before .before .before .before .before .before .before .match .keys4) .0)) (c .before .before .before .before .before .before .before .before .before .eval-s .ensures .0)), (part-work-s _ _ _ (read-s (node .b-is) (let-parts p i w small (sym (node .kind-is) ∙ c .before .before .before .before .before .before .before .before .before .before .before .match .keys4) .1)) (c .before .before .inside-s .ensures .0)))
+    let p = @args .p .now in
+    let i = @args .i in
+    let w = @pre .1 .node in
+    let small = @pre .1 .small in
+    let node = @fields .ensures in
+    (rw (sym (ap workOf (@v .given .1))) (part-work-s _ _ _ (read-s (node .a-is) (let-parts p i w small (sym (node .kind-is) ∙ @match .keys4) .0)) (@eval-s .ensures .0)), (part-work-s _ _ _ (read-s (node .b-is) (let-parts p i w small (sym (node .kind-is) ∙ @match .keys4) .1)) (@inside-s .ensures .0)))
 
 -- src/lib.rt:123:17
 eval-s-content-requires-2 : (t : ℕ) → eval-s-lts.Need-content-requires-2 (eval-s-calls t) (eval-s-at t) eval-s.Post
 eval-s-content-requires-2 t c κs =
-    let p = c .before .before .before .before .before .before .before .args .p .now in
-    let i = c .before .before .before .before .before .before .before .args .i in
-    let w = c .before .before .before .before .before .before .before .pre .1 .node in
-    let st = c .before .before .before .before .before .before .before .args .st .now in
-    let node = c .before .fields .ensures in
-    cell-in p i w (c .before .before .before .before .before .before .before .args .ix .now) (c .before .before .before .before .before .before .before .pre .1 .indexed) st (c .before .before .before .before .before .before .before .pre .1 .state) (switch-cell (sym (node .kind-is) ∙ c .match .keys5))
+    let p = @args .p .now in
+    let i = @args .i in
+    let w = @pre .1 .node in
+    let st = @args .st .now in
+    let node = @fields .ensures in
+    cell-in p i w (@args .ix .now) (@pre .1 .indexed) st (@pre .1 .state) (switch-cell (sym (node .kind-is) ∙ @match .keys5))
 
 -- src/lib.rt:125:30
 eval-s-eval-s-requires-2 : (t : ℕ) → eval-s-lts.Need-eval-s-requires-2 (eval-s-calls t) (eval-s-at t) eval-s.Post
 eval-s-eval-s-requires-2 t c κs =
-    let p = c .before .before .before .before .before .before .before .before .before .before .args .p .now in
-    let i = c .before .before .before .before .before .before .before .before .before .before .args .i in
-    let w = c .before .before .before .before .before .before .before .before .before .before .pre .1 .node in
-    let small = c .before .before .before .before .before .before .before .before .before .before .pre .1 .small in
-    let node = c .before .before .before .before .fields .ensures in
-    let k = read-s (node .a-is) (switch-parts p i w small (sym (node .kind-is) ∙ c .before .before .before .match .keys5) .0) in
-    (omega (arith, k .less, c .before .before .before .before .before .before .before .before .before .before .pre .0), record { node = k .node; indexed = c .before .before .before .before .before .before .before .before .before .before .pre .1 .indexed; state = c .before .before .before .before .before .before .before .before .before .before .pre .1 .state; room = c .before .before .before .before .before .before .before .before .before .before .pre .1 .room; small = k .small })
+    let p = @args .p .now in
+    let i = @args .i in
+    let w = @pre .1 .node in
+    let small = @pre .1 .small in
+    let node = @fields .ensures in
+    let k = read-s (node .a-is) (switch-parts p i w small (sym (node .kind-is) ∙ @match .keys5) .0) in
+    (omega (arith, k .less, @pre .0), record { node = k .node; indexed = @pre .1 .indexed; state = @pre .1 .state; room = @pre .1 .room; small = k .small })
 
 -- src/lib.rt:125:17
 eval-s-ruled-requires-2 : (t : ℕ) → eval-s-lts.Need-ruled-requires-2 (eval-s-calls t) (eval-s-at t) eval-s.Post
 eval-s-ruled-requires-2 t c κs =
-    let p = c .before .before .before .before .before .before .before .before .before .before .before .before .before .args .p .now in
-    let i = c .before .before .before .before .before .before .before .before .before .before .before .before .before .args .i in
-    let w = c .before .before .before .before .before .before .before .before .before .before .before .before .before .pre .1 .node in
-    let small = c .before .before .before .before .before .before .before .before .before .before .before .before .before .pre .1 .small in
-    let node = c .before .before .before .before .before .before .before .fields .ensures in
-    (part-work-s _ _ _ (read-s (node .a-is) (switch-parts p i w small (sym (node .kind-is) ∙ c .before .before .before .before .before .before .match .keys5) .0)) (c .before .before .eval-s2 .ensures .0))
+    let p = @args .p .now in
+    let i = @args .i in
+    let w = @pre .1 .node in
+    let small = @pre .1 .small in
+    let node = @fields .ensures in
+    (part-work-s _ _ _ (read-s (node .a-is) (switch-parts p i w small (sym (node .kind-is) ∙ @match .keys5) .0)) (@eval-s2 .ensures .0))
 
 -- src/lib.rt:125:17
 eval-s-same-length-2 : (t : ℕ) → eval-s-lts.Need-same-length-2 (eval-s-calls t) (eval-s-at t) eval-s.Post
-eval-s-same-length-2 t c = c .before .before .before .eval-s2 .kept .1 .1 .1 .1 .0
+eval-s-same-length-2 t c = @eval-s2 .kept .1 .1 .1 .1 .0
 
 -- src/lib.rt:125:17
 eval-s-returns-2 : (t : ℕ) → eval-s-lts.Need-returns-2 (eval-s-calls t) (eval-s-at t) eval-s.Post
 eval-s-returns-2 t c =
-    let p = c .before .before .before .before .before .before .before .before .before .before .before .before .before .before .args .p .now in
-    let i = c .before .before .before .before .before .before .before .before .before .before .before .before .before .before .args .i in
-    let w = c .before .before .before .before .before .before .before .before .before .before .before .before .before .before .pre .1 .node in
-    let env = c .before .before .before .before .before .before .before .before .before .before .before .before .before .before .args .env .now in
-    let rec = c .before .before .before .before .before .before .before .before .before .before .before .before .before .before .args .rec .now in
-    let st = c .before .before .before .before .before .before .before .before .before .before .before .before .before .before .args .st .now in
-    let node = c .before .before .before .before .before .before .before .before .fields .ensures in
-    (cc (switch-first p i w rec st env (c .before .before .before .before .before .before .content2 .ensures) (c .before .before .before .before .before .before .before .before .before .before .before .before .before .before .pre .1 .indexed .numbers i (c .before .before .before .before .before .before .before .before .before .before .before .before .before .before .pre .1 .node)) (sym (node .kind-is) ∙ c .before .before .before .before .before .before .before .match .keys5) (c .before .before .before .before .before .if1 .taken)), c .before .before .before .eval-s2 .ensures .1)
+    let p = @args .p .now in
+    let i = @args .i in
+    let w = @pre .1 .node in
+    let env = @args .env .now in
+    let rec = @args .rec .now in
+    let st = @args .st .now in
+    let node = @fields .ensures in
+    (cc (switch-first p i w rec st env (@content2 .ensures) (@pre .1 .indexed .numbers i (@pre .1 .node)) (sym (node .kind-is) ∙ @match .keys5) (@if1 .taken)), @eval-s2 .ensures .1)
 
 -- src/lib.rt:127:55
 eval-s-unpack-requires-2 : (t : ℕ) → eval-s-lts.Need-unpack-requires-2 (eval-s-calls t) (eval-s-at t) eval-s.Post
@@ -216,75 +216,75 @@ eval-s-unpack-requires-2 t c κs = search needs
 -- src/lib.rt:127:19
 eval-s-inside-s-requires-2 : (t : ℕ) → eval-s-lts.Need-inside-s-requires-2 (eval-s-calls t) (eval-s-at t) eval-s.Post
 eval-s-inside-s-requires-2 t c κs =
-    let p = c .before .before .before .before .before .before .before .before .before .before .before .args .p .now in
-    let i = c .before .before .before .before .before .before .before .before .before .before .before .args .i in
-    let w = c .before .before .before .before .before .before .before .before .before .before .before .pre .1 .node in
-    let small = c .before .before .before .before .before .before .before .before .before .before .before .pre .1 .small in
-    let node = c .before .before .before .before .before .fields .ensures in
-    let parts = switch-parts p i w small (sym (node .kind-is) ∙ c .before .before .before .before .match .keys5) in
+    let p = @args .p .now in
+    let i = @args .i in
+    let w = @pre .1 .node in
+    let small = @pre .1 .small in
+    let node = @fields .ensures in
+    let parts = switch-parts p i w small (sym (node .kind-is) ∙ @match .keys5) in
     let first = read-s (node .a-is) (parts .0) in
     let second = read-s (node .c-is) (parts .1) in
-    (omega (arith, first .less, second .less, c .before .before .before .before .before .before .before .before .before .before .before .pre .0), (record { node = search needs; indexed = c .before .before .before .before .before .before .before .before .before .before .before .pre .1 .indexed; state = c .before .before .before .before .before .before .before .before .before .before .before .pre .1 .state; room = c .before .before .before .before .before .before .before .before .before .before .before .pre .1 .room; small = search needs }, omega (arith, c .before .before .before .before .before .before .before .before .before .before .before .pre .1 .node .inside, c .before .before .before .before .before .before .before .before .before .before .before .pre .1 .room)))
+    (omega (arith, first .less, second .less, @pre .0), (record { node = search needs; indexed = @pre .1 .indexed; state = @pre .1 .state; room = @pre .1 .room; small = search needs }, omega (arith, @pre .1 .node .inside, @pre .1 .room)))
 
 -- src/lib.rt:127:13
 eval-s-ruled-requires-3 : (t : ℕ) → eval-s-lts.Need-ruled-requires-3 (eval-s-calls t) (eval-s-at t) eval-s.Post
 eval-s-ruled-requires-3 t c κs =
-    let p = c .before .before .before .before .before .before .before .before .before .before .before .before .before .before .args .p .now in
-    let i = c .before .before .before .before .before .before .before .before .before .before .before .before .before .before .args .i in
-    let w = c .before .before .before .before .before .before .before .before .before .before .before .before .before .before .pre .1 .node in
-    let small = c .before .before .before .before .before .before .before .before .before .before .before .before .before .before .pre .1 .small in
-    let node = c .before .before .before .before .before .before .before .before .fields .ensures in
-    let parts = switch-parts p i w small (sym (node .kind-is) ∙ c .before .before .before .before .before .before .before .match .keys5) in
+    let p = @args .p .now in
+    let i = @args .i in
+    let w = @pre .1 .node in
+    let small = @pre .1 .small in
+    let node = @fields .ensures in
+    let parts = switch-parts p i w small (sym (node .kind-is) ∙ @match .keys5) in
     let first = read-s (node .a-is) (parts .0) in
     let second = read-s (node .c-is) (parts .1) in
-    (part-work-s {n = i} _ _ _ (search needs) (c .before .before .inside-s2 .ensures .0))
+    (part-work-s {n = i} _ _ _ (search needs) (@inside-s2 .ensures .0))
 
 -- src/lib.rt:130:17
 eval-s-content-requires-3 : (t : ℕ) → eval-s-lts.Need-content-requires-3 (eval-s-calls t) (eval-s-at t) eval-s.Post
 eval-s-content-requires-3 t c κs =
-    let p = c .before .before .before .before .before .before .before .args .p .now in
-    let i = c .before .before .before .before .before .before .before .args .i in
-    let w = c .before .before .before .before .before .before .before .pre .1 .node in
-    let st = c .before .before .before .before .before .before .before .args .st .now in
-    let node = c .before .fields .ensures in
-    cell-in p i w (c .before .before .before .before .before .before .before .args .ix .now) (c .before .before .before .before .before .before .before .pre .1 .indexed) st (c .before .before .before .before .before .before .before .pre .1 .state) (group-cell (sym (node .kind-is) ∙ c .match .keys6))
+    let p = @args .p .now in
+    let i = @args .i in
+    let w = @pre .1 .node in
+    let st = @args .st .now in
+    let node = @fields .ensures in
+    cell-in p i w (@args .ix .now) (@pre .1 .indexed) st (@pre .1 .state) (group-cell (sym (node .kind-is) ∙ @match .keys6))
 
 -- src/lib.rt:132:30
 eval-s-eval-s-requires-3 : (t : ℕ) → eval-s-lts.Need-eval-s-requires-3 (eval-s-calls t) (eval-s-at t) eval-s.Post
 eval-s-eval-s-requires-3 t c κs =
-    let p = c .before .before .before .before .before .before .before .before .before .before .args .p .now in
-    let i = c .before .before .before .before .before .before .before .before .before .before .args .i in
-    let w = c .before .before .before .before .before .before .before .before .before .before .pre .1 .node in
-    let small = c .before .before .before .before .before .before .before .before .before .before .pre .1 .small in
-    let node = c .before .before .before .before .fields .ensures in
-    let k = read-s (node .a-is) (group-part p i w small (sym (node .kind-is) ∙ c .before .before .before .match .keys6)) in
-    (omega (arith, k .less, c .before .before .before .before .before .before .before .before .before .before .pre .0), record { node = k .node; indexed = c .before .before .before .before .before .before .before .before .before .before .pre .1 .indexed; state = c .before .before .before .before .before .before .before .before .before .before .pre .1 .state; room = c .before .before .before .before .before .before .before .before .before .before .pre .1 .room; small = k .small })
+    let p = @args .p .now in
+    let i = @args .i in
+    let w = @pre .1 .node in
+    let small = @pre .1 .small in
+    let node = @fields .ensures in
+    let k = read-s (node .a-is) (group-part p i w small (sym (node .kind-is) ∙ @match .keys6)) in
+    (omega (arith, k .less, @pre .0), record { node = k .node; indexed = @pre .1 .indexed; state = @pre .1 .state; room = @pre .1 .room; small = k .small })
 
 -- src/lib.rt:132:17
 eval-s-ruled-requires-4 : (t : ℕ) → eval-s-lts.Need-ruled-requires-4 (eval-s-calls t) (eval-s-at t) eval-s.Post
 eval-s-ruled-requires-4 t c κs =
-    let p = c .before .before .before .before .before .before .before .before .before .before .before .before .before .args .p .now in
-    let i = c .before .before .before .before .before .before .before .before .before .before .before .before .before .args .i in
-    let w = c .before .before .before .before .before .before .before .before .before .before .before .before .before .pre .1 .node in
-    let small = c .before .before .before .before .before .before .before .before .before .before .before .before .before .pre .1 .small in
-    let node = c .before .before .before .before .before .before .before .fields .ensures in
-    (part-work-s _ _ _ (read-s (node .a-is) (group-part p i w small (sym (node .kind-is) ∙ c .before .before .before .before .before .before .match .keys6))) (c .before .before .eval-s3 .ensures .0))
+    let p = @args .p .now in
+    let i = @args .i in
+    let w = @pre .1 .node in
+    let small = @pre .1 .small in
+    let node = @fields .ensures in
+    (part-work-s _ _ _ (read-s (node .a-is) (group-part p i w small (sym (node .kind-is) ∙ @match .keys6))) (@eval-s3 .ensures .0))
 
 -- src/lib.rt:132:17
 eval-s-same-length-3 : (t : ℕ) → eval-s-lts.Need-same-length-3 (eval-s-calls t) (eval-s-at t) eval-s.Post
-eval-s-same-length-3 t c = c .before .before .before .eval-s3 .kept .1 .1 .1 .1 .0
+eval-s-same-length-3 t c = @eval-s3 .kept .1 .1 .1 .1 .0
 
 -- src/lib.rt:132:17
 eval-s-returns-3 : (t : ℕ) → eval-s-lts.Need-returns-3 (eval-s-calls t) (eval-s-at t) eval-s.Post
 eval-s-returns-3 t c =
-    let p = c .before .before .before .before .before .before .before .before .before .before .before .before .before .before .args .p .now in
-    let i = c .before .before .before .before .before .before .before .before .before .before .before .before .before .before .args .i in
-    let w = c .before .before .before .before .before .before .before .before .before .before .before .before .before .before .pre .1 .node in
-    let env = c .before .before .before .before .before .before .before .before .before .before .before .before .before .before .args .env .now in
-    let rec = c .before .before .before .before .before .before .before .before .before .before .before .before .before .before .args .rec .now in
-    let st = c .before .before .before .before .before .before .before .before .before .before .before .before .before .before .args .st .now in
-    let node = c .before .before .before .before .before .before .before .before .fields .ensures in
-    (cc (group-body p i w rec st env (c .before .before .before .before .before .before .content3 .ensures) (c .before .before .before .before .before .before .before .before .before .before .before .before .before .before .pre .1 .indexed .numbers i (c .before .before .before .before .before .before .before .before .before .before .before .before .before .before .pre .1 .node)) (sym (node .kind-is) ∙ c .before .before .before .before .before .before .before .match .keys6) (c .before .before .before .before .before .if2 .taken)), c .before .before .before .eval-s3 .ensures .1)
+    let p = @args .p .now in
+    let i = @args .i in
+    let w = @pre .1 .node in
+    let env = @args .env .now in
+    let rec = @args .rec .now in
+    let st = @args .st .now in
+    let node = @fields .ensures in
+    (cc (group-body p i w rec st env (@content3 .ensures) (@pre .1 .indexed .numbers i (@pre .1 .node)) (sym (node .kind-is) ∙ @match .keys6) (@if2 .taken)), @eval-s3 .ensures .1)
 
 -- src/lib.rt:134:17
 eval-s-branch-in-requires : (t : ℕ) → eval-s-lts.Need-branch-in-requires (eval-s-calls t) (eval-s-at t) eval-s.Post
@@ -293,19 +293,19 @@ eval-s-branch-in-requires t c κs = search needs
 -- src/lib.rt:135:16
 eval-s-has-branch-requires : (t : ℕ) → eval-s-lts.Need-has-branch-requires (eval-s-calls t) (eval-s-at t) eval-s.Post
 eval-s-has-branch-requires t c κs =
-    let ready = c .before .before .before .before .before .before .before .before .before .before .pre .1 in
-    let node = c .before .before .before .before .fields .ensures in
-    group-first (ready .indexed) (ready .node) (sym (node .kind-is) ∙ c .before .before .before .match .keys6) (node .b-is)
+    let ready = @pre .1 in
+    let node = @fields .ensures in
+    group-first (ready .indexed) (ready .node) (sym (node .kind-is) ∙ @match .keys6) (node .b-is)
 
 -- src/lib.rt:136:21
 eval-s-fields-requires-2 : (t : ℕ) → eval-s-lts.Need-fields-requires-2 (eval-s-calls t) (eval-s-at t) eval-s.Post
 eval-s-fields-requires-2 t c κs =
-    let p = c .before .before .before .before .before .before .before .before .before .before .before .before .args .p .now in
-    let i = c .before .before .before .before .before .before .before .before .before .before .before .before .args .i in
-    let w = c .before .before .before .before .before .before .before .before .before .before .before .before .pre .1 .node in
-    let small = c .before .before .before .before .before .before .before .before .before .before .before .before .pre .1 .small in
-    let node = c .before .before .before .before .before .before .fields .ensures in
-    omega (arith, (branch-part p i w small (sym (node .kind-is) ∙ c .before .before .before .before .before .match .keys6) (node .b-is) (c .before .has-branch .ensures) (c .if3 .taken)) .node .inside, c .before .before .before .before .before .before .before .before .before .before .before .before .pre .1 .node .shaped .within)
+    let p = @args .p .now in
+    let i = @args .i in
+    let w = @pre .1 .node in
+    let small = @pre .1 .small in
+    let node = @fields .ensures in
+    omega (arith, (branch-part p i w small (sym (node .kind-is) ∙ @match .keys6) (node .b-is) (@has-branch .ensures) (@if3 .taken)) .node .inside, @pre .1 .node .shaped .within)
 
 -- src/lib.rt:137:70
 eval-s-unpack-requires-3 : (t : ℕ) → eval-s-lts.Need-unpack-requires-3 (eval-s-calls t) (eval-s-at t) eval-s.Post
@@ -314,60 +314,60 @@ eval-s-unpack-requires-3 t c κs = search needs
 -- src/lib.rt:137:30
 eval-s-inside-s-requires-3 : (t : ℕ) → eval-s-lts.Need-inside-s-requires-3 (eval-s-calls t) (eval-s-at t) eval-s.Post
 eval-s-inside-s-requires-3 t c κs =
-    let p = c .before .before .before .before .before .before .before .before .before .before .before .before .before .before .before .args .p .now in
-    let i = c .before .before .before .before .before .before .before .before .before .before .before .before .before .before .before .args .i in
-    let w = c .before .before .before .before .before .before .before .before .before .before .before .before .before .before .before .pre .1 .node in
-    let small = c .before .before .before .before .before .before .before .before .before .before .before .before .before .before .before .pre .1 .small in
-    let node = c .before .before .before .before .before .before .before .before .before .fields .ensures in
-    let k = read-s (c .before .before .fields2 .ensures .a-is) ((branch-part p i w small (sym (node .kind-is) ∙ c .before .before .before .before .before .before .before .before .match .keys6) (node .b-is) (c .before .before .before .before .has-branch .ensures) (c .before .before .before .if3 .taken)) .body) in
-    (omega (arith, k .less, c .before .before .before .before .before .before .before .before .before .before .before .before .before .before .before .pre .0), (record { node = k .node; indexed = c .before .before .before .before .before .before .before .before .before .before .before .before .before .before .before .pre .1 .indexed; state = c .before .before .before .before .before .before .before .before .before .before .before .before .before .before .before .pre .1 .state; room = c .before .before .before .before .before .before .before .before .before .before .before .before .before .before .before .pre .1 .room; small = k .small }, omega (arith, (branch-part p i w small (sym (node .kind-is) ∙ c .before .before .before .before .before .before .before .before .match .keys6) (node .b-is) (c .before .before .before .before .has-branch .ensures) (c .before .before .before .if3 .taken)) .less, c .before .before .before .before .before .before .before .before .before .before .before .before .before .before .before .pre .1 .node .inside, c .before .before .before .before .before .before .before .before .before .before .before .before .before .before .before .pre .1 .room)))
+    let p = @args .p .now in
+    let i = @args .i in
+    let w = @pre .1 .node in
+    let small = @pre .1 .small in
+    let node = @fields .ensures in
+    let k = read-s (@fields2 .ensures .a-is) ((branch-part p i w small (sym (node .kind-is) ∙ @match .keys6) (node .b-is) (@has-branch .ensures) (@if3 .taken)) .body) in
+    (omega (arith, k .less, @pre .0), (record { node = k .node; indexed = @pre .1 .indexed; state = @pre .1 .state; room = @pre .1 .room; small = k .small }, omega (arith, (branch-part p i w small (sym (node .kind-is) ∙ @match .keys6) (node .b-is) (@has-branch .ensures) (@if3 .taken)) .less, @pre .1 .node .inside, @pre .1 .room)))
 
 -- src/lib.rt:137:17
 eval-s-ruled-requires-5 : (t : ℕ) → eval-s-lts.Need-ruled-requires-5 (eval-s-calls t) (eval-s-at t) eval-s.Post
 eval-s-ruled-requires-5 t c κs =
-    let p = c .before .before .before .before .before .before .before .before .before .before .before .before .before .before .before .before .before .before .args .p .now in
-    let i = c .before .before .before .before .before .before .before .before .before .before .before .before .before .before .before .before .before .before .args .i in
-    let w = c .before .before .before .before .before .before .before .before .before .before .before .before .before .before .before .before .before .before .pre .1 .node in
-    let small = c .before .before .before .before .before .before .before .before .before .before .before .before .before .before .before .before .before .before .pre .1 .small in
-    let node = c .before .before .before .before .before .before .before .before .before .before .before .before .fields .ensures in
-    (part-work-s _ _ _ (read-s (c .before .before .before .before .before .fields2 .ensures .a-is) ((branch-part p i w small (sym (node .kind-is) ∙ c .before .before .before .before .before .before .before .before .before .before .before .match .keys6) (node .b-is) (c .before .before .before .before .before .before .before .has-branch .ensures) (c .before .before .before .before .before .before .if3 .taken)) .body)) (c .before .before .inside-s3 .ensures .0))
+    let p = @args .p .now in
+    let i = @args .i in
+    let w = @pre .1 .node in
+    let small = @pre .1 .small in
+    let node = @fields .ensures in
+    (part-work-s _ _ _ (read-s (@fields2 .ensures .a-is) ((branch-part p i w small (sym (node .kind-is) ∙ @match .keys6) (node .b-is) (@has-branch .ensures) (@if3 .taken)) .body)) (@inside-s3 .ensures .0))
 
 -- src/lib.rt:137:17
 eval-s-same-length-4 : (t : ℕ) → eval-s-lts.Need-same-length-4 (eval-s-calls t) (eval-s-at t) eval-s.Post
-eval-s-same-length-4 t c = c .before .before .before .inside-s3 .kept .1 .1 .1 .1 .0
+eval-s-same-length-4 t c = @inside-s3 .kept .1 .1 .1 .1 .0
 
 -- src/lib.rt:137:17
 eval-s-returns-4 : (t : ℕ) → eval-s-lts.Need-returns-4 (eval-s-calls t) (eval-s-at t) eval-s.Post
 eval-s-returns-4 t c =
-    let p = c .before .before .before .before .before .before .before .before .before .before .before .before .before .before .before .before .before .before .before .args .p .now in
-    let i = c .before .before .before .before .before .before .before .before .before .before .before .before .before .before .before .before .before .before .before .args .i in
-    let w = c .before .before .before .before .before .before .before .before .before .before .before .before .before .before .before .before .before .before .before .pre .1 .node in
-    let env = c .before .before .before .before .before .before .before .before .before .before .before .before .before .before .before .before .before .before .before .args .env .now in
-    let rec = c .before .before .before .before .before .before .before .before .before .before .before .before .before .before .before .before .before .before .before .args .rec .now in
-    let st = c .before .before .before .before .before .before .before .before .before .before .before .before .before .before .before .before .before .before .before .args .st .now in
-    let node = c .before .before .before .before .before .before .before .before .before .before .before .before .before .fields .ensures in
-    (cc (group-branch p i w rec st env (c .before .before .before .before .before .before .before .before .before .before .before .content3 .ensures) (c .before .before .before .before .before .before .before .before .before .before .before .before .before .before .before .before .before .before .before .pre .1 .indexed .numbers i (c .before .before .before .before .before .before .before .before .before .before .before .before .before .before .before .before .before .before .before .pre .1 .node)) (sym (node .kind-is) ∙ c .before .before .before .before .before .before .before .before .before .before .before .before .match .keys6) (c .before .before .before .before .before .before .before .before .before .before .if2 .left) (node .b-is) (c .before .before .before .before .before .before .before .before .before .branch-in .ensures) (c .before .before .before .before .before .before .before .before .has-branch .ensures) (c .before .before .before .before .before .before .before .if3 .taken)), c .before .before .before .inside-s3 .ensures .1)
+    let p = @args .p .now in
+    let i = @args .i in
+    let w = @pre .1 .node in
+    let env = @args .env .now in
+    let rec = @args .rec .now in
+    let st = @args .st .now in
+    let node = @fields .ensures in
+    (cc (group-branch p i w rec st env (@content3 .ensures) (@pre .1 .indexed .numbers i (@pre .1 .node)) (sym (node .kind-is) ∙ @match .keys6) (@if2 .left) (node .b-is) (@branch-in .ensures) (@has-branch .ensures) (@if3 .taken)), @inside-s3 .ensures .1)
 
 -- src/lib.rt:141:20
 eval-s-eval-s-requires-4 : (t : ℕ) → eval-s-lts.Need-eval-s-requires-4 (eval-s-calls t) (eval-s-at t) eval-s.Post
 eval-s-eval-s-requires-4 t c κs =
-    let p = c .before .before .before .before .before .before .before .before .args .p .now in
-    let i = c .before .before .before .before .before .before .before .before .args .i in
-    let w = c .before .before .before .before .before .before .before .before .pre .1 .node in
-    let small = c .before .before .before .before .before .before .before .before .pre .1 .small in
-    let node = c .before .before .fields .ensures in
-    let k = read-s (node .a-is) (until-part p i w small (sym (node .kind-is) ∙ c .before .match .keys7)) in
-    (omega (arith, k .less, c .before .before .before .before .before .before .before .before .pre .0), record { node = k .node; indexed = c .before .before .before .before .before .before .before .before .pre .1 .indexed; state = c .before .before .before .before .before .before .before .before .pre .1 .state; room = c .before .before .before .before .before .before .before .before .pre .1 .room; small = k .small })
+    let p = @args .p .now in
+    let i = @args .i in
+    let w = @pre .1 .node in
+    let small = @pre .1 .small in
+    let node = @fields .ensures in
+    let k = read-s (node .a-is) (until-part p i w small (sym (node .kind-is) ∙ @match .keys7)) in
+    (omega (arith, k .less, @pre .0), record { node = k .node; indexed = @pre .1 .indexed; state = @pre .1 .state; room = @pre .1 .room; small = k .small })
 
 -- src/lib.rt:141:14
 eval-s-ruled-requires-6 : (t : ℕ) → eval-s-lts.Need-ruled-requires-6 (eval-s-calls t) (eval-s-at t) eval-s.Post
 eval-s-ruled-requires-6 t c κs =
-    let p = c .before .before .before .before .before .before .before .before .before .before .before .args .p .now in
-    let i = c .before .before .before .before .before .before .before .before .before .before .before .args .i in
-    let w = c .before .before .before .before .before .before .before .before .before .before .before .pre .1 .node in
-    let small = c .before .before .before .before .before .before .before .before .before .before .before .pre .1 .small in
-    let node = c .before .before .before .before .before .fields .ensures in
-    (part-work-s _ _ _ (read-s (node .a-is) (until-part p i w small (sym (node .kind-is) ∙ c .before .before .before .before .match .keys7))) (c .before .before .eval-s4 .ensures .0))
+    let p = @args .p .now in
+    let i = @args .i in
+    let w = @pre .1 .node in
+    let small = @pre .1 .small in
+    let node = @fields .ensures in
+    (part-work-s _ _ _ (read-s (node .a-is) (until-part p i w small (sym (node .kind-is) ∙ @match .keys7))) (@eval-s4 .ensures .0))
 
 -- src/lib.rt:142:38
 eval-s-time-in-requires : (t : ℕ) → eval-s-lts.Need-time-in-requires (eval-s-calls t) (eval-s-at t) eval-s.Post
@@ -380,114 +380,114 @@ eval-s-given-requires-3 t c κs = search needs
 -- src/lib.rt:104:1
 eval-s-returns-5 : (t : ℕ) → eval-s-lts.Need-returns-5 (eval-s-calls t) (eval-s-at t) eval-s.Post
 eval-s-returns-5 t c =
-    let p = c .before .before .before .before .before .before .before .before .before .args .p .now in
-    let i = c .before .before .before .before .before .before .before .before .before .args .i in
-    let w = c .before .before .before .before .before .before .before .before .before .pre .1 .node in
-    let env = c .before .before .before .before .before .before .before .before .before .args .env .now in
-    let rec = c .before .before .before .before .before .before .before .before .before .args .rec .now in
-    let st = c .before .before .before .before .before .before .before .before .before .args .st .now in
-    let node = c .before .before .before .fields .ensures in
-    (cc (input-eval p i w rec st env (sym (node .kind-is) ∙ c .before .before .match .keys1)), refl)
+    let p = @args .p .now in
+    let i = @args .i in
+    let w = @pre .1 .node in
+    let env = @args .env .now in
+    let rec = @args .rec .now in
+    let st = @args .st .now in
+    let node = @fields .ensures in
+    (cc (input-eval p i w rec st env (sym (node .kind-is) ∙ @match .keys1)), refl)
 
 -- src/lib.rt:104:1
 eval-s-same-length-5 : (t : ℕ) → eval-s-lts.Need-same-length-5 (eval-s-calls t) (eval-s-at t) eval-s.Post
-eval-s-same-length-5 t c = c .before .before .before .eval-e .kept .1 .0
+eval-s-same-length-5 t c = @eval-e .kept .1 .0
 
 -- src/lib.rt:104:1
 eval-s-returns-6 : (t : ℕ) → eval-s-lts.Need-returns-6 (eval-s-calls t) (eval-s-at t) eval-s.Post
 eval-s-returns-6 t c =
-    let p = c .before .before .before .before .before .before .before .before .before .before .before .before .args .p .now in
-    let i = c .before .before .before .before .before .before .before .before .before .before .before .before .args .i in
-    let w = c .before .before .before .before .before .before .before .before .before .before .before .before .pre .1 .node in
-    let env = c .before .before .before .before .before .before .before .before .before .before .before .before .args .env .now in
-    let rec = c .before .before .before .before .before .before .before .before .before .before .before .before .args .rec .now in
-    let st = c .before .before .before .before .before .before .before .before .before .before .before .before .args .st .now in
-    let node = c .before .before .before .before .before .before .fields .ensures in
-    (cc (ext-eval p i w rec st env (sym (node .kind-is) ∙ c .before .before .before .before .before .match .keys2)), c .before .before .before .eval-e .ensures .1)
+    let p = @args .p .now in
+    let i = @args .i in
+    let w = @pre .1 .node in
+    let env = @args .env .now in
+    let rec = @args .rec .now in
+    let st = @args .st .now in
+    let node = @fields .ensures in
+    (cc (ext-eval p i w rec st env (sym (node .kind-is) ∙ @match .keys2)), @eval-e .ensures .1)
 
 -- src/lib.rt:104:1
 eval-s-returns-7 : (t : ℕ) → eval-s-lts.Need-returns-7 (eval-s-calls t) (eval-s-at t) eval-s.Post
 eval-s-returns-7 t c =
-    let p = c .before .before .before .before .before .before .before .before .before .before .args .p .now in
-    let i = c .before .before .before .before .before .before .before .before .before .before .args .i in
-    let w = c .before .before .before .before .before .before .before .before .before .before .pre .1 .node in
-    let env = c .before .before .before .before .before .before .before .before .before .before .args .env .now in
-    let rec = c .before .before .before .before .before .before .before .before .before .before .args .rec .now in
-    let st = c .before .before .before .before .before .before .before .before .before .before .args .st .now in
-    let node = c .before .before .before .before .fields .ensures in
-    (cc (delay-eval p i w rec st env (c .before .before .content .ensures) (c .before .before .before .before .before .before .before .before .before .before .pre .1 .indexed .numbers i (c .before .before .before .before .before .before .before .before .before .before .pre .1 .node)) (sym (node .kind-is) ∙ c .before .before .before .match .keys3)), refl)
+    let p = @args .p .now in
+    let i = @args .i in
+    let w = @pre .1 .node in
+    let env = @args .env .now in
+    let rec = @args .rec .now in
+    let st = @args .st .now in
+    let node = @fields .ensures in
+    (cc (delay-eval p i w rec st env (@content .ensures) (@pre .1 .indexed .numbers i (@pre .1 .node)) (sym (node .kind-is) ∙ @match .keys3)), refl)
 
 -- src/lib.rt:104:1
 eval-s-same-length-6 : (t : ℕ) → eval-s-lts.Need-same-length-6 (eval-s-calls t) (eval-s-at t) eval-s.Post
-eval-s-same-length-6 t c = c .before .before .before .inside-s .kept .1 .1 .1 .1 .0 ∙ c .before .before .before .before .before .before .before .before .before .before .eval-s .kept .1 .1 .1 .1 .0
+eval-s-same-length-6 t c = @inside-s .kept .1 .1 .1 .1 .0 ∙ @eval-s .kept .1 .1 .1 .1 .0
 
 -- src/lib.rt:104:1
 eval-s-returns-8 : (t : ℕ) → eval-s-lts.Need-returns-8 (eval-s-calls t) (eval-s-at t) eval-s.Post
 eval-s-returns-8 t c =
-    let p = c .before .before .before .before .before .before .before .before .before .before .before .before .before .before .before .before .before .before .before .args .p .now in
-    let i = c .before .before .before .before .before .before .before .before .before .before .before .before .before .before .before .before .before .before .before .args .i in
-    let w = c .before .before .before .before .before .before .before .before .before .before .before .before .before .before .before .before .before .before .before .pre .1 .node in
-    let env = c .before .before .before .before .before .before .before .before .before .before .before .before .before .before .before .before .before .before .before .args .env .now in
-    let rec = c .before .before .before .before .before .before .before .before .before .before .before .before .before .before .before .before .before .before .before .args .rec .now in
-    let st = c .before .before .before .before .before .before .before .before .before .before .before .before .before .before .before .before .before .before .before .args .st .now in
-    let node = c .before .before .before .before .before .before .before .before .before .before .before .before .before .fields .ensures in
-    (let-goes p i w rec st env (sym (node .kind-is) ∙ c .before .before .before .before .before .before .before .before .before .before .before .before .match .keys4) (node .a-is) (node .b-is) (c .before .before .before .before .before .before .before .before .before .before .eval-s .ensures .0) (c .before .before .before .before .before .before .v .given .1) (c .before .before .before .before .before .before .before .before .before .before .eval-s .ensures .1) (c .before .before .before .inside-s .ensures .0) (c .later .ensures), c .before .before .before .inside-s .ensures .1 ∙ c .before .before .before .before .before .before .before .before .before .before .eval-s .ensures .1)
+    let p = @args .p .now in
+    let i = @args .i in
+    let w = @pre .1 .node in
+    let env = @args .env .now in
+    let rec = @args .rec .now in
+    let st = @args .st .now in
+    let node = @fields .ensures in
+    (let-goes p i w rec st env (sym (node .kind-is) ∙ @match .keys4) (node .a-is) (node .b-is) (@eval-s .ensures .0) (@v .given .1) (@eval-s .ensures .1) (@inside-s .ensures .0) (@later .ensures), @inside-s .ensures .1 ∙ @eval-s .ensures .1)
 
 -- src/lib.rt:104:1
 eval-s-same-length-7 : (t : ℕ) → eval-s-lts.Need-same-length-7 (eval-s-calls t) (eval-s-at t) eval-s.Post
-eval-s-same-length-7 t c = c .before .before .before .inside-s2 .kept .1 .1 .1 .1 .0
+eval-s-same-length-7 t c = @inside-s2 .kept .1 .1 .1 .1 .0
 
 -- src/lib.rt:104:1
 eval-s-returns-9 : (t : ℕ) → eval-s-lts.Need-returns-9 (eval-s-calls t) (eval-s-at t) eval-s.Post
 eval-s-returns-9 t c =
-    let p = c .before .before .before .before .before .before .before .before .before .before .before .before .before .before .before .args .p .now in
-    let i = c .before .before .before .before .before .before .before .before .before .before .before .before .before .before .before .args .i in
-    let w = c .before .before .before .before .before .before .before .before .before .before .before .before .before .before .before .pre .1 .node in
-    let env = c .before .before .before .before .before .before .before .before .before .before .before .before .before .before .before .args .env .now in
-    let rec = c .before .before .before .before .before .before .before .before .before .before .before .before .before .before .before .args .rec .now in
-    let st = c .before .before .before .before .before .before .before .before .before .before .before .before .before .before .before .args .st .now in
-    let node = c .before .before .before .before .before .before .before .before .before .fields .ensures in
-    (cc (switch-second p i w rec st env (c .before .before .before .before .before .before .before .content2 .ensures) (c .before .before .before .before .before .before .before .before .before .before .before .before .before .before .before .pre .1 .indexed .numbers i (c .before .before .before .before .before .before .before .before .before .before .before .before .before .before .before .pre .1 .node)) (sym (node .kind-is) ∙ c .before .before .before .before .before .before .before .before .match .keys5) (c .before .before .before .before .before .before .if1 .left)), c .before .before .before .inside-s2 .ensures .1)
+    let p = @args .p .now in
+    let i = @args .i in
+    let w = @pre .1 .node in
+    let env = @args .env .now in
+    let rec = @args .rec .now in
+    let st = @args .st .now in
+    let node = @fields .ensures in
+    (cc (switch-second p i w rec st env (@content2 .ensures) (@pre .1 .indexed .numbers i (@pre .1 .node)) (sym (node .kind-is) ∙ @match .keys5) (@if1 .left)), @inside-s2 .ensures .1)
 
 -- src/lib.rt:104:1
 eval-s-returns-10 : (t : ℕ) → eval-s-lts.Need-returns-10 (eval-s-calls t) (eval-s-at t) eval-s.Post
 eval-s-returns-10 t c =
-    let p = c .before .before .before .before .before .before .before .before .before .before .before .before .args .p .now in
-    let i = c .before .before .before .before .before .before .before .before .before .before .before .before .args .i in
-    let w = c .before .before .before .before .before .before .before .before .before .before .before .before .pre .1 .node in
-    let env = c .before .before .before .before .before .before .before .before .before .before .before .before .args .env .now in
-    let rec = c .before .before .before .before .before .before .before .before .before .before .before .before .args .rec .now in
-    let st = c .before .before .before .before .before .before .before .before .before .before .before .before .args .st .now in
-    let node = c .before .before .before .before .before .before .fields .ensures in
-    (sym (group-stuck p i w rec st env (c .before .before .before .before .content3 .ensures) (c .before .before .before .before .before .before .before .before .before .before .before .before .pre .1 .indexed .numbers i (c .before .before .before .before .before .before .before .before .before .before .before .before .pre .1 .node)) (sym (node .kind-is) ∙ c .before .before .before .before .before .match .keys6) (c .before .before .before .if2 .left) (node .b-is) (c .before .before .branch-in .ensures) (c .before .has-branch .ensures) (c .if3 .left)), refl)
+    let p = @args .p .now in
+    let i = @args .i in
+    let w = @pre .1 .node in
+    let env = @args .env .now in
+    let rec = @args .rec .now in
+    let st = @args .st .now in
+    let node = @fields .ensures in
+    (sym (group-stuck p i w rec st env (@content3 .ensures) (@pre .1 .indexed .numbers i (@pre .1 .node)) (sym (node .kind-is) ∙ @match .keys6) (@if2 .left) (node .b-is) (@branch-in .ensures) (@has-branch .ensures) (@if3 .left)), refl)
 
 -- src/lib.rt:104:1
 eval-s-same-length-8 : (t : ℕ) → eval-s-lts.Need-same-length-8 (eval-s-calls t) (eval-s-at t) eval-s.Post
-eval-s-same-length-8 t c = c .before .before .before .eval-s4 .kept .1 .1 .1 .1 .0
+eval-s-same-length-8 t c = @eval-s4 .kept .1 .1 .1 .1 .0
 
 -- src/lib.rt:104:1
 eval-s-returns-11 : (t : ℕ) → eval-s-lts.Need-returns-11 (eval-s-calls t) (eval-s-at t) eval-s.Post
 eval-s-returns-11 t c =
-    let p = c .before .before .before .before .before .before .before .before .before .before .before .before .args .p .now in
-    let i = c .before .before .before .before .before .before .before .before .before .before .before .before .args .i in
-    let w = c .before .before .before .before .before .before .before .before .before .before .before .before .pre .1 .node in
-    let env = c .before .before .before .before .before .before .before .before .before .before .before .before .args .env .now in
-    let rec = c .before .before .before .before .before .before .before .before .before .before .before .before .args .rec .now in
-    let st = c .before .before .before .before .before .before .before .before .before .before .before .before .args .st .now in
-    let node = c .before .before .before .before .before .before .fields .ensures in
-    (cc (until-eval p i w rec st env (sym (node .kind-is) ∙ c .before .before .before .before .before .match .keys7)), c .before .before .before .eval-s4 .ensures .1)
+    let p = @args .p .now in
+    let i = @args .i in
+    let w = @pre .1 .node in
+    let env = @args .env .now in
+    let rec = @args .rec .now in
+    let st = @args .st .now in
+    let node = @fields .ensures in
+    (cc (until-eval p i w rec st env (sym (node .kind-is) ∙ @match .keys7)), @eval-s4 .ensures .1)
 
 -- src/lib.rt:104:1
 eval-s-returns-12 : (t : ℕ) → eval-s-lts.Need-returns-12 (eval-s-calls t) (eval-s-at t) eval-s.Post
 eval-s-returns-12 t c =
-    let p = c .before .before .before .before .before .before .before .before .before .args .p .now in
-    let i = c .before .before .before .before .before .before .before .before .before .args .i in
-    let w = c .before .before .before .before .before .before .before .before .before .pre .1 .node in
-    let env = c .before .before .before .before .before .before .before .before .before .args .env .now in
-    let rec = c .before .before .before .before .before .before .before .before .before .args .rec .now in
-    let st = c .before .before .before .before .before .before .before .before .before .args .st .now in
-    let node = c .before .before .before .fields .ensures in
-    (cc (time-eval p i w rec st env (time-left p i w (node .kind-is) (c .before .before .match .rest))), refl)
+    let p = @args .p .now in
+    let i = @args .i in
+    let w = @pre .1 .node in
+    let env = @args .env .now in
+    let rec = @args .rec .now in
+    let st = @args .st .now in
+    let node = @fields .ensures in
+    (cc (time-eval p i w rec st env (time-left p i w (node .kind-is) (@match .rest))), refl)
 
 abbrev inside-s-calls : ℕ → inside-s-lts.Claims
 inside-s-calls t = (pack-reads.Asked, pack-reads.Learnt, eval-s-below t, eval-s.Post)
@@ -514,7 +514,7 @@ inside-s-slice-write-env t c = search needs
 
 -- src/lib.rt:153:9
 inside-s-eval-s-requires : (t : ℕ) → inside-s-lts.Need-eval-s-requires (inside-s-calls t) (inside-s-at t) inside-s.Post
-inside-s-eval-s-requires t c κs = (omega (arith, c .before .before .before .before .before .before .before .before .pre .0), record { node = c .before .before .before .before .before .before .before .before .pre .1 .0 .node; indexed = c .before .before .before .before .before .before .before .before .pre .1 .0 .indexed; state = c .before .before .before .before .before .before .before .before .pre .1 .0 .state; room = simp length-set (c .before .before .before .before .before .before .before .before .pre .1 .0 .room); small = c .before .before .before .before .before .before .before .before .pre .1 .0 .small })
+inside-s-eval-s-requires t c κs = (omega (arith, @pre .0), record { node = @pre .1 .0 .node; indexed = @pre .1 .0 .indexed; state = @pre .1 .0 .state; room = simp length-set (@pre .1 .0 .room); small = @pre .1 .0 .small })
 
 -- src/lib.rt:154:5
 inside-s-mul-env-2 : (t : ℕ) → inside-s-lts.Need-mul-env-2 (inside-s-calls t) (inside-s-at t) inside-s.Post
@@ -522,16 +522,16 @@ inside-s-mul-env-2 t c = search needs
 
 -- src/lib.rt:154:5
 inside-s-slice-write-env-2 : (t : ℕ) → inside-s-lts.Need-slice-write-env-2 (inside-s-calls t) (inside-s-at t) inside-s.Post
-inside-s-slice-write-env-2 t c = omega (arith, c .before .before .eval-s .kept .1 .1 .1 .1 .0, length-set (c .before .before .before .before .before .before .before .before .before .before .before .args .env .now) (c .before .before .before .before .before .before .before .before .before .before .before .args .i) (c .before .before .before .before .pack .result), c .before .before .before .before .before .before .before .before .before .before .before .pre .1 .1)
+inside-s-slice-write-env-2 t c = omega (arith, @eval-s .kept .1 .1 .1 .1 .0, length-set (@args .env .now) (@args .i) (@pack .result), @pre .1 .1)
 
 -- src/lib.rt:147:1
 inside-s-same-length : (t : ℕ) → inside-s-lts.Need-same-length (inside-s-calls t) (inside-s-at t) inside-s.Post
-inside-s-same-length t c = simp length-set (simp length-set at (c .before .before .eval-s .kept .1 .1 .1 .1 .0))
+inside-s-same-length t c = simp length-set (simp length-set at (@eval-s .kept .1 .1 .1 .1 .0))
 
 -- src/lib.rt:147:1
 inside-s-returns : (t : ℕ) → inside-s-lts.Need-returns (inside-s-calls t) (inside-s-at t) inside-s.Post
 unfolding bind
-inside-s-returns t c = (rw (← c .before .before .before .before .pack .ensures) (c .before .before .eval-s .ensures .0), ap (λ (l : List ℕ). set l (c .before .before .before .before .before .before .before .before .before .before .before .args .i) (getD (c .before .before .before .before .before .before .before .before .before .before .before .args .env .now) (c .before .before .before .before .before .before .before .before .before .before .before .args .i) 0)) (c .before .before .eval-s .ensures .1) ∙ put-back _ _ (c .before .before .before .before .pack .result))
+inside-s-returns t c = (rw (← @pack .ensures) (@eval-s .ensures .0), ap (λ (l : List ℕ). set l (@args .i) (getD (@args .env .now) (@args .i) 0)) (@eval-s .ensures .1) ∙ put-back _ _ (@pack .result))
 
 pub +eval-s+inside-s-spec : {M : Type 1} → statement M
 +eval-s+inside-s-spec = close μ-eval-s μ-inside-s (λ t. eval-s-lts.spec (eval-s-calls t) (eval-s-at t)

@@ -58,11 +58,11 @@ word-no t m n = go (eqb m 0) (isPlain (typeIn m)) (eqb (presentIn m) 0)
   where
     go : (z p q : Bool)
         → Not
-          ≡ wordBy t
-            (if z then Stuck
-             else Done
-             (if p then Plain (typeIn m) (wordIn m) else if q then Absent (typeIn m) else Present (typeIn m) (wordIn m))
-             (record { work = middleIn m }))
+        ≡ wordBy t
+        (if z then Stuck
+        else Done
+        (if p then Plain (typeIn m) (wordIn m) else if q then Absent (typeIn m) else Present (typeIn m) (wordIn m))
+        (record { work = middleIn m }))
     go true p q = refl
     go false true q = simp (ne-eqb _ _ n)
     go false false true = refl
@@ -152,10 +152,10 @@ lifted-no r e = gives-stuck (simp e (go (eqb r 0) (eqb (presentIn r) 0)))
   where
     go : (z q : Bool)
         → rule
-          (lifted
-           (if z then Stuck
-            else Done (if q then Absent (typeIn r) else Present (typeIn r) (wordIn r)) (record { work = middleIn r })))
-          ≡ Stuck
+        (lifted
+        (if z then Stuck
+        else Done (if q then Absent (typeIn r) else Present (typeIn r) (wordIn r)) (record { work = middleIn r })))
+        ≡ Stuck
     go true q = refl
     go false true = refl
     go false false = refl

@@ -144,12 +144,12 @@ pub fn later(w: Tally, r: u64) -> u64
     r + 65536 * (w.work + 1)
 }
 
-// A variable's value in its binder's slot, by one rule.
-pub fn variable(env: &[u64; 1008], n: usize) -> u64
+// A variable's value in its binder's slot, by one rule; a slot that is 0 has none.
+fn looked(env: &[u64], n: usize) -> u64
     requires { ⌜ Slots (now env) ⌝ }
     ensures { λ s. ⌜ (outcomeIn s ≡ rule (lookOf (now (env .entry)) n)) × IsOutcome s ⌝ }
 {
-    if n < 1008 {
+    if n < env.len() {
         let m = env[n];
         if m == 0 {
             return 0;
@@ -159,12 +159,24 @@ pub fn variable(env: &[u64; 1008], n: usize) -> u64
     0
 }
 
+// The same of an environment whose reference is one register.
+pub fn variable(env: &[u64; 1008], n: usize) -> u64
+    requires { ⌜ Slots (now env) ⌝ }
+    ensures { λ s. ⌜ (outcomeIn s ≡ rule (lookOf (now (env .entry)) n)) × IsOutcome s ⌝ }
+{
+    looked(env, n)
+}
+
 // The word of an outcome that is a plain value of type t. (Stuck has type 0.)
 fn plain_word(t: u8, m: u64) -> Word
     requires { ⌜ isPlain t ≡ true ⌝ }
     ensures { λ r. ⌜ r ≡ wordBy t (outcomeIn m) ⌝ }
 {
-    if type_in(m) == t { Word::Is(word_in(m)) } else { Word::Not }
+    if type_in(m) == t {
+        Word::Is(word_in(m))
+    } else {
+        Word::Not
+    }
 }
 
 // The type that an operation takes: int up to kind 23, then bool.
@@ -223,9 +235,7 @@ pub fn chosen(r: u64, yes: usize, no: usize) -> Arm
     let Word::Is(w) = plain_word(BOOL, r) else {
         return Arm::Neither;
     };
-    let count = Tally {
-        work: work_in(r),
-    };
+    let count = Tally { work: work_in(r) };
     if w == 1 {
         return Arm::Go(yes, count);
     }
@@ -243,9 +253,7 @@ pub fn apart(r: u64) -> Parts
     if is_plain(t) {
         return Parts::Wrong;
     }
-    let count = Tally {
-        work: work_in(r),
-    };
+    let count = Tally { work: work_in(r) };
     if present_in(r) == 0 {
         return Parts::Maybe(Event::Quiet, count);
     }

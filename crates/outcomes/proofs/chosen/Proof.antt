@@ -1,0 +1,50 @@
+use Rattle.outcomes.proofs.Combining.{arm-neither, arm-first, arm-second}
+use Rattle.rules.proofs.Round.{plain-yes}
+use native.Mathlib.Omega.{arith}
+use borrow.Author.Needs.{needs}
+use Rattle.outcomes.proofs.chosen.Statement.{statement}
+use Rattle.outcomes.proofs.chosen.Tie as tie
+use Rattle.outcomes.proofs.chosen.Reads as reads
+use Rattle.outcomes.proofs.chosen.Lts as lts
+use Rattle.outcomes.proofs.plain_word.Reads as plain-word-reads
+use Rattle.outcomes.proofs.work_in.Reads as work-in-reads
+
+-- src/lib.rt:223:23
+plain-word-requires : tie.Need-plain-word-requires
+plain-word-requires c κs = plain-yes 2 (omega arith) (omega arith)
+
+-- src/lib.rt:223:18
+enum-known-w : tie.Need-enum-known-w
+enum-known-w c = search needs
+
+-- src/lib.rt:224:9
+enum-told : tie.Need-enum-told
+enum-told c = search needs
+
+-- src/lib.rt:224:9
+returns : tie.Need-returns
+returns c = arm-neither (c .before .before .before .args .r) (c .before .before .before .args .yes) (c .before .before .before .args .no) (c .before .before .plain-word .ensures) (c .enum-told .given .1)
+
+-- src/lib.rt:227:15
+work-in-requires : tie.Need-work-in-requires
+work-in-requires c κs = search needs
+
+-- src/lib.rt:230:9
+returns-2 : tie.Need-returns-2
+returns-2 c = arm-first (c .before .before .before .before .before .before .args .r) (c .before .before .before .before .before .before .args .yes) (c .before .before .before .before .before .before .args .no) (c .before .before .before .before .before .plain-word .ensures) (c .before .before .before .w .given .1) (c .if1 .taken) (c .before .work-in .ensures)
+
+-- src/lib.rt:220:1
+returns-3 : tie.Need-returns-3
+returns-3 c = arm-second (c .before .before .before .before .before .before .args .r) (c .before .before .before .before .before .before .args .yes) (c .before .before .before .before .before .before .args .no) (c .before .before .before .before .before .plain-word .ensures) (c .before .before .before .w .given .1) (c .if1 .left) (c .before .work-in .ensures)
+
+pub chosen-spec : {M : Type 1} → statement M
+chosen-spec =
+    tie.close
+    (tie.spec
+    plain-word-requires
+    enum-known-w
+    enum-told
+    returns
+    work-in-requires
+    returns-2
+    returns-3)

@@ -1,0 +1,21 @@
+use Rattle.outcomes.proofs.Numbers.{more-fits, work-is, rule-stuck, rule-gives}
+use native.Mathlib.Omega.{arith}
+use Rattle.outcomes.proofs.ruled.Statement.{statement}
+use Rattle.outcomes.proofs.ruled.Tie as tie
+use Rattle.outcomes.proofs.ruled.Reads as reads
+use Rattle.outcomes.proofs.ruled.Lts as lts
+
+-- src/lib.rt:131:9
+returns : tie.Need-returns
+returns c = rule-stuck (c .before .args .r) (c .if1 .taken)
+
+-- src/lib.rt:133:5
+add-result : tie.Need-add-result
+add-result c = omega (arith, more-fits (c .before .args .r) 1 (omega (arith, work-is (c .before .args .r), c .before .pre .1)) (omega arith))
+
+-- src/lib.rt:126:1
+returns-2 : tie.Need-returns-2
+returns-2 c = rule-gives (c .before .args .r) (c .if1 .left) (c .before .pre .0) (c .before .pre .1)
+
+pub ruled-spec : {M : Type 1} → statement M
+ruled-spec = tie.close (tie.spec returns add-result returns-2)

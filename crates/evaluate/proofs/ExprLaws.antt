@@ -8,42 +8,51 @@ use Prim.Native.Nat.{ℕ, _+_, _≤_, _<_, max}
 use native.Mathlib.Omega.{arith}
 use Rattle.rules.specs.Bytes.{Bytes}
 use Rattle.rules.specs.Layout.{kindAt, typeAt, aAt, bAt, cAt, wordAt}
-use Rattle.rules.specs.Values.{valueFrom}
+use Rattle.rules.specs.Values.{valueFrom, unpacked}
 use Rattle.rules.specs.Kinds.{isExpression}
 use Rattle.rules.specs.Tree.{exprAt, valueAt}
 use Rattle.rules.specs.Work.{give, after, rule}
 use Rattle.rules.specs.Bound.{boundE}
 use Rattle.rules.specs.Evaluate.{Env, bind, look, operated, negated, chosen, lifted, taken, evalE}
 use Rattle.rules.specs.Shaped.{NodeOf}
-use Rattle.rules.specs.declared.Value.{Value}
 use Rattle.rules.specs.declared.Tally.{Tally}
 use Rattle.rules.specs.declared.Evaluated.{Evaluated}
 use Rattle.rules.specs.declared.Evaluated.the-variants.{Stuck}
 use Rattle.rules.proofs.Nodes.{expr-variable, expr-constant}
 use Rattle.rules.proofs.Expressions.{IsOperation, negation-kid, negation-tree, just-kid, just-tree, choice-kids, choice-tree, taking-kids, taking-tree, operation-kids, operation-tree}
 use Rattle.rules.proofs.Within.{evalE-within}
-use Rattle.values.specs.Combine.{workOf, armOf, partsOf}
-use Rattle.values.specs.declared.Arm.the-variants.{Go, Neither}
-use Rattle.values.specs.declared.Event.{Event}
-use Rattle.values.specs.declared.Event.the-variants.{Occurs, Quiet}
-use Rattle.values.specs.declared.Parts.the-variants.{Maybe, Wrong}
-use Rattle.values.proofs.Outcomes.{work-within, arm-goes, arm-none, arm-one, arm-work, take-present, take-absent, take-wrong, take-work}
+use Rattle.outcomes.specs.Combine.{workOf, armOf, partsOf}
+use Rattle.outcomes.specs.declared.Arm.the-variants.{Go, Neither}
+use Rattle.outcomes.specs.declared.Event.{Event}
+use Rattle.outcomes.specs.declared.Event.the-variants.{Occurs, Quiet}
+use Rattle.outcomes.specs.declared.Parts.the-variants.{Maybe, Wrong}
+use Rattle.outcomes.proofs.Outcomes.{work-within, arm-goes, arm-none, arm-one, arm-work, take-present, take-absent, take-wrong, take-work}
 
 -- Node x is an expression below node n, and its tree's bound is small.
 pub record PartE (p : Bytes) (n x : ℕ) : Type 0 where
   pub less : x < n
   pub node : NodeOf isExpression p x
-  pub small : boundE (exprAt p x) < 4294967296
+  pub small : boundE (exprAt p x) < 65535
+
+-- Expressions x and y are both evaluated below one whose bound is small.
+abbrev pub PairE : Bytes → ℕ → ℕ → Type 0
+PairE p x y = boundE (exprAt p x) + boundE (exprAt p y) < 65535
+
+-- What both count together is small.
+pub pair-work : (p : Bytes) (x y : ℕ) {r s : Evaluated} (env₁ env₂ : Env) → PairE p x y → r ≡ evalE env₁ (exprAt p x) → s ≡ evalE env₂ (exprAt p y)
+    → workOf r + workOf s < 65535
+pair-work p x y env₁ env₂ k e f =
+    rw (e, f) (omega (arith, work-within _ (evalE-within env₁ (exprAt p x)), work-within _ (evalE-within env₂ (exprAt p y)), k))
 
 -- The same part, by the field that was read.
 pub read : {p : Bytes} {n x y : ℕ} → x ≡ y → PartE p n y → PartE p n x
 read {p} {n} e k = subst (PartE p n) (sym e) k
 
 -- What a part's evaluation counts is small.
-pub part-work : {p : Bytes} {n x : ℕ} {r : Evaluated} (env : Env) → PartE p n x → r ≡ evalE env (exprAt p x) → workOf r < 4294967296
+pub part-work : {p : Bytes} {n x : ℕ} {r : Evaluated} (env : Env) → PartE p n x → r ≡ evalE env (exprAt p x) → workOf r < 65535
 part-work {p} {n} {x} env k e = rw e (omega (arith, work-within _ (evalE-within env (exprAt p x)), k .small))
 
-module _ (p : Bytes) (n : ℕ) (w : NodeOf isExpression p n) (s : boundE (exprAt p n) < 4294967296) where
+module _ (p : Bytes) (n : ℕ) (w : NodeOf isExpression p n) (s : boundE (exprAt p n) < 65535) where
   pub negation-part : kindAt p n ≡ 24 → PartE p n (aAt p n)
   unfolding boundE
   negation-part e =
@@ -84,6 +93,21 @@ module _ (p : Bytes) (n : ℕ) (w : NodeOf isExpression p n) (s : boundE (exprAt
         record { less = k .0 .less; node = k .0 .node; small = omega arith },
         record { less = k .1 .less; node = k .1 .node; small = omega arith },
       )
+
+  -- what is evaluated together
+  pub operation-pair : IsOperation (kindAt p n) → {a b : ℕ} → a ≡ aAt p n → b ≡ bAt p n → PairE p a b
+  unfolding boundE
+  operation-pair o ea eb = rw (ea, eb) (omega (arith, ap boundE (operation-tree p n w o), s))
+
+  pub choice-pair : kindAt p n ≡ 27 → {a b c m : ℕ} {u : Tally} (r : Evaluated) → a ≡ aAt p n → b ≡ bAt p n → c ≡ cAt p n → armOf r b c ≡ Go m u → PairE p a m
+  unfolding boundE
+  choice-pair e {a} {b} {c} r ea eb ec g =
+      let t = ap boundE (choice-tree p n w e) in
+      arm-one b c (PairE p a) r g (rw (ea, eb) (omega (arith, t, s))) (rw (ea, ec) (omega (arith, t, s)))
+
+  pub taking-pairs : kindAt p n ≡ 29 → {a b c : ℕ} → a ≡ aAt p n → b ≡ bAt p n → c ≡ cAt p n → PairE p a b × PairE p a c
+  unfolding boundE
+  taking-pairs e ea eb ec = let t = ap boundE (taking-tree p n w e) in (rw (ea, eb) (omega (arith, t, s)), rw (ea, ec) (omega (arith, t, s)))
 
   -- the arm that is chosen
   pub chosen-part : kindAt p n ≡ 27 → {b c m : ℕ} {u : Tally} (r : Evaluated) → b ≡ bAt p n → c ≡ cAt p n → armOf r b c ≡ Go m u → PartE p n m
@@ -134,8 +158,8 @@ module _ (p : Bytes) (n : ℕ) (w : NodeOf isExpression p n) (env : Env) where
   taking-eval e = ap (evalE env) (taking-tree p n w e)
 
   -- Take, by the value that its maybe holds, by none, and of no maybe.
-  pub taking-present : kindAt p n ≡ 29 → {a : ℕ} {q : Event} {v : Value} {u : Tally} {r : Evaluated} → a ≡ aAt p n → r ≡ evalE env (exprAt p a)
-      → partsOf r ≡ Maybe q u → q ≡ Occurs v → evalE env (exprAt p n) ≡ rule (after u (evalE (bind env n v) (exprAt p (cAt p n))))
+  pub taking-present : kindAt p n ≡ 29 → {a : ℕ} {q : Event} {v : ℕ} {u : Tally} {r : Evaluated} → a ≡ aAt p n → r ≡ evalE env (exprAt p a)
+      → partsOf r ≡ Maybe q u → q ≡ Occurs v → evalE env (exprAt p n) ≡ rule (after u (evalE (bind env n (unpacked v)) (exprAt p (cAt p n))))
   taking-present e {a} {q} {v} {u} {r} ea er g h =
       taking-eval e ∙ rw (← ea, ← er) (ap rule (take-present _ _ r (g ∙ ap (λ (x : Event). Maybe x u) h)))
 

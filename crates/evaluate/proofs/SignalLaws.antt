@@ -28,15 +28,15 @@ use Rattle.rules.proofs.Within.{evalS-within}
 use Rattle.rules.proofs.CellNumbers.{cell-below}
 use Rattle.rules.proofs.Branches.{Found, found, missing-evaluates}
 use Rattle.cells.specs.Indexed.{Indexed}
-use Rattle.values.specs.Combine.{workOf}
-use Rattle.values.proofs.Outcomes.{work-within}
+use Rattle.outcomes.specs.Combine.{workOf}
+use Rattle.outcomes.proofs.Outcomes.{work-within}
 use Rattle.evaluate.proofs.ExprLaws.{PartE}
 
 -- Node x is a signal below node n, and its tree's bound is small.
 pub record PartS (p : Bytes) (n x : ℕ) : Type 0 where
   pub less : x < n
   pub node : NodeOf isSignal p x
-  pub small : boundS (signalAt p x) < 4294967296
+  pub small : boundS (signalAt p x) < 65535
 
 -- The same part, by the field that was read.
 pub read-s : {p : Bytes} {n x y : ℕ} → x ≡ y → PartS p n y → PartS p n x
@@ -44,7 +44,7 @@ read-s {p} {n} e k = subst (PartS p n) (sym e) k
 
 -- What a part's evaluation counts is small.
 pub part-work-s : {p : Bytes} {n x : ℕ} {r : Evaluated} (rec st : Bytes) (env : Env) → PartS p n x → r ≡ evalS rec st env (signalAt p x)
-    → workOf r < 4294967296
+    → workOf r < 65535
 part-work-s {p} {n} {x} rec st env k e = rw e (omega (arith, work-within _ (evalS-within rec st env (signalAt p x)), k .small))
 
 -- The branch of a group that its cell names: the branch's node, and its body.
@@ -53,7 +53,7 @@ pub record PartB (p : Bytes) (n which : ℕ) : Type 0 where
   pub node : NodeOf isBranch p which
   pub body : PartS p n (aAt p which)
 
-module _ (p : Bytes) (n : ℕ) (w : NodeOf isSignal p n) (s : boundS (signalAt p n) < 4294967296) where
+module _ (p : Bytes) (n : ℕ) (w : NodeOf isSignal p n) (s : boundS (signalAt p n) < 65535) where
   pub ext-part : kindAt p n ≡ 3 → PartE p n (aAt p n)
   unfolding boundS
   ext-part e =

@@ -19,6 +19,7 @@ use outcomes::Parts;
 use outcomes::Shown;
 use outcomes::apart;
 use outcomes::chosen;
+use outcomes::constant;
 use outcomes::exactly;
 use outcomes::given;
 use outcomes::held;
@@ -32,7 +33,6 @@ use outcomes::variable;
 use rules::INT;
 use rules::Value;
 use table::node;
-use values::value_from;
 
 // Expression i. If and take evaluate one arm only.
 fn eval_e(p: &&[u8], env: &mut [u64; 1008], i: usize) -> u64
@@ -43,7 +43,7 @@ fn eval_e(p: &&[u8], env: &mut [u64; 1008], i: usize) -> u64
     let k = n.kind;
     match k {
         16 => variable(env, n.a),
-        17 => given(value_from(n.ty, n.b, n.word)),
+        17 => constant(n.ty, n.b, n.word),
         24 => negated(eval_e(p, env, n.a)),
         27 => {
             let test = eval_e(p, env, n.a);

@@ -2,7 +2,7 @@
 ghost use mathlib.Core.Path.{_≡_};
 ghost use mathlib.Core.Bool.{true};
 ghost use Prim.Native.Nat.{_+_, _*_, _<_};
-ghost use Rattle.rules.specs.Values.{isPlain, packed, unpacked, typeIn, presentIn, middleIn, wordIn};
+ghost use Rattle.rules.specs.Values.{isPlain, valueFrom, packed, unpacked, typeIn, presentIn, middleIn, wordIn};
 ghost use Rattle.rules.specs.Operations.{operandType};
 ghost use Rattle.rules.specs.Work.{give, after as afterOf, rule};
 ghost use Rattle.rules.specs.Evaluate.{look as lookOf, operated as operatedOf, negated as negatedOf, lifted as liftedOf};
@@ -18,6 +18,7 @@ use rules::Word;
 use values::is_maybe;
 use values::is_plain;
 use values::pack;
+use values::value_from;
 use words::apply;
 
 // The arm that an if evaluates, with what its test counted.
@@ -113,6 +114,13 @@ pub fn given(v: Value) -> u64
     ensures { λ s. ⌜ (outcomeIn s ≡ rule (give v)) × IsOutcome s ⌝ }
 {
     outcome(v, 1)
+}
+
+// A constant, by one rule.
+pub fn constant(t: u8, present: usize, word: u32) -> u64
+    ensures { λ s. ⌜ (outcomeIn s ≡ rule (give (valueFrom t present word))) × IsOutcome s ⌝ }
+{
+    given(value_from(t, present, word))
 }
 
 // The value that a cell's content stands for, by one rule.

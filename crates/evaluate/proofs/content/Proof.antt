@@ -15,11 +15,11 @@ number-of-requires c κs = search needs
 
 -- src/lib.rt:93:5
 cell-requires : tie.Need-cell-requires
-cell-requires c κs = rw (@number-of .ensures) (@pre .1)
+cell-requires c κs = rw (c .number-of .ensures) (c .before .before .before .pre .1)
 
 -- src/lib.rt:88:1
 returns : tie.Need-returns
-returns c = rw (← @number-of .ensures) (@cell .ensures)
+returns c = rw (← c .before .number-of .ensures) (c .cell .ensures)
 
 pub content-spec : {M : Type 1} → statement M
 content-spec = tie.close (tie.spec number-of-requires cell-requires returns)

@@ -26,7 +26,8 @@ use Rattle.outcomes.specs.Outcome.{outcomeIn, IsOutcome, IsProper}
 use Rattle.outcomes.specs.declared.Arm.the-variants.{Go, Neither}
 use Rattle.outcomes.specs.declared.Event.the-variants.{Occurs, Quiet}
 use Rattle.outcomes.specs.declared.Parts.the-variants.{Maybe, Wrong}
-use Rattle.outcomes.proofs.Numbers.{Gives, gives-stuck, outcome-done, outcome-stuck, work-is, plain-in, absent-in, present-in, proper-present}
+use Rattle.outcomes.proofs.Numbers.{plain-in, absent-in, present-in, proper-present}
+use Rattle.outcomes.proofs.Counted.{Gives, gives-stuck, outcome-done, outcome-stuck, work-is}
 
 pub plain-most : (t : ℕ) → isPlain t ≡ true → t ≤ 3
 unfolding isPlain

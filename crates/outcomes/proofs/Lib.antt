@@ -1,3 +1,5 @@
 pub mod Combining
+pub mod Counted
 pub mod Numbers
 pub mod Outcomes
+pub mod Slots

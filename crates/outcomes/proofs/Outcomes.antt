@@ -1,12 +1,14 @@
--- Laws for those who call: the arm of an if, the parts of a maybe, and that no count is too large.
+-- Laws for those who call, with those of the other files that they cite: the arm of an if, the parts of a maybe, an outcome taken apart,
+-- and that no count is too large.
 -- Assumes nothing.
-use mathlib.Core.Path.{_≡_, refl, ap, subst}
+use mathlib.Core.Path.{_≡_, refl, ap, subst, sym, _∙_}
 use mathlib.Core.Bool.{Bool, true, false}
-use Prim.Native.Nat.{ℕ, _≤_, _-_}
+use Prim.Native.Nat.{ℕ, _≤_, _-_, _+_, _*_}
 use native.Mathlib.Omega.{arith}
-use borrow.Author.Tests.{leb-true}
+use lib.Dec.{eqb}
+use borrow.Author.Tests.{leb-true, eqb-false}
 use Rattle.rules.specs.Bytes.{if_then_else_}
-use Rattle.rules.specs.Values.{boolT, isMaybe, packed, unpacked}
+use Rattle.rules.specs.Values.{boolT, isMaybe, packed, unpacked, valueFrom, typeIn, presentIn, middleIn, wordIn}
 use Rattle.rules.specs.Operations.{isTrue}
 use Rattle.rules.specs.Work.{after}
 use Rattle.rules.specs.Evaluate.{plainWord, opened, armOf as pickArm, chosen, takeArm, taken}
@@ -23,14 +25,17 @@ use Rattle.rules.proofs.Round.{plain-yes}
 use Rattle.rules.proofs.Static.{and-both}
 use Rattle.rules.proofs.Within.{Within}
 use Rattle.outcomes.specs.Combine.{workOf, armBy, armOf, partsBy, partsOf}
-use Rattle.outcomes.specs.Outcome.{IsValue, IsProper}
-use Rattle.outcomes.specs.declared.Arm.{Arm}
+use Rattle.outcomes.specs.Outcome.{IsValue, IsProper, outcomeIn, IsOutcome, valueIn, shownIn}
 use Rattle.outcomes.specs.declared.Arm.the-variants.{Go, Neither}
 use Rattle.outcomes.specs.declared.Event.{Event}
 use Rattle.outcomes.specs.declared.Event.the-variants.{Occurs, Quiet}
-use Rattle.outcomes.specs.declared.Parts.{Parts}
 use Rattle.outcomes.specs.declared.Parts.the-variants.{Maybe, Wrong}
-use Rattle.outcomes.proofs.Numbers.{proper-plain}
+use Rattle.outcomes.specs.declared.Shown.{Shown}
+use Rattle.outcomes.proofs.Numbers.{proper-plain, exact-value}
+use Rattle.outcomes.proofs.Counted.{outcome-done, work-is, outcome-exact}
+pub use Rattle.outcomes.proofs.Numbers.{proper-from, proper-int, proper-channel, proper-meaning, proper-value, exact-same, exact-value}
+pub use Rattle.outcomes.proofs.Slots.{slots-none, slots-set, bind-value}
+pub use Rattle.outcomes.proofs.Counted.{work-is}
 
 -- No constructor is another.
 apart-arms : {m : ℕ} {w : Tally} → Neither ≡ Go m w → ⊥
@@ -193,3 +198,56 @@ take-work Stuck e = absurd (parts-apart e)
 pub work-within : (r : Evaluated) {b : ℕ} → Within r b → workOf r ≤ b
 work-within (Done v w) h = h .most
 work-within Stuck h = omega arith
+
+-- An outcome taken apart: its value has the bytes, and what was counted left out.
+same-value : (m : ℕ) → unpacked (valueIn m) ≡ unpacked m
+unfolding unpacked typeIn presentIn wordIn valueIn
+same-value m =
+    let n : ℕ = valueIn m in
+    λ i. valueFrom
+    ((let e : typeIn n ≡ typeIn m = omega arith in e) i)
+    ((let e : presentIn n ≡ presentIn m = omega arith in e) i)
+    ((let e : wordIn n ≡ wordIn m = omega arith in e) i)
+
+value-parts : (m : ℕ) → m ≡ valueIn m + 65536 * middleIn m
+unfolding valueIn middleIn
+value-parts m = omega arith
+
+value-exact : (m : ℕ) → (m ≡ 0 → ⊥) → IsOutcome m → IsValue (valueIn m)
+value-exact m n h = let e : packed (unpacked m) ≡ valueIn m = omega (arith, outcome-exact m n h, value-parts m) in rw (← e) (exact-value m)
+
+stuck-value : {v : ℕ} {u : Tally} → Shown.Stuck ≡ Shown.Value v u → ⊥
+stuck-value e = let z : _≡_ {A = ℕ} 0 1 = cc in omega arith
+
+value-stuck : {v : ℕ} {u : Tally} → Shown.Value v u ≡ Shown.Stuck → ⊥
+value-stuck e = let z : _≡_ {A = ℕ} 0 1 = cc in omega arith
+
+-- by its number: 0, or another
+shown-some : (m : ℕ) {v : ℕ} {u : Tally} → shownIn m ≡ Shown.Value v u → ((m ≡ 0 → ⊥) × (v ≡ valueIn m)) × (u ≡ record { work = middleIn m })
+unfolding shownIn
+shown-some m {v} {u} h = go (eqb m 0) refl h
+  where
+    go : (b : Bool) → eqb m 0 ≡ b → (if b then Shown.Stuck else Shown.Value (valueIn m) (record { work = middleIn m })) ≡ Shown.Value v u
+        → ((m ≡ 0 → ⊥) × (v ≡ valueIn m)) × (u ≡ record { work = middleIn m })
+    go true e g = absurd (stuck-value g)
+    go false e g = ((eqb-false m 0 e, cc), cc)
+
+pub shown-value : (m : ℕ) {v : ℕ} {u : Tally} → shownIn m ≡ Shown.Value v u → outcomeIn m ≡ Done (unpacked v) u
+shown-value m h =
+    let g = shown-some m h in
+    cc (outcome-done m (g .0 .0), same-value m, g .0 .1, g .1)
+
+pub shown-exact : (m : ℕ) {v : ℕ} {u : Tally} → IsOutcome m → shownIn m ≡ Shown.Value v u → IsValue v
+shown-exact m e h = let g = shown-some m h in rw (g .0 .1) (value-exact m (g .0 .0) e)
+
+pub shown-work : (m : ℕ) {v : ℕ} {u : Tally} → shownIn m ≡ Shown.Value v u → u .work ≡ workOf (outcomeIn m)
+shown-work m h = let g = shown-some m h in ap (λ (t : Tally). t .work) (g .1) ∙ sym (work-is m)
+
+pub shown-stuck : (m : ℕ) → shownIn m ≡ Shown.Stuck → outcomeIn m ≡ Stuck
+unfolding shownIn outcomeIn
+shown-stuck m h = go (eqb m 0) h
+  where
+    go : (b : Bool) → (if b then Shown.Stuck else Shown.Value (valueIn m) (record { work = middleIn m })) ≡ Shown.Stuck
+        → (if b then Stuck else Done (unpacked m) (record { work = middleIn m })) ≡ Stuck
+    go true e = refl
+    go false e = absurd (value-stuck e)

@@ -28,7 +28,9 @@ is-plain-requires c κs = search needs
 
 -- src/lib.rt:244:9
 returns-2 : tie.Need-returns-2
-returns-2 c = parts-plain (c .before .before .before .before .args .r) (test-of isPlain (c .before .before .before .type-in .ensures) (c .before .is-plain .ensures) (c .if2 .taken))
+returns-2 c =
+    let from = c .before .before .before .before in
+    parts-plain (from .args .r) (test-of isPlain (c .before .before .before .type-in .ensures) (c .before .is-plain .ensures) (c .if2 .taken))
 
 -- src/lib.rt:247:15
 work-in-requires : tie.Need-work-in-requires
@@ -40,7 +42,9 @@ present-in-requires c κs = search needs
 
 -- src/lib.rt:250:9
 returns-3 : tie.Need-returns-3
-returns-3 c = parts-quiet (c .before .before .before .before .before .before .before .args .r) (c .before .before .before .before .before .if1 .left) (test-of isPlain (c .before .before .before .before .before .before .type-in .ensures) (c .before .before .before .before .is-plain .ensures) (c .before .before .before .if2 .left)) (c .before .before .work-in .ensures) (sym (c .before .present-in .ensures) ∙ c .if3 .taken)
+returns-3 c =
+    let from = c .before .before .before .before .before .before .before in
+    parts-quiet (from .args .r) (c .before .before .before .before .before .if1 .left) (test-of isPlain (c .before .before .before .before .before .before .type-in .ensures) (c .before .before .before .before .is-plain .ensures) (c .before .before .before .if2 .left)) (c .before .before .work-in .ensures) (sym (c .before .present-in .ensures) ∙ c .if3 .taken)
 
 -- src/lib.rt:252:8
 is-maybe-requires : tie.Need-is-maybe-requires
@@ -56,11 +60,15 @@ sub-t10 c = search needs
 
 -- src/lib.rt:253:9
 returns-4 : tie.Need-returns-4
-returns-4 c = parts-occurs (c .before .before .before .before .before .before .before .before .before .before .args .r) (c .before .before .before .before .before .before .before .before .if1 .left) (test-of isPlain (c .before .before .before .before .before .before .before .before .before .type-in .ensures) (c .before .before .before .before .before .before .before .is-plain .ensures) (c .before .before .before .before .before .before .if2 .left)) (c .before .before .before .before .before .work-in .ensures) (λ z. c .before .before .before .if3 .left (c .before .before .before .before .present-in .ensures ∙ z)) (test-of isMaybe (c .before .before .before .before .before .before .before .before .before .type-in .ensures) (c .before .before .is-maybe .ensures) (c .before .if4 .taken)) (c .full-in .ensures)
+returns-4 c =
+    let from = c .before .before .before .before .before .before .before .before .before .before in
+    parts-occurs (from .args .r) (c .before .before .before .before .before .before .before .before .if1 .left) (test-of isPlain (c .before .before .before .before .before .before .before .before .before .type-in .ensures) (c .before .before .before .before .before .before .before .is-plain .ensures) (c .before .before .before .before .before .before .if2 .left)) (c .before .before .before .before .before .work-in .ensures) (λ z. c .before .before .before .if3 .left (c .before .before .before .before .present-in .ensures ∙ z)) (test-of isMaybe (c .before .before .before .before .before .before .before .before .before .type-in .ensures) (c .before .before .is-maybe .ensures) (c .before .if4 .taken)) (c .full-in .ensures)
 
 -- src/lib.rt:236:1
 returns-5 : tie.Need-returns-5
-returns-5 c = parts-other (c .before .before .before .before .before .before .before .before .before .args .r) (c .before .before .before .before .before .before .before .if1 .left) (test-of isPlain (c .before .before .before .before .before .before .before .before .type-in .ensures) (c .before .before .before .before .before .before .is-plain .ensures) (c .before .before .before .before .before .if2 .left)) (λ z. c .before .before .if3 .left (c .before .before .before .present-in .ensures ∙ z)) (test-of isMaybe (c .before .before .before .before .before .before .before .before .type-in .ensures) (c .before .is-maybe .ensures) (c .if4 .left))
+returns-5 c =
+    let from = c .before .before .before .before .before .before .before .before .before in
+    parts-other (from .args .r) (c .before .before .before .before .before .before .before .if1 .left) (test-of isPlain (c .before .before .before .before .before .before .before .before .type-in .ensures) (c .before .before .before .before .before .before .is-plain .ensures) (c .before .before .before .before .before .if2 .left)) (λ z. c .before .before .if3 .left (c .before .before .before .present-in .ensures ∙ z)) (test-of isMaybe (c .before .before .before .before .before .before .before .before .type-in .ensures) (c .before .is-maybe .ensures) (c .if4 .left))
 
 pub apart-spec : {M : Type 1} → statement M
 apart-spec =

@@ -23,7 +23,9 @@ enum-told c = search needs
 
 -- src/lib.rt:224:9
 returns : tie.Need-returns
-returns c = arm-neither (c .before .before .before .args .r) (c .before .before .before .args .yes) (c .before .before .before .args .no) (c .before .before .plain-word .ensures) (c .enum-told .given .1)
+returns c =
+    let from = c .before .before .before in
+    arm-neither (from .args .r) (from .args .yes) (from .args .no) (c .before .before .plain-word .ensures) (c .enum-told .given .1)
 
 -- src/lib.rt:227:15
 work-in-requires : tie.Need-work-in-requires
@@ -31,11 +33,15 @@ work-in-requires c κs = search needs
 
 -- src/lib.rt:230:9
 returns-2 : tie.Need-returns-2
-returns-2 c = arm-first (c .before .before .before .before .before .before .args .r) (c .before .before .before .before .before .before .args .yes) (c .before .before .before .before .before .before .args .no) (c .before .before .before .before .before .plain-word .ensures) (c .before .before .before .w .given .1) (c .if1 .taken) (c .before .work-in .ensures)
+returns-2 c =
+    let from = c .before .before .before .before .before .before in
+    arm-first (from .args .r) (from .args .yes) (from .args .no) (c .before .before .before .before .before .plain-word .ensures) (c .before .before .before .w .given .1) (c .if1 .taken) (c .before .work-in .ensures)
 
 -- src/lib.rt:220:1
 returns-3 : tie.Need-returns-3
-returns-3 c = arm-second (c .before .before .before .before .before .before .args .r) (c .before .before .before .before .before .before .args .yes) (c .before .before .before .before .before .before .args .no) (c .before .before .before .before .before .plain-word .ensures) (c .before .before .before .w .given .1) (c .if1 .left) (c .before .work-in .ensures)
+returns-3 c =
+    let from = c .before .before .before .before .before .before in
+    arm-second (from .args .r) (from .args .yes) (from .args .no) (c .before .before .before .before .before .plain-word .ensures) (c .before .before .before .w .given .1) (c .if1 .left) (c .before .work-in .ensures)
 
 pub chosen-spec : {M : Type 1} → statement M
 chosen-spec =

@@ -25,7 +25,9 @@ full-in-requires c κs = search needs
 
 -- src/lib.rt:94:9
 returns : tie.Need-returns
-returns c = exact-plain (c .before .before .before .before .args .m) (test-of isPlain (c .before .before .before .type-in .ensures) (c .before .before .is-plain .ensures) (c .before .if1 .taken)) (c .full-in .ensures)
+returns c =
+    let from = c .before .before .before .before in
+    exact-plain (from .args .m) (test-of isPlain (c .before .before .before .type-in .ensures) (c .before .before .is-plain .ensures) (c .before .if1 .taken)) (c .full-in .ensures)
 
 -- src/lib.rt:96:8
 present-in-requires : tie.Need-present-in-requires
@@ -34,7 +36,9 @@ present-in-requires c κs = search needs
 -- src/lib.rt:97:9
 returns-2 : tie.Need-returns-2
 unfolding typeIn
-returns-2 c = exact-absent (c .before .before .before .before .before .args .m) (test-of isPlain (c .before .before .before .before .type-in .ensures) (c .before .before .before .is-plain .ensures) (c .before .before .if1 .left)) (sym (c .before .present-in .ensures) ∙ c .if2 .taken) (search needs)
+returns-2 c =
+    let from = c .before .before .before .before .before in
+    exact-absent (from .args .m) (test-of isPlain (c .before .before .before .before .type-in .ensures) (c .before .before .before .is-plain .ensures) (c .before .before .if1 .left)) (sym (c .before .present-in .ensures) ∙ c .if2 .taken) (search needs)
 
 -- src/lib.rt:99:5
 full-in-requires-2 : tie.Need-full-in-requires-2
@@ -42,7 +46,9 @@ full-in-requires-2 c κs = search needs
 
 -- src/lib.rt:90:1
 returns-3 : tie.Need-returns-3
-returns-3 c = exact-present (c .before .before .before .before .before .before .args .m) (test-of isPlain (c .before .before .before .before .before .type-in .ensures) (c .before .before .before .before .is-plain .ensures) (c .before .before .before .if1 .left)) (λ z. c .before .if2 .left (c .before .before .present-in .ensures ∙ z)) (c .full-in2 .ensures)
+returns-3 c =
+    let from = c .before .before .before .before .before .before in
+    exact-present (from .args .m) (test-of isPlain (c .before .before .before .before .before .type-in .ensures) (c .before .before .before .before .is-plain .ensures) (c .before .before .before .if1 .left)) (λ z. c .before .if2 .left (c .before .before .present-in .ensures ∙ z)) (c .full-in2 .ensures)
 
 pub exactly-spec : {M : Type 1} → statement M
 exactly-spec =

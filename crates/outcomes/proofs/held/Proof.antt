@@ -1,4 +1,5 @@
-use Rattle.outcomes.proofs.Numbers.{value-fits, exact-value, held-gives}
+use Rattle.outcomes.proofs.Numbers.{exact-value}
+use Rattle.outcomes.proofs.Counted.{value-fits, held-gives}
 use Rattle.rules.specs.Values.{packed, unpacked}
 use native.Mathlib.Omega.{arith}
 use borrow.Author.Needs.{needs}
@@ -14,7 +15,9 @@ exactly-requires c κs = search needs
 
 -- src/lib.rt:122:5
 add-result : tie.Need-add-result
-add-result c = omega (arith, value-fits (packed (unpacked (c .before .args .m))) 1 (exact-value (c .before .args .m)) (omega arith) (omega (arith, c .exactly .ensures)), c .exactly .ensures)
+add-result c =
+    let from = c .before in
+    omega (arith, value-fits (packed (unpacked (from .args .m))) 1 (exact-value (from .args .m)) (omega arith) (omega (arith, c .exactly .ensures)), c .exactly .ensures)
 
 -- src/lib.rt:119:1
 returns : tie.Need-returns

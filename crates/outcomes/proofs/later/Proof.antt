@@ -1,4 +1,4 @@
-use Rattle.outcomes.proofs.Numbers.{more-fits, work-is, later-stuck, later-gives}
+use Rattle.outcomes.proofs.Counted.{more-fits, work-is, later-stuck, later-gives}
 use Prim.Native.Nat.{_+_}
 use native.Mathlib.Omega.{arith}
 use borrow.Author.Needs.{needs}
@@ -25,7 +25,9 @@ add-result-2 c = let w = c .before .before .args .w in omega (arith, more-fits (
 
 -- src/lib.rt:137:1
 returns-2 : tie.Need-returns-2
-returns-2 c = later-gives (c .before .before .args .r) (c .before .if1 .left) (c .before .before .args .w) (c .before .before .pre .0) (c .before .before .pre .1)
+returns-2 c =
+    let from = c .before .before in
+    later-gives (from .args .r) (c .before .if1 .left) (from .args .w) (from .pre .0) (from .pre .1)
 
 pub later-spec : {M : Type 1} → statement M
 later-spec = tie.close (tie.spec returns add-result mul-result add-result-2 returns-2)

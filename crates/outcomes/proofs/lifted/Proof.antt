@@ -1,5 +1,6 @@
 use Rattle.outcomes.proofs.Combining.{plain-most, lifted-no, lifted-yes, lifted-proper}
-use Rattle.outcomes.proofs.Numbers.{test-of, work-is}
+use Rattle.outcomes.proofs.Numbers.{test-of}
+use Rattle.outcomes.proofs.Counted.{work-is}
 use Rattle.rules.specs.Values.{isPlain}
 use mathlib.Core.Path.{sym, _∙_}
 use native.Mathlib.Omega.{arith}
@@ -36,19 +37,27 @@ work-in-requires c κs = search needs
 
 -- src/lib.rt:214:63
 add-outcome : tie.Need-add-outcome
-add-outcome c = omega (arith, c .before .before .before .before .before .pre, work-is (c .before .before .before .before .before .args .r), c .work-in .ensures)
+add-outcome c =
+    let from = c .before .before .before .before .before in
+    omega (arith, from .pre, work-is (from .args .r), c .work-in .ensures)
 
 -- src/lib.rt:214:9
 outcome-requires : tie.Need-outcome-requires
-outcome-requires c κs = (lifted-proper _ _ (sym (c .before .before .before .is-plain .ensures) ∙ c .before .before .if1 .taken), omega arith, omega (arith, c .before .before .before .before .before .pre, work-is (c .before .before .before .before .before .args .r), c .work-in .ensures))
+outcome-requires c κs =
+    let from = c .before .before .before .before .before in
+    (lifted-proper _ _ (sym (c .before .before .before .is-plain .ensures) ∙ c .before .before .if1 .taken), omega arith, omega (arith, from .pre, work-is (from .args .r), c .work-in .ensures))
 
 -- src/lib.rt:214:9
 returns : tie.Need-returns
-returns c = lifted-yes (c .before .before .before .before .before .before .args .r) (c .before .before .before .before .before .type-in .ensures) (sym (c .before .before .before .before .is-plain .ensures) ∙ c .before .before .before .if1 .taken) (c .before .before .word-in .ensures) (c .before .work-in .ensures) (c .outcome .ensures)
+returns c =
+    let from = c .before .before .before .before .before .before in
+    lifted-yes (from .args .r) (c .before .before .before .before .before .type-in .ensures) (sym (c .before .before .before .before .is-plain .ensures) ∙ c .before .before .before .if1 .taken) (c .before .before .word-in .ensures) (c .before .work-in .ensures) (c .outcome .ensures)
 
 -- src/lib.rt:208:1
 returns-2 : tie.Need-returns-2
-returns-2 c = lifted-no (c .before .before .before .args .r) (test-of isPlain (c .before .before .type-in .ensures) (c .before .is-plain .ensures) (c .if1 .left))
+returns-2 c =
+    let from = c .before .before .before in
+    lifted-no (from .args .r) (test-of isPlain (c .before .before .type-in .ensures) (c .before .is-plain .ensures) (c .if1 .left))
 
 pub lifted-spec : {M : Type 1} → statement M
 lifted-spec =

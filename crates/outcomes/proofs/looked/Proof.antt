@@ -1,6 +1,6 @@
 use native.Mathlib.Omega.{arith}
 use lib.ListN.{List·getD-eq-default, getD}
-use Rattle.outcomes.proofs.Numbers.{value-fits, look-stuck, look-gives}
+use Rattle.outcomes.proofs.Counted.{value-fits, look-stuck, look-gives}
 use borrow.Author.Needs.{needs}
 use Rattle.outcomes.proofs.looked.Statement.{statement}
 use Rattle.outcomes.proofs.looked.Tie as tie

@@ -1,5 +1,6 @@
 use Rattle.outcomes.proofs.Combining.{negated-none, negated-false, negated-true}
-use Rattle.outcomes.proofs.Numbers.{work-is, proper-bool}
+use Rattle.outcomes.proofs.Numbers.{proper-bool}
+use Rattle.outcomes.proofs.Counted.{work-is}
 use Rattle.rules.proofs.Round.{plain-yes}
 use native.Mathlib.Omega.{arith}
 use borrow.Author.Needs.{needs}
@@ -25,7 +26,9 @@ enum-told c = search needs
 
 -- src/lib.rt:198:9
 returns : tie.Need-returns
-returns c = negated-none (c .before .before .before .args .r) (c .before .before .plain-word .ensures) (c .enum-told .given .1)
+returns c =
+    let from = c .before .before .before in
+    negated-none (from .args .r) (c .before .before .plain-word .ensures) (c .enum-told .given .1)
 
 -- src/lib.rt:200:17
 work-in-requires : tie.Need-work-in-requires
@@ -33,23 +36,33 @@ work-in-requires c κs = search needs
 
 -- src/lib.rt:200:17
 add-count : tie.Need-add-count
-add-count c = omega (arith, c .before .before .before .before .before .pre, work-is (c .before .before .before .before .before .args .r), c .work-in .ensures)
+add-count c =
+    let from = c .before .before .before .before .before in
+    omega (arith, from .pre, work-is (from .args .r), c .work-in .ensures)
 
 -- src/lib.rt:202:9
 outcome-requires : tie.Need-outcome-requires
-outcome-requires c κs = (proper-bool 1, omega arith, omega (arith, c .before .before .before .before .before .before .pre, work-is (c .before .before .before .before .before .before .args .r), c .before .work-in .ensures))
+outcome-requires c κs =
+    let from = c .before .before .before .before .before .before in
+    (proper-bool 1, omega arith, omega (arith, from .pre, work-is (from .args .r), c .before .work-in .ensures))
 
 -- src/lib.rt:202:9
 returns-2 : tie.Need-returns-2
-returns-2 c = negated-false (c .before .before .before .before .before .before .before .args .r) (c .before .before .before .before .before .before .plain-word .ensures) (c .before .before .before .before .w .given .1) (c .before .if1 .taken) (c .before .before .work-in .ensures) (c .outcome .ensures)
+returns-2 c =
+    let from = c .before .before .before .before .before .before .before in
+    negated-false (from .args .r) (c .before .before .before .before .before .before .plain-word .ensures) (c .before .before .before .before .w .given .1) (c .before .if1 .taken) (c .before .before .work-in .ensures) (c .outcome .ensures)
 
 -- src/lib.rt:204:5
 outcome-requires-2 : tie.Need-outcome-requires-2
-outcome-requires-2 c κs = (proper-bool 0, omega arith, omega (arith, c .before .before .before .before .before .before .pre, work-is (c .before .before .before .before .before .before .args .r), c .before .work-in .ensures))
+outcome-requires-2 c κs =
+    let from = c .before .before .before .before .before .before in
+    (proper-bool 0, omega arith, omega (arith, from .pre, work-is (from .args .r), c .before .work-in .ensures))
 
 -- src/lib.rt:193:1
 returns-3 : tie.Need-returns-3
-returns-3 c = negated-true (c .before .before .before .before .before .before .before .args .r) (c .before .before .before .before .before .before .plain-word .ensures) (c .before .before .before .before .w .given .1) (c .before .if1 .left) (c .before .before .work-in .ensures) (c .outcome2 .ensures)
+returns-3 c =
+    let from = c .before .before .before .before .before .before .before in
+    negated-true (from .args .r) (c .before .before .before .before .before .before .plain-word .ensures) (c .before .before .before .before .w .given .1) (c .before .if1 .left) (c .before .before .work-in .ensures) (c .outcome2 .ensures)
 
 pub negated-spec : {M : Type 1} → statement M
 negated-spec =

@@ -1,5 +1,6 @@
 use Rattle.outcomes.proofs.Combining.{operated-left, operated-right, operated-done}
-use Rattle.outcomes.proofs.Numbers.{work-is, proper-meaning}
+use Rattle.outcomes.proofs.Numbers.{proper-meaning}
+use Rattle.outcomes.proofs.Counted.{work-is}
 use mathlib.Core.Path.{refl}
 use native.Mathlib.Omega.{arith}
 use borrow.Author.Needs.{needs}
@@ -31,7 +32,9 @@ enum-told c = search needs
 
 -- src/lib.rt:184:9
 returns : tie.Need-returns
-returns c = operated-left (c .before .before .before .before .args .k) (c .before .before .before .before .args .r) (c .before .before .before .before .args .s) (c .before .before .before .operand-type .ensures .0) (c .before .before .plain-word .ensures) refl (c .enum-told .given .1)
+returns c =
+    let from = c .before .before .before .before in
+    operated-left (from .args .k) (from .args .r) (from .args .s) (c .before .before .before .operand-type .ensures .0) (c .before .before .plain-word .ensures) refl (c .enum-told .given .1)
 
 -- src/lib.rt:186:23
 plain-word-requires-2 : tie.Need-plain-word-requires-2
@@ -47,7 +50,9 @@ enum-told-2 c = search needs
 
 -- src/lib.rt:187:9
 returns-2 : tie.Need-returns-2
-returns-2 c = operated-right (c .before .before .before .before .before .before .before .before .args .k) (c .before .before .before .before .before .before .before .before .args .r) (c .before .before .before .before .before .before .before .before .args .s) (c .before .before .before .before .before .before .before .operand-type .ensures .0) (c .before .before .before .before .before .before .plain-word .ensures) (c .before .before .plain-word2 .ensures) (c .before .before .before .before .x .given .1) (c .enum-told2 .given .1)
+returns-2 c =
+    let from = c .before .before .before .before .before .before .before .before in
+    operated-right (from .args .k) (from .args .r) (from .args .s) (c .before .before .before .before .before .before .before .operand-type .ensures .0) (c .before .before .before .before .before .before .plain-word .ensures) (c .before .before .plain-word2 .ensures) (c .before .before .before .before .x .given .1) (c .enum-told2 .given .1)
 
 -- src/lib.rt:189:13
 apply-requires : tie.Need-apply-requires
@@ -63,19 +68,27 @@ work-in-requires-2 c κs = search needs
 
 -- src/lib.rt:189:29
 add-outcome : tie.Need-add-outcome
-add-outcome c = omega (arith, c .before .before .before .before .before .before .before .before .before .before .before .before .pre, work-is (c .before .before .before .before .before .before .before .before .before .before .before .before .args .r), work-is (c .before .before .before .before .before .before .before .before .before .before .before .before .args .s), c .before .work-in .ensures, c .work-in2 .ensures)
+add-outcome c =
+    let from = c .before .before .before .before .before .before .before .before .before .before .before .before in
+    omega (arith, from .pre, work-is (from .args .r), work-is (from .args .s), c .before .work-in .ensures, c .work-in2 .ensures)
 
 -- src/lib.rt:189:29
 add-outcome-2 : tie.Need-add-outcome-2
-add-outcome-2 c = omega (arith, c .before .before .before .before .before .before .before .before .before .before .before .before .pre, work-is (c .before .before .before .before .before .before .before .before .before .before .before .before .args .r), work-is (c .before .before .before .before .before .before .before .before .before .before .before .before .args .s), c .before .work-in .ensures, c .work-in2 .ensures)
+add-outcome-2 c =
+    let from = c .before .before .before .before .before .before .before .before .before .before .before .before in
+    omega (arith, from .pre, work-is (from .args .r), work-is (from .args .s), c .before .work-in .ensures, c .work-in2 .ensures)
 
 -- src/lib.rt:189:5
 outcome-requires : tie.Need-outcome-requires
-outcome-requires c κs = (rw (c .before .before .apply .ensures) (proper-meaning _ _ _), omega arith, omega (arith, c .before .before .before .before .before .before .before .before .before .before .before .before .pre, work-is (c .before .before .before .before .before .before .before .before .before .before .before .before .args .r), work-is (c .before .before .before .before .before .before .before .before .before .before .before .before .args .s), c .before .work-in .ensures, c .work-in2 .ensures))
+outcome-requires c κs =
+    let from = c .before .before .before .before .before .before .before .before .before .before .before .before in
+    (rw (c .before .before .apply .ensures) (proper-meaning _ _ _), omega arith, omega (arith, from .pre, work-is (from .args .r), work-is (from .args .s), c .before .work-in .ensures, c .work-in2 .ensures))
 
 -- src/lib.rt:178:1
 returns-3 : tie.Need-returns-3
-returns-3 c = operated-done (c .before .before .before .before .before .before .before .before .before .before .before .before .before .args .k) (c .before .before .before .before .before .before .before .before .before .before .before .before .before .args .r) (c .before .before .before .before .before .before .before .before .before .before .before .before .before .args .s) (c .before .before .before .before .before .before .before .before .before .before .before .before .operand-type .ensures .0) (c .before .before .before .before .before .before .before .before .before .before .before .plain-word .ensures) (c .before .before .before .before .before .before .before .plain-word2 .ensures) (c .before .before .before .before .before .before .before .before .before .x .given .1) (c .before .before .before .before .before .y .given .1) (c .before .before .before .apply .ensures) (c .before .before .work-in .ensures) (c .before .work-in2 .ensures) (c .outcome .ensures)
+returns-3 c =
+    let from = c .before .before .before .before .before .before .before .before .before .before .before .before .before in
+    operated-done (from .args .k) (from .args .r) (from .args .s) (c .before .before .before .before .before .before .before .before .before .before .before .before .operand-type .ensures .0) (c .before .before .before .before .before .before .before .before .before .before .before .plain-word .ensures) (c .before .before .before .before .before .before .before .plain-word2 .ensures) (c .before .before .before .before .before .before .before .before .before .x .given .1) (c .before .before .before .before .before .y .given .1) (c .before .before .before .apply .ensures) (c .before .before .work-in .ensures) (c .before .work-in2 .ensures) (c .outcome .ensures)
 
 pub operated-spec : {M : Type 1} → statement M
 operated-spec =

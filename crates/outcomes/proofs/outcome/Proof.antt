@@ -1,4 +1,5 @@
-use Rattle.outcomes.proofs.Numbers.{value-fits, proper-value, outcome-gives}
+use Rattle.outcomes.proofs.Numbers.{proper-value}
+use Rattle.outcomes.proofs.Counted.{value-fits, outcome-gives}
 use Rattle.rules.specs.Values.{packed}
 use native.Mathlib.Omega.{arith}
 use borrow.Author.Needs.{needs}
@@ -18,11 +19,15 @@ mul-result c = search needs
 
 -- src/lib.rt:107:5
 add-result : tie.Need-add-result
-add-result c = omega (arith, value-fits (packed (c .before .args .v)) (c .before .args .work) (proper-value (c .before .args .v) (c .before .pre .0)) (c .before .pre .2) (omega (arith, c .pack .ensures)), c .pack .ensures)
+add-result c =
+    let from = c .before in
+    omega (arith, value-fits (packed (from .args .v)) (from .args .work) (proper-value (from .args .v) (from .pre .0)) (from .pre .2) (omega (arith, c .pack .ensures)), c .pack .ensures)
 
 -- src/lib.rt:103:1
 returns : tie.Need-returns
-returns c = outcome-gives (c .before .args .v) (c .before .args .work) (c .pack .ensures) (c .before .pre .0) (c .before .pre .1) (c .before .pre .2)
+returns c =
+    let from = c .before in
+    outcome-gives (from .args .v) (from .args .work) (c .pack .ensures) (from .pre .0) (from .pre .1) (from .pre .2)
 
 pub outcome-spec : {M : Type 1} → statement M
 outcome-spec = tie.close (tie.spec pack-requires mul-result add-result returns)

@@ -18,11 +18,15 @@ word-in-requires c κs = search needs
 
 -- src/lib.rt:163:1
 returns : tie.Need-returns
-returns c = word-yes (c .before .before .before .args .t) (c .before .before .before .args .m) (c .before .before .before .pre) (sym (c .before .before .type-in .ensures) ∙ c .before .if1 .taken) (c .word-in .ensures)
+returns c =
+    let from = c .before .before .before in
+    word-yes (from .args .t) (from .args .m) (from .pre) (sym (c .before .before .type-in .ensures) ∙ c .before .if1 .taken) (c .word-in .ensures)
 
 -- src/lib.rt:163:1
 returns-2 : tie.Need-returns-2
-returns-2 c = word-no (c .before .before .args .t) (c .before .before .args .m) λ z. c .if1 .left (c .before .type-in .ensures ∙ z)
+returns-2 c =
+    let from = c .before .before in
+    word-no (from .args .t) (from .args .m) λ z. c .if1 .left (c .before .type-in .ensures ∙ z)
 
 pub plain-word-spec : {M : Type 1} → statement M
 plain-word-spec = tie.close (tie.spec type-in-requires word-in-requires returns returns-2)

@@ -1,4 +1,4 @@
-use Rattle.outcomes.proofs.Numbers.{more-fits, work-is, rule-stuck, rule-gives}
+use Rattle.outcomes.proofs.Counted.{more-fits, work-is, rule-stuck, rule-gives}
 use native.Mathlib.Omega.{arith}
 use Rattle.outcomes.proofs.ruled.Statement.{statement}
 use Rattle.outcomes.proofs.ruled.Tie as tie
@@ -11,7 +11,9 @@ returns c = rule-stuck (c .before .args .r) (c .if1 .taken)
 
 -- src/lib.rt:133:5
 add-result : tie.Need-add-result
-add-result c = omega (arith, more-fits (c .before .args .r) 1 (omega (arith, work-is (c .before .args .r), c .before .pre .1)) (omega arith))
+add-result c =
+    let from = c .before in
+    omega (arith, more-fits (from .args .r) 1 (omega (arith, work-is (from .args .r), from .pre .1)) (omega arith))
 
 -- src/lib.rt:126:1
 returns-2 : tie.Need-returns-2

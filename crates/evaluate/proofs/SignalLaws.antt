@@ -47,6 +47,12 @@ pub part-work-s : {p : Bytes} {n x : ℕ} {r : Evaluated} (rec st : Bytes) (env 
     → workOf r < 65535
 part-work-s {p} {n} {x} rec st env k e = rw e (omega (arith, work-within _ (evalS-within rec st env (signalAt p x)), k .small))
 
+-- What a definition and a body count together is small.
+pub let-work : (p : Bytes) (x y : ℕ) {r s : Evaluated} (rec st : Bytes) (env₁ env₂ : Env) → boundS (signalAt p x) + boundS (signalAt p y) < 65535
+    → r ≡ evalS rec st env₁ (signalAt p x) → s ≡ evalS rec st env₂ (signalAt p y) → workOf r + workOf s < 65535
+let-work p x y rec st env₁ env₂ k e f =
+    rw (e, f) (omega (arith, work-within _ (evalS-within rec st env₁ (signalAt p x)), work-within _ (evalS-within rec st env₂ (signalAt p y)), k))
+
 -- The branch of a group that its cell names: the branch's node, and its body.
 pub record PartB (p : Bytes) (n which : ℕ) : Type 0 where
   pub less : which < n
@@ -68,6 +74,10 @@ module _ (p : Bytes) (n : ℕ) (w : NodeOf isSignal p n) (s : boundS (signalAt p
         record { less = k .0 .less; node = k .0 .node; small = omega arith },
         record { less = k .1 .less; node = k .1 .node; small = omega arith },
       )
+
+  pub let-pair : kindAt p n ≡ 5 → {a b : ℕ} → a ≡ aAt p n → b ≡ bAt p n → boundS (signalAt p a) + boundS (signalAt p b) < 65535
+  unfolding boundS
+  let-pair e ea eb = rw (ea, eb) (omega (arith, ap boundS (let-tree p n w e), s))
 
   pub switch-parts : kindAt p n ≡ 6 → PartS p n (aAt p n) × PartS p n (cAt p n)
   unfolding boundS
@@ -140,6 +150,11 @@ module _ (p : Bytes) (n : ℕ) (w : NodeOf isSignal p n) (rec st : Bytes) (env :
   pub until-eval : kindAt p n ≡ 8 → evalS rec st env (signalAt p n) ≡ rule (evalS rec st env (signalAt p (aAt p n)))
   unfolding evalS
   until-eval e = ap (evalS rec st env) (until-tree p n w e)
+
+  -- One rule over a part that is evaluated with a value bound, by the fields that were read.
+  pub bound-goes : (b : ℕ) {v u : Value} {a k : ℕ} {x y : Evaluated} → v ≡ u → a ≡ k → x ≡ evalS rec st (bind env b v) (signalAt p a) → y ≡ rule x
+      → y ≡ rule (evalS rec st (bind env b u) (signalAt p k))
+  bound-goes b e f g h = h ∙ rw (g, e, f)
 
   let-eval : kindAt p n ≡ 5
       → evalS rec st env (signalAt p n)

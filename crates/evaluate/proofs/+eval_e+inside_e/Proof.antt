@@ -1,7 +1,7 @@
 use Rattle.evaluate.proofs.ExprLaws.{read, part-work, negation-part, just-part, choice-parts, taking-parts, operation-parts, chosen-part, pair-work, operation-pair, choice-pair, taking-pairs, variable-eval, constant-eval, negation-eval, just-eval, operation-eval, choice-goes, choice-stuck, taking-present, taking-absent, taking-stuck, put-back}
-use Rattle.outcomes.proofs.Numbers.{proper-from, gives-stuck, slots-set, bind-value}
+use Rattle.outcomes.proofs.Counted.{gives-stuck}
 use Rattle.outcomes.specs.Outcome.{outcomeIn, Slots}
-use Rattle.outcomes.proofs.Outcomes.{arm-work, take-work, take-value}
+use Rattle.outcomes.proofs.Outcomes.{arm-work, take-work, take-value, slots-set, bind-value}
 use Rattle.rules.proofs.Expressions.{left}
 use Rattle.rules.specs.Evaluate.{evalE}
 use Rattle.rules.specs.Tree.{exprAt}
@@ -20,18 +20,17 @@ use Rattle.evaluate.proofs.+eval_e+inside_e.Lts-eval_e as eval-e-lts
 use Rattle.evaluate.proofs.inside_e.Reads as inside-e
 use Rattle.evaluate.proofs.inside_e.Kinds as inside-e-kinds
 use Rattle.evaluate.proofs.+eval_e+inside_e.Lts-inside_e as inside-e-lts
-use Rattle.values.proofs.value_from.Reads as value-from-reads
 use Rattle.evaluate.proofs.+eval_e+inside_e.{statement}
 use Rattle.evaluate.proofs.+eval_e+inside_e.Tie.{close}
 use Rattle.outcomes.proofs.apart.Reads as apart-reads
 use Rattle.outcomes.proofs.chosen.Reads as chosen-reads
-use Rattle.outcomes.proofs.given.Reads as given-reads
 use Rattle.outcomes.proofs.later.Reads as later-reads
 use Rattle.outcomes.proofs.lifted.Reads as lifted-reads
 use Rattle.outcomes.proofs.negated.Reads as negated-reads
 use Rattle.outcomes.proofs.operated.Reads as operated-reads
 use Rattle.outcomes.proofs.variable.Reads as variable-reads
 use Rattle.table.proofs.node.Reads as node-reads
+use Rattle.outcomes.proofs.constant.Reads as constant-reads
 
 abbrev μ-eval-e : Measures 3 eval-e-kinds.ps ℕ
 μ-eval-e κs a = 2 * a .1 .1 .0
@@ -53,7 +52,7 @@ inside-e-below t =
     and 3 inside-e-kinds.ps (falls 3 inside-e-kinds.ps _<_ μ-inside-e t) inside-e.Pre
 
 abbrev eval-e-calls : ℕ → eval-e-lts.Claims
-eval-e-calls t = (node-reads.Asked, node-reads.Learnt, variable-reads.Asked, variable-reads.Learnt, value-from-reads.Asked, value-from-reads.Learnt, given-reads.Asked, given-reads.Learnt, eval-e-below t, eval-e.Post, negated-reads.Asked, negated-reads.Learnt, chosen-reads.Asked, chosen-reads.Learnt, later-reads.Asked, later-reads.Learnt, lifted-reads.Asked, lifted-reads.Learnt, apart-reads.Asked, apart-reads.Learnt, inside-e-below t, inside-e.Post, operated-reads.Asked, operated-reads.Learnt)
+eval-e-calls t = (node-reads.Asked, node-reads.Learnt, variable-reads.Asked, variable-reads.Learnt, constant-reads.Asked, constant-reads.Learnt, eval-e-below t, eval-e.Post, negated-reads.Asked, negated-reads.Learnt, chosen-reads.Asked, chosen-reads.Learnt, later-reads.Asked, later-reads.Learnt, lifted-reads.Asked, lifted-reads.Learnt, apart-reads.Asked, apart-reads.Learnt, inside-e-below t, inside-e.Post, operated-reads.Asked, operated-reads.Learnt)
 
 abbrev inside-e-calls : ℕ → inside-e-lts.Claims
 inside-e-calls t = (eval-e-below t, eval-e.Post)
@@ -66,13 +65,9 @@ eval-e-node-requires t c κs = (omega (arith, c .before .pre .1 .node .inside, c
 eval-e-variable-requires : (t : ℕ) → eval-e-lts.Need-variable-requires (eval-e-calls t) (eval-e-at t) eval-e.Post
 eval-e-variable-requires t c κs = c .before .before .before .before .pre .1 .slots
 
--- src/lib.rt:46:21
-eval-e-value-from-requires : (t : ℕ) → eval-e-lts.Need-value-from-requires (eval-e-calls t) (eval-e-at t) eval-e.Post
-eval-e-value-from-requires t c κs = search needs
-
 -- src/lib.rt:46:15
-eval-e-given-requires : (t : ℕ) → eval-e-lts.Need-given-requires (eval-e-calls t) (eval-e-at t) eval-e.Post
-eval-e-given-requires t c κs = rw (c .value-from .ensures) (proper-from (c .before .before .node .ok .1 .0) _ _)
+eval-e-constant-requires : (t : ℕ) → eval-e-lts.Need-constant-requires (eval-e-calls t) (eval-e-at t) eval-e.Post
+eval-e-constant-requires t c κs = search needs
 
 -- src/lib.rt:47:23
 eval-e-eval-e-requires : (t : ℕ) → eval-e-lts.Need-eval-e-requires (eval-e-calls t) (eval-e-at t) eval-e.Post
@@ -311,12 +306,12 @@ eval-e-returns-4 t c =
 -- src/lib.rt:38:1
 eval-e-returns-5 : (t : ℕ) → eval-e-lts.Need-returns-5 (eval-e-calls t) (eval-e-at t) eval-e.Post
 eval-e-returns-5 t c =
-    let p = c .before .before .before .before .before .args .p .now .now in
-    let i = c .before .before .before .before .before .args .i in
-    let w = c .before .before .before .before .before .pre .1 .node in
-    let env = c .before .before .before .before .before .args .env .now in
-    let node = c .before .before .before .node .ensures in
-    (cc (constant-eval p i w env (sym (node .kind-is) ∙ c .before .before .match .keys2)), c .given .ensures .1, refl)
+    let p = c .before .before .before .before .args .p .now .now in
+    let i = c .before .before .before .before .args .i in
+    let w = c .before .before .before .before .pre .1 .node in
+    let env = c .before .before .before .before .args .env .now in
+    let node = c .before .before .node .ensures in
+    (cc (constant-eval p i w env (sym (node .kind-is) ∙ c .before .match .keys2)), c .constant .ensures .1, refl)
 
 -- src/lib.rt:38:1
 eval-e-returns-6 : (t : ℕ) → eval-e-lts.Need-returns-6 (eval-e-calls t) (eval-e-at t) eval-e.Post
@@ -417,8 +412,7 @@ pub +eval-e+inside-e-spec : {M : Type 1} → statement M
     eval-e.Post
     (eval-e-node-requires t)
     (eval-e-variable-requires t)
-    (eval-e-value-from-requires t)
-    (eval-e-given-requires t)
+    (eval-e-constant-requires t)
     (eval-e-eval-e-requires t)
     (eval-e-negated-requires t)
     (eval-e-eval-e-requires-2 t)

@@ -46,11 +46,11 @@ fn set_own(index: &[u16], st: &mut [u8], i: usize, m: u64)
 }
 
 // All cells of the signal at node i put to start.
-pub fn reset_s(p: &[u8], index: &[u16], st: &mut [u8], i: usize)
-    requires { ⌜ Stated isSignal (now p) (now index) (length (now st)) i ⌝ }
-    ensures { λ _. ⌜ now (st .exit) ≡ resetS (signalAt (now (p .entry)) i) (now (st .entry)) ⌝ }
+pub fn reset_s(p: &&[u8], index: &[u16; 1008], st: &mut [u8], i: usize)
+    requires { ⌜ Stated isSignal (now (now p)) (now index) (length (now st)) i ⌝ }
+    ensures { λ _. ⌜ now (st .exit) ≡ resetS (signalAt (now (now (p .entry))) i) (now (st .entry)) ⌝ }
 {
-    let n = fields(p, i);
+    let n = fields(*p, i);
     let k = n.kind;
     match k {
         4 => {
@@ -81,11 +81,11 @@ pub fn reset_s(p: &[u8], index: &[u16], st: &mut [u8], i: usize)
 }
 
 // All cells of the list of branches at node j put to start.
-pub fn reset_b(p: &[u8], index: &[u16], st: &mut [u8], j: usize)
-    requires { ⌜ Stated isBranch (now p) (now index) (length (now st)) j ⌝ }
-    ensures { λ _. ⌜ now (st .exit) ≡ resetB (branchesAt (now (p .entry)) j) (now (st .entry)) ⌝ }
+pub fn reset_b(p: &&[u8], index: &[u16; 1008], st: &mut [u8], j: usize)
+    requires { ⌜ Stated isBranch (now (now p)) (now index) (length (now st)) j ⌝ }
+    ensures { λ _. ⌜ now (st .exit) ≡ resetB (branchesAt (now (now (p .entry))) j) (now (st .entry)) ⌝ }
 {
-    let n = fields(p, j);
+    let n = fields(*p, j);
     reset_s(p, index, st, n.a);
     if n.b != 65535 {
         reset_b(p, index, st, n.b);
@@ -93,11 +93,11 @@ pub fn reset_b(p: &[u8], index: &[u16], st: &mut [u8], j: usize)
 }
 
 // All cells of the list of cases at node j put to start.
-pub fn reset_c(p: &[u8], index: &[u16], st: &mut [u8], j: usize)
-    requires { ⌜ Stated isCase (now p) (now index) (length (now st)) j ⌝ }
-    ensures { λ _. ⌜ now (st .exit) ≡ resetC (casesAt (now (p .entry)) j) (now (st .entry)) ⌝ }
+pub fn reset_c(p: &&[u8], index: &[u16; 1008], st: &mut [u8], j: usize)
+    requires { ⌜ Stated isCase (now (now p)) (now index) (length (now st)) j ⌝ }
+    ensures { λ _. ⌜ now (st .exit) ≡ resetC (casesAt (now (now (p .entry))) j) (now (st .entry)) ⌝ }
 {
-    let n = fields(p, j);
+    let n = fields(*p, j);
     reset_s(p, index, st, n.a);
     if n.b != 65535 {
         reset_c(p, index, st, n.b);
@@ -124,11 +124,11 @@ fn put_header(p: &[u8], st: &mut [u8])
 }
 
 // The start state of a program of so many nodes, in memory of its length.
-pub fn fill_start(p: &[u8], index: &[u16], st: &mut [u8], count: usize)
+pub fn fill_start(p: &[u8], index: &[u16; 1008], st: &mut [u8], count: usize)
     requires { ⌜ NodeOf isSignal (now p) (nodes (now p) - 1) × Indexed (now p) (now index) × (count ≡ nodes (now p)) × (length (now st) ≡ stateLength (now p)) ⌝ }
     ensures { λ _. ⌜ now (st .exit) ≡ startState (now (p .entry)) ⌝ }
 {
     clear_all(st);
     put_header(p, st);
-    reset_s(p, index, st, count - 1);
+    reset_s(&p, index, st, count - 1);
 }

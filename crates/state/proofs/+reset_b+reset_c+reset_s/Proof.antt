@@ -23,201 +23,287 @@ use Rattle.table.proofs.fields.Reads as fields-reads
 use Rattle.state.proofs.+reset_b+reset_c+reset_s.{statement}
 use Rattle.state.proofs.+reset_b+reset_c+reset_s.Tie.{close}
 
-abbrev μ-reset-b : Measures 3 reset-b-kinds.ps ℕ
+abbrev μ-reset-b : Measures 4 reset-b-kinds.ps ℕ
 μ-reset-b κs a = a .1 .1 .1 .0
 
-abbrev μ-reset-c : Measures 3 reset-c-kinds.ps ℕ
+abbrev μ-reset-c : Measures 4 reset-c-kinds.ps ℕ
 μ-reset-c κs a = a .1 .1 .1 .0
 
-abbrev μ-reset-s : Measures 3 reset-s-kinds.ps ℕ
+abbrev μ-reset-s : Measures 4 reset-s-kinds.ps ℕ
 μ-reset-s κs a = a .1 .1 .1 .0
 
-abbrev reset-b-at : ℕ → In 3 reset-b-kinds.ps
-reset-b-at t = and 3 reset-b-kinds.ps (is 3 reset-b-kinds.ps μ-reset-b t) reset-b.Pre
+abbrev reset-b-at : ℕ → In 4 reset-b-kinds.ps
+reset-b-at t = and 4 reset-b-kinds.ps (is 4 reset-b-kinds.ps μ-reset-b t) reset-b.Pre
 
-abbrev reset-b-below : ℕ → In 3 reset-b-kinds.ps
-reset-b-below t = and 3 reset-b-kinds.ps (falls 3 reset-b-kinds.ps _<_ μ-reset-b t) reset-b.Pre
+abbrev reset-b-below : ℕ → In 4 reset-b-kinds.ps
+reset-b-below t = and 4 reset-b-kinds.ps (falls 4 reset-b-kinds.ps _<_ μ-reset-b t) reset-b.Pre
 
-abbrev reset-c-at : ℕ → In 3 reset-c-kinds.ps
-reset-c-at t = and 3 reset-c-kinds.ps (is 3 reset-c-kinds.ps μ-reset-c t) reset-c.Pre
+abbrev reset-c-at : ℕ → In 4 reset-c-kinds.ps
+reset-c-at t = and 4 reset-c-kinds.ps (is 4 reset-c-kinds.ps μ-reset-c t) reset-c.Pre
 
-abbrev reset-c-below : ℕ → In 3 reset-c-kinds.ps
-reset-c-below t = and 3 reset-c-kinds.ps (falls 3 reset-c-kinds.ps _<_ μ-reset-c t) reset-c.Pre
+abbrev reset-c-below : ℕ → In 4 reset-c-kinds.ps
+reset-c-below t = and 4 reset-c-kinds.ps (falls 4 reset-c-kinds.ps _<_ μ-reset-c t) reset-c.Pre
 
-abbrev reset-s-at : ℕ → In 3 reset-s-kinds.ps
-reset-s-at t = and 3 reset-s-kinds.ps (is 3 reset-s-kinds.ps μ-reset-s t) reset-s.Pre
+abbrev reset-s-at : ℕ → In 4 reset-s-kinds.ps
+reset-s-at t = and 4 reset-s-kinds.ps (is 4 reset-s-kinds.ps μ-reset-s t) reset-s.Pre
 
-abbrev reset-s-below : ℕ → In 3 reset-s-kinds.ps
-reset-s-below t = and 3 reset-s-kinds.ps (falls 3 reset-s-kinds.ps _<_ μ-reset-s t) reset-s.Pre
+abbrev reset-s-below : ℕ → In 4 reset-s-kinds.ps
+reset-s-below t = and 4 reset-s-kinds.ps (falls 4 reset-s-kinds.ps _<_ μ-reset-s t) reset-s.Pre
 
 abbrev reset-b-calls : ℕ → reset-b-lts.Claims
 reset-b-calls t = (fields-reads.Asked, fields-reads.Learnt, reset-s-below t, reset-s.Post, reset-b-below t, reset-b.Post)
 
--- src/lib.rt:87:9
-reset-b-fields-requires : (t : ℕ) → reset-b-lts.Need-fields-requires (reset-b-calls t) (reset-b-at t) reset-b.Post
-reset-b-fields-requires t c κs = omega (arith, c .before .before .before .pre .1 .node .inside, c .before .before .before .pre .1 .node .shaped .within)
-
--- src/lib.rt:88:5
-reset-b-reset-s-requires : (t : ℕ) → reset-b-lts.Need-reset-s-requires (reset-b-calls t) (reset-b-at t) reset-b.Post
-reset-b-reset-s-requires t c κs = let k = read (c .before .fields .ensures .a-is) (branch-kid (c .before .before .before .before .before .args .p .now) (c .before .before .before .before .before .args .j) (c .before .before .before .before .before .pre .1 .node)) in (omega (arith, k .less, c .before .before .before .before .before .pre .0), carried (c .before .before .before .before .before .pre .1) (refl) k)
-
--- src/lib.rt:90:9
-reset-b-reset-b-requires : (t : ℕ) → reset-b-lts.Need-reset-b-requires (reset-b-calls t) (reset-b-at t) reset-b.Post
-reset-b-reset-b-requires t c κs = let k = read (c .before .before .before .before .before .before .before .fields .ensures .b-is) (branch-next (c .before .before .before .before .before .before .before .before .before .before .before .args .p .now) (c .before .before .before .before .before .before .before .before .before .before .before .args .j) (c .before .before .before .before .before .before .before .before .before .before .before .pre .1 .node) (λ h. c .before .if1 .taken (c .before .before .before .before .before .before .before .fields .ensures .b-is ∙ h))) in (omega (arith, k .less, c .before .before .before .before .before .before .before .before .before .before .before .pre .0), carried (c .before .before .before .before .before .before .before .before .before .before .before .pre .1) (c .before .before .before .before .before .reset-s .kept .1 .1 .0) k)
-
--- src/lib.rt:83:1
-reset-b-same-length : (t : ℕ) → reset-b-lts.Need-same-length (reset-b-calls t) (reset-b-at t) reset-b.Post
-reset-b-same-length t c = c .before .before .reset-b .kept .1 .1 .0 ∙ c .before .before .before .before .before .before .before .before .reset-s .kept .1 .1 .0
-
--- src/lib.rt:83:1
-reset-b-returns : (t : ℕ) → reset-b-lts.Need-returns (reset-b-calls t) (reset-b-at t) reset-b.Post
-reset-b-returns t c = cc (branch-reset-on (c .before .before .before .before .before .before .before .before .before .before .before .before .before .before .args .p .now) (c .before .before .before .before .before .before .before .before .before .before .before .before .before .before .args .j) (c .before .before .before .before .before .before .before .before .before .before .before .before .before .before .pre .1 .node) (c .before .before .before .before .before .before .before .before .before .before .before .before .before .before .args .st .now) (λ h. c .before .before .before .before .if1 .taken (c .before .before .before .before .before .before .before .before .before .before .fields .ensures .b-is ∙ h)))
-
--- src/lib.rt:83:1
-reset-b-same-length-2 : (t : ℕ) → reset-b-lts.Need-same-length-2 (reset-b-calls t) (reset-b-at t) reset-b.Post
-reset-b-same-length-2 t c = c .before .before .before .before .reset-s .kept .1 .1 .0
-
--- src/lib.rt:83:1
-reset-b-returns-2 : (t : ℕ) → reset-b-lts.Need-returns-2 (reset-b-calls t) (reset-b-at t) reset-b.Post
-reset-b-returns-2 t c = cc (branch-reset-end (c .before .before .before .before .before .before .before .before .before .before .args .p .now) (c .before .before .before .before .before .before .before .before .before .before .args .j) (c .before .before .before .before .before .before .before .before .before .before .pre .1 .node) (c .before .before .before .before .before .before .before .before .before .before .args .st .now) (sym (c .before .before .before .before .before .before .fields .ensures .b-is) ∙ c .if1 .left))
-
 abbrev reset-c-calls : ℕ → reset-c-lts.Claims
 reset-c-calls t = (fields-reads.Asked, fields-reads.Learnt, reset-s-below t, reset-s.Post, reset-c-below t, reset-c.Post)
-
--- src/lib.rt:99:9
-reset-c-fields-requires : (t : ℕ) → reset-c-lts.Need-fields-requires (reset-c-calls t) (reset-c-at t) reset-c.Post
-reset-c-fields-requires t c κs = omega (arith, c .before .before .before .pre .1 .node .inside, c .before .before .before .pre .1 .node .shaped .within)
-
--- src/lib.rt:100:5
-reset-c-reset-s-requires : (t : ℕ) → reset-c-lts.Need-reset-s-requires (reset-c-calls t) (reset-c-at t) reset-c.Post
-reset-c-reset-s-requires t c κs = let k = read (c .before .fields .ensures .a-is) (case-kid (c .before .before .before .before .before .args .p .now) (c .before .before .before .before .before .args .j) (c .before .before .before .before .before .pre .1 .node)) in (omega (arith, k .less, c .before .before .before .before .before .pre .0), carried (c .before .before .before .before .before .pre .1) (refl) k)
-
--- src/lib.rt:102:9
-reset-c-reset-c-requires : (t : ℕ) → reset-c-lts.Need-reset-c-requires (reset-c-calls t) (reset-c-at t) reset-c.Post
-reset-c-reset-c-requires t c κs = let k = read (c .before .before .before .before .before .before .before .fields .ensures .b-is) (case-next (c .before .before .before .before .before .before .before .before .before .before .before .args .p .now) (c .before .before .before .before .before .before .before .before .before .before .before .args .j) (c .before .before .before .before .before .before .before .before .before .before .before .pre .1 .node) (λ h. c .before .if1 .taken (c .before .before .before .before .before .before .before .fields .ensures .b-is ∙ h))) in (omega (arith, k .less, c .before .before .before .before .before .before .before .before .before .before .before .pre .0), carried (c .before .before .before .before .before .before .before .before .before .before .before .pre .1) (c .before .before .before .before .before .reset-s .kept .1 .1 .0) k)
-
--- src/lib.rt:95:1
-reset-c-same-length : (t : ℕ) → reset-c-lts.Need-same-length (reset-c-calls t) (reset-c-at t) reset-c.Post
-reset-c-same-length t c = c .before .before .reset-c .kept .1 .1 .0 ∙ c .before .before .before .before .before .before .before .before .reset-s .kept .1 .1 .0
-
--- src/lib.rt:95:1
-reset-c-returns : (t : ℕ) → reset-c-lts.Need-returns (reset-c-calls t) (reset-c-at t) reset-c.Post
-reset-c-returns t c = cc (case-reset-on (c .before .before .before .before .before .before .before .before .before .before .before .before .before .before .args .p .now) (c .before .before .before .before .before .before .before .before .before .before .before .before .before .before .args .j) (c .before .before .before .before .before .before .before .before .before .before .before .before .before .before .pre .1 .node) (c .before .before .before .before .before .before .before .before .before .before .before .before .before .before .args .st .now) (λ h. c .before .before .before .before .if1 .taken (c .before .before .before .before .before .before .before .before .before .before .fields .ensures .b-is ∙ h)))
-
--- src/lib.rt:95:1
-reset-c-same-length-2 : (t : ℕ) → reset-c-lts.Need-same-length-2 (reset-c-calls t) (reset-c-at t) reset-c.Post
-reset-c-same-length-2 t c = c .before .before .before .before .reset-s .kept .1 .1 .0
-
--- src/lib.rt:95:1
-reset-c-returns-2 : (t : ℕ) → reset-c-lts.Need-returns-2 (reset-c-calls t) (reset-c-at t) reset-c.Post
-reset-c-returns-2 t c = cc (case-reset-end (c .before .before .before .before .before .before .before .before .before .before .args .p .now) (c .before .before .before .before .before .before .before .before .before .before .args .j) (c .before .before .before .before .before .before .before .before .before .before .pre .1 .node) (c .before .before .before .before .before .before .before .before .before .before .args .st .now) (sym (c .before .before .before .before .before .before .fields .ensures .b-is) ∙ c .if1 .left))
 
 abbrev reset-s-calls : ℕ → reset-s-lts.Claims
 reset-s-calls t = (fields-reads.Asked, fields-reads.Learnt, first-value-reads.Asked, first-value-reads.Learnt, set-own-reads.Asked, set-own-reads.Learnt, reset-s-below t, reset-s.Post, reset-b-below t, reset-b.Post, reset-c-below t, reset-c.Post)
 
--- src/lib.rt:52:9
-reset-s-fields-requires : (t : ℕ) → reset-s-lts.Need-fields-requires (reset-s-calls t) (reset-s-at t) reset-s.Post
-reset-s-fields-requires t c κs = omega (arith, c .before .before .before .pre .1 .node .inside, c .before .before .before .pre .1 .node .shaped .within)
+-- src/lib.rt:88:9
+reset-b-fields-requires : (t : ℕ) → reset-b-lts.Need-fields-requires (reset-b-calls t) (reset-b-at t) reset-b.Post
+reset-b-fields-requires t c κs =
+    let s = c .before .before in
+    omega (arith, s .pre .1 .node .inside, s .pre .1 .node .shaped .within)
 
--- src/lib.rt:56:35
+-- src/lib.rt:89:5
+reset-b-reset-s-requires : (t : ℕ) → reset-b-lts.Need-reset-s-requires (reset-b-calls t) (reset-b-at t) reset-b.Post
+reset-b-reset-s-requires t c κs =
+    let s = c .before .before .before .before in
+    let k = read (c .before .fields .ensures .a-is) (branch-kid (s .args .p .now .now) (s .args .j) (s .pre .1 .node)) in
+    (omega (arith, k .less, s .pre .0), carried (s .pre .1) (refl) k)
+
+-- src/lib.rt:91:9
+reset-b-reset-b-requires : (t : ℕ) → reset-b-lts.Need-reset-b-requires (reset-b-calls t) (reset-b-at t) reset-b.Post
+reset-b-reset-b-requires t c κs =
+    let s = c .before .before .before .before .before .before .before .before .before .before in
+    let node = c .before .before .before .before .before .before .before .fields .ensures in
+    let k = read (node .b-is) (branch-next (s .args .p .now .now) (s .args .j) (s .pre .1 .node) (λ h. c .before .if1 .taken (node .b-is ∙ h))) in
+    (omega (arith, k .less, s .pre .0), carried (s .pre .1) (c .before .before .before .before .before .reset-s .kept .1 .1 .0) k)
+
+-- src/lib.rt:84:1
+reset-b-same-length : (t : ℕ) → reset-b-lts.Need-same-length (reset-b-calls t) (reset-b-at t) reset-b.Post
+reset-b-same-length t c = c .before .before .reset-b .kept .1 .1 .0 ∙ c .before .before .before .before .before .before .before .before .reset-s .kept .1 .1 .0
+
+-- src/lib.rt:84:1
+reset-b-returns : (t : ℕ) → reset-b-lts.Need-returns (reset-b-calls t) (reset-b-at t) reset-b.Post
+reset-b-returns t c =
+    let s = c .before .before .before .before .before .before .before .before .before .before .before .before .before in
+    cc (branch-reset-on (s .args .p .now .now) (s .args .j) (s .pre .1 .node) (s .args .st .now) (λ h. c .before .before .before .before .if1 .taken (c .before .before .before .before .before .before .before .before .before .before .fields .ensures .b-is ∙ h)))
+
+-- src/lib.rt:84:1
+reset-b-same-length-2 : (t : ℕ) → reset-b-lts.Need-same-length-2 (reset-b-calls t) (reset-b-at t) reset-b.Post
+reset-b-same-length-2 t c = c .before .before .before .before .reset-s .kept .1 .1 .0
+
+-- src/lib.rt:84:1
+reset-b-returns-2 : (t : ℕ) → reset-b-lts.Need-returns-2 (reset-b-calls t) (reset-b-at t) reset-b.Post
+reset-b-returns-2 t c =
+    let s = c .before .before .before .before .before .before .before .before .before in
+    cc (branch-reset-end (s .args .p .now .now) (s .args .j) (s .pre .1 .node) (s .args .st .now) (sym (c .before .before .before .before .before .before .fields .ensures .b-is) ∙ c .if1 .left))
+
+-- src/lib.rt:100:9
+reset-c-fields-requires : (t : ℕ) → reset-c-lts.Need-fields-requires (reset-c-calls t) (reset-c-at t) reset-c.Post
+reset-c-fields-requires t c κs =
+    let s = c .before .before in
+    omega (arith, s .pre .1 .node .inside, s .pre .1 .node .shaped .within)
+
+-- src/lib.rt:101:5
+reset-c-reset-s-requires : (t : ℕ) → reset-c-lts.Need-reset-s-requires (reset-c-calls t) (reset-c-at t) reset-c.Post
+reset-c-reset-s-requires t c κs =
+    let s = c .before .before .before .before in
+    let k = read (c .before .fields .ensures .a-is) (case-kid (s .args .p .now .now) (s .args .j) (s .pre .1 .node)) in
+    (omega (arith, k .less, s .pre .0), carried (s .pre .1) (refl) k)
+
+-- src/lib.rt:103:9
+reset-c-reset-c-requires : (t : ℕ) → reset-c-lts.Need-reset-c-requires (reset-c-calls t) (reset-c-at t) reset-c.Post
+reset-c-reset-c-requires t c κs =
+    let s = c .before .before .before .before .before .before .before .before .before .before in
+    let node = c .before .before .before .before .before .before .before .fields .ensures in
+    let k = read (node .b-is) (case-next (s .args .p .now .now) (s .args .j) (s .pre .1 .node) (λ h. c .before .if1 .taken (node .b-is ∙ h))) in
+    (omega (arith, k .less, s .pre .0), carried (s .pre .1) (c .before .before .before .before .before .reset-s .kept .1 .1 .0) k)
+
+-- src/lib.rt:96:1
+reset-c-same-length : (t : ℕ) → reset-c-lts.Need-same-length (reset-c-calls t) (reset-c-at t) reset-c.Post
+reset-c-same-length t c = c .before .before .reset-c .kept .1 .1 .0 ∙ c .before .before .before .before .before .before .before .before .reset-s .kept .1 .1 .0
+
+-- src/lib.rt:96:1
+reset-c-returns : (t : ℕ) → reset-c-lts.Need-returns (reset-c-calls t) (reset-c-at t) reset-c.Post
+reset-c-returns t c =
+    let s = c .before .before .before .before .before .before .before .before .before .before .before .before .before in
+    cc (case-reset-on (s .args .p .now .now) (s .args .j) (s .pre .1 .node) (s .args .st .now) (λ h. c .before .before .before .before .if1 .taken (c .before .before .before .before .before .before .before .before .before .before .fields .ensures .b-is ∙ h)))
+
+-- src/lib.rt:96:1
+reset-c-same-length-2 : (t : ℕ) → reset-c-lts.Need-same-length-2 (reset-c-calls t) (reset-c-at t) reset-c.Post
+reset-c-same-length-2 t c = c .before .before .before .before .reset-s .kept .1 .1 .0
+
+-- src/lib.rt:96:1
+reset-c-returns-2 : (t : ℕ) → reset-c-lts.Need-returns-2 (reset-c-calls t) (reset-c-at t) reset-c.Post
+reset-c-returns-2 t c =
+    let s = c .before .before .before .before .before .before .before .before .before in
+    cc (case-reset-end (s .args .p .now .now) (s .args .j) (s .pre .1 .node) (s .args .st .now) (sym (c .before .before .before .before .before .before .fields .ensures .b-is) ∙ c .if1 .left))
+
+-- src/lib.rt:53:9
+reset-s-fields-requires : (t : ℕ) → reset-s-lts.Need-fields-requires (reset-s-calls t) (reset-s-at t) reset-s.Post
+reset-s-fields-requires t c κs =
+    let s = c .before .before in
+    omega (arith, s .pre .1 .node .inside, s .pre .1 .node .shaped .within)
+
+-- src/lib.rt:57:35
 reset-s-first-value-requires : (t : ℕ) → reset-s-lts.Need-first-value-requires (reset-s-calls t) (reset-s-at t) reset-s.Post
 reset-s-first-value-requires t c κs = search needs
 
--- src/lib.rt:56:13
-reset-s-set-own-requires : (t : ℕ) → reset-s-lts.Need-set-own-requires (reset-s-calls t) (reset-s-at t) reset-s.Post
-reset-s-set-own-requires t c κs = own-delay (c .before .before .before .before .before .before .before .args .p .now) (c .before .before .before .before .before .before .before .args .index .now) _ (c .before .before .before .before .before .before .before .args .i) (c .before .before .before .before .before .before .before .pre .1) (sym (c .before .before .before .fields .ensures .kind-is) ∙ c .before .before .match .keys1)
-
 -- src/lib.rt:57:13
-reset-s-reset-s-requires : (t : ℕ) → reset-s-lts.Need-reset-s-requires (reset-s-calls t) (reset-s-at t) reset-s.Post
-reset-s-reset-s-requires t c κs = let k = read (c .before .before .before .before .before .before .before .fields .ensures .a-is) (delay-kid (c .before .before .before .before .before .before .before .before .before .before .before .args .p .now) (c .before .before .before .before .before .before .before .before .before .before .before .args .i) (c .before .before .before .before .before .before .before .before .before .before .before .pre .1 .node) (sym (c .before .before .before .before .before .before .before .fields .ensures .kind-is) ∙ c .before .before .before .before .before .before .match .keys1)) in (omega (arith, k .less, c .before .before .before .before .before .before .before .before .before .before .before .pre .0), carried (c .before .before .before .before .before .before .before .before .before .before .before .pre .1) (c .before .before .before .set-own .kept .1 .0) k)
+reset-s-set-own-requires : (t : ℕ) → reset-s-lts.Need-set-own-requires (reset-s-calls t) (reset-s-at t) reset-s.Post
+reset-s-set-own-requires t c κs =
+    let s = c .before .before .before .before .before .before .before in
+    own-delay (s .args .p .now .now) (s .args .index .now) _ (s .args .i) (s .pre .1) (sym (c .before .before .before .before .fields .ensures .kind-is) ∙ c .before .before .before .match .keys1)
 
--- src/lib.rt:60:13
-reset-s-reset-s-requires-2 : (t : ℕ) → reset-s-lts.Need-reset-s-requires-2 (reset-s-calls t) (reset-s-at t) reset-s.Post
-reset-s-reset-s-requires-2 t c κs = let k = read (c .before .before .fields .ensures .a-is) (let-kids (c .before .before .before .before .before .before .args .p .now) (c .before .before .before .before .before .before .args .i) (c .before .before .before .before .before .before .pre .1 .node) (sym (c .before .before .fields .ensures .kind-is) ∙ c .before .match .keys2) .0) in (omega (arith, k .less, c .before .before .before .before .before .before .pre .0), carried (c .before .before .before .before .before .before .pre .1) (refl) k)
+-- src/lib.rt:58:13
+reset-s-reset-s-requires : (t : ℕ) → reset-s-lts.Need-reset-s-requires (reset-s-calls t) (reset-s-at t) reset-s.Post
+reset-s-reset-s-requires t c κs =
+    let s = c .before .before .before .before .before .before .before .before .before .before .before in
+    let node = c .before .before .before .before .before .before .before .before .fields .ensures in
+    let k = read (node .a-is) (delay-kid (s .args .p .now .now) (s .args .i) (s .pre .1 .node) (sym (node .kind-is) ∙ c .before .before .before .before .before .before .before .match .keys1)) in
+    (omega (arith, k .less, s .pre .0), carried (s .pre .1) (c .before .before .before .set-own .kept .1 .0) k)
 
 -- src/lib.rt:61:13
-reset-s-reset-s-requires-3 : (t : ℕ) → reset-s-lts.Need-reset-s-requires-3 (reset-s-calls t) (reset-s-at t) reset-s.Post
-reset-s-reset-s-requires-3 t c κs = let k = read (c .before .before .before .before .before .before .fields .ensures .b-is) (let-kids (c .before .before .before .before .before .before .before .before .before .before .args .p .now) (c .before .before .before .before .before .before .before .before .before .before .args .i) (c .before .before .before .before .before .before .before .before .before .before .pre .1 .node) (sym (c .before .before .before .before .before .before .fields .ensures .kind-is) ∙ c .before .before .before .before .before .match .keys2) .1) in (omega (arith, k .less, c .before .before .before .before .before .before .before .before .before .before .pre .0), carried (c .before .before .before .before .before .before .before .before .before .before .pre .1) (c .before .before .before .reset-s2 .kept .1 .1 .0) k)
+reset-s-reset-s-requires-2 : (t : ℕ) → reset-s-lts.Need-reset-s-requires-2 (reset-s-calls t) (reset-s-at t) reset-s.Post
+reset-s-reset-s-requires-2 t c κs =
+    let s = c .before .before .before .before .before in
+    let node = c .before .before .fields .ensures in
+    let k = read (node .a-is) (let-kids (s .args .p .now .now) (s .args .i) (s .pre .1 .node) (sym (node .kind-is) ∙ c .before .match .keys2) .0) in
+    (omega (arith, k .less, s .pre .0), carried (s .pre .1) (refl) k)
 
--- src/lib.rt:64:13
-reset-s-set-own-requires-2 : (t : ℕ) → reset-s-lts.Need-set-own-requires-2 (reset-s-calls t) (reset-s-at t) reset-s.Post
-reset-s-set-own-requires-2 t c κs = own-switch (c .before .before .before .before .before .before .args .p .now) (c .before .before .before .before .before .before .args .index .now) _ (c .before .before .before .before .before .before .args .i) (c .before .before .before .before .before .before .pre .1) (sym (c .before .before .fields .ensures .kind-is) ∙ c .before .match .keys3)
+-- src/lib.rt:62:13
+reset-s-reset-s-requires-3 : (t : ℕ) → reset-s-lts.Need-reset-s-requires-3 (reset-s-calls t) (reset-s-at t) reset-s.Post
+reset-s-reset-s-requires-3 t c κs =
+    let s = c .before .before .before .before .before .before .before .before .before in
+    let node = c .before .before .before .before .before .before .fields .ensures in
+    let k = read (node .b-is) (let-kids (s .args .p .now .now) (s .args .i) (s .pre .1 .node) (sym (node .kind-is) ∙ c .before .before .before .before .before .match .keys2) .1) in
+    (omega (arith, k .less, s .pre .0), carried (s .pre .1) (c .before .before .before .reset-s2 .kept .1 .1 .0) k)
 
 -- src/lib.rt:65:13
-reset-s-reset-s-requires-4 : (t : ℕ) → reset-s-lts.Need-reset-s-requires-4 (reset-s-calls t) (reset-s-at t) reset-s.Post
-reset-s-reset-s-requires-4 t c κs = let k = read (c .before .before .before .before .before .before .fields .ensures .a-is) (switch-kids (c .before .before .before .before .before .before .before .before .before .before .args .p .now) (c .before .before .before .before .before .before .before .before .before .before .args .i) (c .before .before .before .before .before .before .before .before .before .before .pre .1 .node) (sym (c .before .before .before .before .before .before .fields .ensures .kind-is) ∙ c .before .before .before .before .before .match .keys3) .0) in (omega (arith, k .less, c .before .before .before .before .before .before .before .before .before .before .pre .0), carried (c .before .before .before .before .before .before .before .before .before .before .pre .1) (c .before .before .before .set-own2 .kept .1 .0) k)
+reset-s-set-own-requires-2 : (t : ℕ) → reset-s-lts.Need-set-own-requires-2 (reset-s-calls t) (reset-s-at t) reset-s.Post
+reset-s-set-own-requires-2 t c κs =
+    let s = c .before .before .before .before .before .before in
+    own-switch (s .args .p .now .now) (s .args .index .now) _ (s .args .i) (s .pre .1) (sym (c .before .before .before .fields .ensures .kind-is) ∙ c .before .before .match .keys3)
 
 -- src/lib.rt:66:13
-reset-s-reset-s-requires-5 : (t : ℕ) → reset-s-lts.Need-reset-s-requires-5 (reset-s-calls t) (reset-s-at t) reset-s.Post
-reset-s-reset-s-requires-5 t c κs = let k = read (c .before .before .before .before .before .before .before .before .before .before .fields .ensures .b-is) (switch-kids (c .before .before .before .before .before .before .before .before .before .before .before .before .before .before .args .p .now) (c .before .before .before .before .before .before .before .before .before .before .before .before .before .before .args .i) (c .before .before .before .before .before .before .before .before .before .before .before .before .before .before .pre .1 .node) (sym (c .before .before .before .before .before .before .before .before .before .before .fields .ensures .kind-is) ∙ c .before .before .before .before .before .before .before .before .before .match .keys3) .1) in (omega (arith, k .less, c .before .before .before .before .before .before .before .before .before .before .before .before .before .before .pre .0), carried (c .before .before .before .before .before .before .before .before .before .before .before .before .before .before .pre .1) (c .before .before .before .reset-s4 .kept .1 .1 .0 ∙ c .before .before .before .before .before .before .before .set-own2 .kept .1 .0) k)
+reset-s-reset-s-requires-4 : (t : ℕ) → reset-s-lts.Need-reset-s-requires-4 (reset-s-calls t) (reset-s-at t) reset-s.Post
+reset-s-reset-s-requires-4 t c κs =
+    let s = c .before .before .before .before .before .before .before .before .before .before in
+    let node = c .before .before .before .before .before .before .before .fields .ensures in
+    let k = read (node .a-is) (switch-kids (s .args .p .now .now) (s .args .i) (s .pre .1 .node) (sym (node .kind-is) ∙ c .before .before .before .before .before .before .match .keys3) .0) in
+    (omega (arith, k .less, s .pre .0), carried (s .pre .1) (c .before .before .before .set-own2 .kept .1 .0) k)
 
 -- src/lib.rt:67:13
-reset-s-reset-s-requires-6 : (t : ℕ) → reset-s-lts.Need-reset-s-requires-6 (reset-s-calls t) (reset-s-at t) reset-s.Post
-reset-s-reset-s-requires-6 t c κs = let k = read (c .before .before .before .before .before .before .before .before .before .before .before .before .before .before .fields .ensures .c-is) (switch-kids (c .before .before .before .before .before .before .before .before .before .before .before .before .before .before .before .before .before .before .args .p .now) (c .before .before .before .before .before .before .before .before .before .before .before .before .before .before .before .before .before .before .args .i) (c .before .before .before .before .before .before .before .before .before .before .before .before .before .before .before .before .before .before .pre .1 .node) (sym (c .before .before .before .before .before .before .before .before .before .before .before .before .before .before .fields .ensures .kind-is) ∙ c .before .before .before .before .before .before .before .before .before .before .before .before .before .match .keys3) .2) in (omega (arith, k .less, c .before .before .before .before .before .before .before .before .before .before .before .before .before .before .before .before .before .before .pre .0), carried (c .before .before .before .before .before .before .before .before .before .before .before .before .before .before .before .before .before .before .pre .1) (c .before .before .before .reset-s5 .kept .1 .1 .0 ∙ c .before .before .before .before .before .before .before .reset-s4 .kept .1 .1 .0 ∙ c .before .before .before .before .before .before .before .before .before .before .before .set-own2 .kept .1 .0) k)
+reset-s-reset-s-requires-5 : (t : ℕ) → reset-s-lts.Need-reset-s-requires-5 (reset-s-calls t) (reset-s-at t) reset-s.Post
+reset-s-reset-s-requires-5 t c κs =
+    let s = c .before .before .before .before .before .before .before .before .before .before .before .before .before .before in
+    let node = c .before .before .before .before .before .before .before .before .before .before .before .fields .ensures in
+    let k = read (node .b-is) (switch-kids (s .args .p .now .now) (s .args .i) (s .pre .1 .node) (sym (node .kind-is) ∙ c .before .before .before .before .before .before .before .before .before .before .match .keys3) .1) in
+    (omega (arith, k .less, s .pre .0), carried (s .pre .1) (c .before .before .before .reset-s4 .kept .1 .1 .0 ∙ c .before .before .before .before .before .before .before .set-own2 .kept .1 .0) k)
 
--- src/lib.rt:70:13
-reset-s-set-own-requires-3 : (t : ℕ) → reset-s-lts.Need-set-own-requires-3 (reset-s-calls t) (reset-s-at t) reset-s.Post
-reset-s-set-own-requires-3 t c κs = own-group (c .before .before .before .before .before .before .args .p .now) (c .before .before .before .before .before .before .args .index .now) _ (c .before .before .before .before .before .before .args .i) (c .before .before .before .before .before .before .pre .1) (sym (c .before .before .fields .ensures .kind-is) ∙ c .before .match .keys4)
+-- src/lib.rt:68:13
+reset-s-reset-s-requires-6 : (t : ℕ) → reset-s-lts.Need-reset-s-requires-6 (reset-s-calls t) (reset-s-at t) reset-s.Post
+reset-s-reset-s-requires-6 t c κs =
+    let s = c .before .before .before .before .before .before .before .before .before .before .before .before .before .before .before .before .before .before in
+    let node = c .before .before .before .before .before .before .before .before .before .before .before .before .before .before .before .fields .ensures in
+    let k = read (node .c-is) (switch-kids (s .args .p .now .now) (s .args .i) (s .pre .1 .node) (sym (node .kind-is) ∙ c .before .before .before .before .before .before .before .before .before .before .before .before .before .before .match .keys3) .2) in
+    (omega (arith, k .less, s .pre .0), carried (s .pre .1) (c .before .before .before .reset-s5 .kept .1 .1 .0 ∙ c .before .before .before .before .before .before .before .reset-s4 .kept .1 .1 .0 ∙ c .before .before .before .before .before .before .before .before .before .before .before .set-own2 .kept .1 .0) k)
 
 -- src/lib.rt:71:13
-reset-s-reset-s-requires-7 : (t : ℕ) → reset-s-lts.Need-reset-s-requires-7 (reset-s-calls t) (reset-s-at t) reset-s.Post
-reset-s-reset-s-requires-7 t c κs = let k = read (c .before .before .before .before .before .before .fields .ensures .a-is) (group-kids (c .before .before .before .before .before .before .before .before .before .before .args .p .now) (c .before .before .before .before .before .before .before .before .before .before .args .i) (c .before .before .before .before .before .before .before .before .before .before .pre .1 .node) (sym (c .before .before .before .before .before .before .fields .ensures .kind-is) ∙ c .before .before .before .before .before .match .keys4) .0) in (omega (arith, k .less, c .before .before .before .before .before .before .before .before .before .before .pre .0), carried (c .before .before .before .before .before .before .before .before .before .before .pre .1) (c .before .before .before .set-own3 .kept .1 .0) k)
+reset-s-set-own-requires-3 : (t : ℕ) → reset-s-lts.Need-set-own-requires-3 (reset-s-calls t) (reset-s-at t) reset-s.Post
+reset-s-set-own-requires-3 t c κs =
+    let s = c .before .before .before .before .before .before in
+    own-group (s .args .p .now .now) (s .args .index .now) _ (s .args .i) (s .pre .1) (sym (c .before .before .before .fields .ensures .kind-is) ∙ c .before .before .match .keys4)
 
 -- src/lib.rt:72:13
-reset-s-reset-b-requires : (t : ℕ) → reset-s-lts.Need-reset-b-requires (reset-s-calls t) (reset-s-at t) reset-s.Post
-reset-s-reset-b-requires t c κs = let k = read (c .before .before .before .before .before .before .before .before .before .before .fields .ensures .b-is) (group-kids (c .before .before .before .before .before .before .before .before .before .before .before .before .before .before .args .p .now) (c .before .before .before .before .before .before .before .before .before .before .before .before .before .before .args .i) (c .before .before .before .before .before .before .before .before .before .before .before .before .before .before .pre .1 .node) (sym (c .before .before .before .before .before .before .before .before .before .before .fields .ensures .kind-is) ∙ c .before .before .before .before .before .before .before .before .before .match .keys4) .1) in (omega (arith, k .less, c .before .before .before .before .before .before .before .before .before .before .before .before .before .before .pre .0), carried (c .before .before .before .before .before .before .before .before .before .before .before .before .before .before .pre .1) (c .before .before .before .reset-s7 .kept .1 .1 .0 ∙ c .before .before .before .before .before .before .before .set-own3 .kept .1 .0) k)
+reset-s-reset-s-requires-7 : (t : ℕ) → reset-s-lts.Need-reset-s-requires-7 (reset-s-calls t) (reset-s-at t) reset-s.Post
+reset-s-reset-s-requires-7 t c κs =
+    let s = c .before .before .before .before .before .before .before .before .before .before in
+    let node = c .before .before .before .before .before .before .before .fields .ensures in
+    let k = read (node .a-is) (group-kids (s .args .p .now .now) (s .args .i) (s .pre .1 .node) (sym (node .kind-is) ∙ c .before .before .before .before .before .before .match .keys4) .0) in
+    (omega (arith, k .less, s .pre .0), carried (s .pre .1) (c .before .before .before .set-own3 .kept .1 .0) k)
 
--- src/lib.rt:75:13
-reset-s-reset-s-requires-8 : (t : ℕ) → reset-s-lts.Need-reset-s-requires-8 (reset-s-calls t) (reset-s-at t) reset-s.Post
-reset-s-reset-s-requires-8 t c κs = let k = read (c .before .before .fields .ensures .a-is) (until-kids (c .before .before .before .before .before .before .args .p .now) (c .before .before .before .before .before .before .args .i) (c .before .before .before .before .before .before .pre .1 .node) (sym (c .before .before .fields .ensures .kind-is) ∙ c .before .match .keys5) .0) in (omega (arith, k .less, c .before .before .before .before .before .before .pre .0), carried (c .before .before .before .before .before .before .pre .1) (refl) k)
+-- src/lib.rt:73:13
+reset-s-reset-b-requires : (t : ℕ) → reset-s-lts.Need-reset-b-requires (reset-s-calls t) (reset-s-at t) reset-s.Post
+reset-s-reset-b-requires t c κs =
+    let s = c .before .before .before .before .before .before .before .before .before .before .before .before .before .before in
+    let node = c .before .before .before .before .before .before .before .before .before .before .before .fields .ensures in
+    let k = read (node .b-is) (group-kids (s .args .p .now .now) (s .args .i) (s .pre .1 .node) (sym (node .kind-is) ∙ c .before .before .before .before .before .before .before .before .before .before .match .keys4) .1) in
+    (omega (arith, k .less, s .pre .0), carried (s .pre .1) (c .before .before .before .reset-s7 .kept .1 .1 .0 ∙ c .before .before .before .before .before .before .before .set-own3 .kept .1 .0) k)
 
 -- src/lib.rt:76:13
-reset-s-reset-c-requires : (t : ℕ) → reset-s-lts.Need-reset-c-requires (reset-s-calls t) (reset-s-at t) reset-s.Post
-reset-s-reset-c-requires t c κs = let k = read (c .before .before .before .before .before .before .fields .ensures .b-is) (until-kids (c .before .before .before .before .before .before .before .before .before .before .args .p .now) (c .before .before .before .before .before .before .before .before .before .before .args .i) (c .before .before .before .before .before .before .before .before .before .before .pre .1 .node) (sym (c .before .before .before .before .before .before .fields .ensures .kind-is) ∙ c .before .before .before .before .before .match .keys5) .1) in (omega (arith, k .less, c .before .before .before .before .before .before .before .before .before .before .pre .0), carried (c .before .before .before .before .before .before .before .before .before .before .pre .1) (c .before .before .before .reset-s8 .kept .1 .1 .0) k)
+reset-s-reset-s-requires-8 : (t : ℕ) → reset-s-lts.Need-reset-s-requires-8 (reset-s-calls t) (reset-s-at t) reset-s.Post
+reset-s-reset-s-requires-8 t c κs =
+    let s = c .before .before .before .before .before in
+    let node = c .before .before .fields .ensures in
+    let k = read (node .a-is) (until-kids (s .args .p .now .now) (s .args .i) (s .pre .1 .node) (sym (node .kind-is) ∙ c .before .match .keys5) .0) in
+    (omega (arith, k .less, s .pre .0), carried (s .pre .1) (refl) k)
 
--- src/lib.rt:48:1
+-- src/lib.rt:77:13
+reset-s-reset-c-requires : (t : ℕ) → reset-s-lts.Need-reset-c-requires (reset-s-calls t) (reset-s-at t) reset-s.Post
+reset-s-reset-c-requires t c κs =
+    let s = c .before .before .before .before .before .before .before .before .before in
+    let node = c .before .before .before .before .before .before .fields .ensures in
+    let k = read (node .b-is) (until-kids (s .args .p .now .now) (s .args .i) (s .pre .1 .node) (sym (node .kind-is) ∙ c .before .before .before .before .before .match .keys5) .1) in
+    (omega (arith, k .less, s .pre .0), carried (s .pre .1) (c .before .before .before .reset-s8 .kept .1 .1 .0) k)
+
+-- src/lib.rt:49:1
 reset-s-same-length : (t : ℕ) → reset-s-lts.Need-same-length (reset-s-calls t) (reset-s-at t) reset-s.Post
 reset-s-same-length t c = c .before .before .reset-s .kept .1 .1 .0 ∙ c .before .before .before .before .before .before .set-own .kept .1 .0
 
--- src/lib.rt:48:1
+-- src/lib.rt:49:1
 reset-s-returns : (t : ℕ) → reset-s-lts.Need-returns (reset-s-calls t) (reset-s-at t) reset-s.Post
-reset-s-returns t c = cc (delay-reset (c .before .before .before .before .before .before .before .before .before .before .before .before .before .before .args .p .now) (c .before .before .before .before .before .before .before .before .before .before .before .before .before .before .args .index .now) _ (c .before .before .before .before .before .before .before .before .before .before .before .before .before .before .args .i) (c .before .before .before .before .before .before .before .before .before .before .before .before .before .before .pre .1) (c .before .before .before .before .before .before .before .before .before .before .before .before .before .before .args .st .now) (sym (c .before .before .before .before .before .before .before .before .before .before .fields .ensures .kind-is) ∙ c .before .before .before .before .before .before .before .before .before .match .keys1))
+reset-s-returns t c =
+    let s = c .before .before .before .before .before .before .before .before .before .before .before .before .before .before in
+    cc (delay-reset (s .args .p .now .now) (s .args .index .now) _ (s .args .i) (s .pre .1) (s .args .st .now) (sym (c .before .before .before .before .before .before .before .before .before .before .before .fields .ensures .kind-is) ∙ c .before .before .before .before .before .before .before .before .before .before .match .keys1))
 
--- src/lib.rt:48:1
+-- src/lib.rt:49:1
 reset-s-same-length-2 : (t : ℕ) → reset-s-lts.Need-same-length-2 (reset-s-calls t) (reset-s-at t) reset-s.Post
 reset-s-same-length-2 t c = c .before .before .reset-s3 .kept .1 .1 .0 ∙ c .before .before .before .before .before .before .reset-s2 .kept .1 .1 .0
 
--- src/lib.rt:48:1
+-- src/lib.rt:49:1
 reset-s-returns-2 : (t : ℕ) → reset-s-lts.Need-returns-2 (reset-s-calls t) (reset-s-at t) reset-s.Post
-reset-s-returns-2 t c = cc (let-reset (c .before .before .before .before .before .before .before .before .before .before .before .before .before .args .p .now) (c .before .before .before .before .before .before .before .before .before .before .before .before .before .args .index .now) _ (c .before .before .before .before .before .before .before .before .before .before .before .before .before .args .i) (c .before .before .before .before .before .before .before .before .before .before .before .before .before .pre .1) (c .before .before .before .before .before .before .before .before .before .before .before .before .before .args .st .now) (sym (c .before .before .before .before .before .before .before .before .before .fields .ensures .kind-is) ∙ c .before .before .before .before .before .before .before .before .match .keys2))
+reset-s-returns-2 t c =
+    let s = c .before .before .before .before .before .before .before .before .before .before .before .before in
+    cc (let-reset (s .args .p .now .now) (s .args .index .now) _ (s .args .i) (s .pre .1) (s .args .st .now) (sym (c .before .before .before .before .before .before .before .before .before .fields .ensures .kind-is) ∙ c .before .before .before .before .before .before .before .before .match .keys2))
 
--- src/lib.rt:48:1
+-- src/lib.rt:49:1
 reset-s-same-length-3 : (t : ℕ) → reset-s-lts.Need-same-length-3 (reset-s-calls t) (reset-s-at t) reset-s.Post
 reset-s-same-length-3 t c = c .before .before .reset-s6 .kept .1 .1 .0 ∙ c .before .before .before .before .before .before .reset-s5 .kept .1 .1 .0 ∙ c .before .before .before .before .before .before .before .before .before .before .reset-s4 .kept .1 .1 .0 ∙ c .before .before .before .before .before .before .before .before .before .before .before .before .before .before .set-own2 .kept .1 .0
 
--- src/lib.rt:48:1
+-- src/lib.rt:49:1
 reset-s-returns-3 : (t : ℕ) → reset-s-lts.Need-returns-3 (reset-s-calls t) (reset-s-at t) reset-s.Post
-reset-s-returns-3 t c = cc (switch-reset (c .before .before .before .before .before .before .before .before .before .before .before .before .before .before .before .before .before .before .before .before .before .args .p .now) (c .before .before .before .before .before .before .before .before .before .before .before .before .before .before .before .before .before .before .before .before .before .args .index .now) _ (c .before .before .before .before .before .before .before .before .before .before .before .before .before .before .before .before .before .before .before .before .before .args .i) (c .before .before .before .before .before .before .before .before .before .before .before .before .before .before .before .before .before .before .before .before .before .pre .1) (c .before .before .before .before .before .before .before .before .before .before .before .before .before .before .before .before .before .before .before .before .before .args .st .now) (sym (c .before .before .before .before .before .before .before .before .before .before .before .before .before .before .before .before .before .fields .ensures .kind-is) ∙ c .before .before .before .before .before .before .before .before .before .before .before .before .before .before .before .before .match .keys3))
+reset-s-returns-3 t c =
+    let s = c .before .before .before .before .before .before .before .before .before .before .before .before .before .before .before .before .before .before .before .before .before in
+    cc (switch-reset (s .args .p .now .now) (s .args .index .now) _ (s .args .i) (s .pre .1) (s .args .st .now) (sym (c .before .before .before .before .before .before .before .before .before .before .before .before .before .before .before .before .before .before .fields .ensures .kind-is) ∙ c .before .before .before .before .before .before .before .before .before .before .before .before .before .before .before .before .before .match .keys3))
 
--- src/lib.rt:48:1
+-- src/lib.rt:49:1
 reset-s-same-length-4 : (t : ℕ) → reset-s-lts.Need-same-length-4 (reset-s-calls t) (reset-s-at t) reset-s.Post
 reset-s-same-length-4 t c = c .before .before .reset-b .kept .1 .1 .0 ∙ c .before .before .before .before .before .before .reset-s7 .kept .1 .1 .0 ∙ c .before .before .before .before .before .before .before .before .before .before .set-own3 .kept .1 .0
 
--- src/lib.rt:48:1
+-- src/lib.rt:49:1
 reset-s-returns-4 : (t : ℕ) → reset-s-lts.Need-returns-4 (reset-s-calls t) (reset-s-at t) reset-s.Post
-reset-s-returns-4 t c = cc (group-reset (c .before .before .before .before .before .before .before .before .before .before .before .before .before .before .before .before .before .args .p .now) (c .before .before .before .before .before .before .before .before .before .before .before .before .before .before .before .before .before .args .index .now) _ (c .before .before .before .before .before .before .before .before .before .before .before .before .before .before .before .before .before .args .i) (c .before .before .before .before .before .before .before .before .before .before .before .before .before .before .before .before .before .pre .1) (c .before .before .before .before .before .before .before .before .before .before .before .before .before .before .before .before .before .args .st .now) (sym (c .before .before .before .before .before .before .before .before .before .before .before .before .before .fields .ensures .kind-is) ∙ c .before .before .before .before .before .before .before .before .before .before .before .before .match .keys4))
+reset-s-returns-4 t c =
+    let s = c .before .before .before .before .before .before .before .before .before .before .before .before .before .before .before .before .before in
+    cc (group-reset (s .args .p .now .now) (s .args .index .now) _ (s .args .i) (s .pre .1) (s .args .st .now) (sym (c .before .before .before .before .before .before .before .before .before .before .before .before .before .before .fields .ensures .kind-is) ∙ c .before .before .before .before .before .before .before .before .before .before .before .before .before .match .keys4))
 
--- src/lib.rt:48:1
+-- src/lib.rt:49:1
 reset-s-same-length-5 : (t : ℕ) → reset-s-lts.Need-same-length-5 (reset-s-calls t) (reset-s-at t) reset-s.Post
 reset-s-same-length-5 t c = c .before .before .reset-c .kept .1 .1 .0 ∙ c .before .before .before .before .before .before .reset-s8 .kept .1 .1 .0
 
--- src/lib.rt:48:1
+-- src/lib.rt:49:1
 reset-s-returns-5 : (t : ℕ) → reset-s-lts.Need-returns-5 (reset-s-calls t) (reset-s-at t) reset-s.Post
-reset-s-returns-5 t c = cc (until-reset (c .before .before .before .before .before .before .before .before .before .before .before .before .before .args .p .now) (c .before .before .before .before .before .before .before .before .before .before .before .before .before .args .index .now) _ (c .before .before .before .before .before .before .before .before .before .before .before .before .before .args .i) (c .before .before .before .before .before .before .before .before .before .before .before .before .before .pre .1) (c .before .before .before .before .before .before .before .before .before .before .before .before .before .args .st .now) (sym (c .before .before .before .before .before .before .before .before .before .fields .ensures .kind-is) ∙ c .before .before .before .before .before .before .before .before .match .keys5))
+reset-s-returns-5 t c =
+    let s = c .before .before .before .before .before .before .before .before .before .before .before .before in
+    cc (until-reset (s .args .p .now .now) (s .args .index .now) _ (s .args .i) (s .pre .1) (s .args .st .now) (sym (c .before .before .before .before .before .before .before .before .before .fields .ensures .kind-is) ∙ c .before .before .before .before .before .before .before .before .match .keys5))
 
--- src/lib.rt:48:1
+-- src/lib.rt:49:1
 reset-s-returns-6 : (t : ℕ) → reset-s-lts.Need-returns-6 (reset-s-calls t) (reset-s-at t) reset-s.Post
-reset-s-returns-6 t c = quiet-reset (c .before .before .before .before .before .args .p .now) (c .before .before .before .before .before .args .index .now) _ (c .before .before .before .before .before .args .i) (c .before .before .before .before .before .pre .1) (c .before .before .before .before .before .args .st .now) (c .before .fields .ensures .kind-is) (c .match .rest)
+reset-s-returns-6 t c =
+    let s = c .before .before .before .before in
+    quiet-reset (s .args .p .now .now) (s .args .index .now) _ (s .args .i) (s .pre .1) (s .args .st .now) (c .before .fields .ensures .kind-is) (c .match .rest)
 
 pub +reset-b+reset-c+reset-s-spec : {M : Type 1} → statement M
 +reset-b+reset-c+reset-s-spec = close μ-reset-b μ-reset-c μ-reset-s (λ t. reset-b-lts.spec (reset-b-calls t) (reset-b-at t)

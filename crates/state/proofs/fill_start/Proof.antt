@@ -15,15 +15,19 @@ clear-all-requires c κs = search needs
 
 -- src/lib.rt:132:5
 put-header-requires : tie.Need-put-header-requires
-put-header-requires c κs = headed (c .before .before .before .before .before .before .before .before .args .p .now) _ (c .before .before .before .clear-all .kept .0 ∙ c .before .before .before .before .before .before .before .before .pre .3)
+put-header-requires c κs =
+    let s = c .before .before .before .before .before .before .before in
+    headed (s .args .t1 .now) _ (c .before .before .before .clear-all .kept .0 ∙ s .pre .3)
 
--- src/lib.rt:133:27
+-- src/lib.rt:133:28
 sub-reset-s : tie.Need-sub-reset-s
 sub-reset-s c = search needs
 
 -- src/lib.rt:133:5
 reset-s-requires : tie.Need-reset-s-requires
-reset-s-requires c κs = rooted (c .before .before .before .before .before .before .before .before .before .before .before .before .args .p .now) (c .before .before .before .before .before .before .before .before .before .before .before .before .args .index .now) _ (c .before .before .before .before .before .before .before .before .before .before .before .before .args .count) (c .before .before .before .before .before .before .before .before .before .before .before .before .pre .0) (c .before .before .before .before .before .before .before .before .before .before .before .before .pre .1) (c .before .before .before .before .before .before .before .before .before .before .before .before .pre .2) (c .before .before .before .put-header .kept .1 .0 ∙ c .before .before .before .before .before .before .before .clear-all .kept .0 ∙ c .before .before .before .before .before .before .before .before .before .before .before .before .pre .3)
+reset-s-requires c κs =
+    let s = c .before .before .before .before .before .before .before .before .before .before .before .before in
+    rooted (s .args .t1 .now) (s .args .index .now) _ (s .args .count) (s .pre .0) (s .pre .1) (s .pre .2) (c .before .before .before .before .put-header .kept .1 .0 ∙ c .before .before .before .before .before .before .before .before .clear-all .kept .0 ∙ s .pre .3)
 
 -- src/lib.rt:127:1
 same-length : tie.Need-same-length
@@ -31,7 +35,9 @@ same-length c = search needs
 
 -- src/lib.rt:127:1
 returns : tie.Need-returns
-returns c = cc (start-is (c .before .before .before .before .before .before .before .before .before .before .before .before .before .before .before .args .p .now) _ (c .before .before .before .before .before .before .before .before .before .before .before .before .before .before .before .pre .3))
+returns c =
+    let s = c .before .before .before .before .before .before .before .before .before .before .before .before .before .before .before in
+    cc (start-is (s .args .t1 .now) _ (s .pre .3))
 
 pub fill-start-spec : {M : Type 1} → statement M
 fill-start-spec =

@@ -31,10 +31,6 @@ cell-at-requires c κs = omega (arith, counted _ _ (c .before .before .before .b
 returns : tie.Need-returns
 returns c = rw (start-short _ _ (λ e. c .if1 .taken (e ∙ sym (right-length _ _ _ _ (c .before .before .before .before .before .before .before .pre .1) (c .before .before .before .index-cells .ensures .1) (c .before .cell-at .ensures))))) (refl, refl)
 
--- src/lib.rt:82:19
-slice-aggregate-fill-start : tie.Need-slice-aggregate-fill-start
-slice-aggregate-fill-start c = search needs
-
 -- src/lib.rt:82:5
 fill-start-requires : tie.Need-fill-start-requires
 fill-start-requires c κs = (root-of _ (c .before .before .before .before .before .before .before .before .before .pre .0), c .before .before .before .before .before .index-cells .ensures .0, c .before .before .before .before .before .before .before .before .before .pre .1, right-length _ _ _ _ (c .before .before .before .before .before .before .before .before .before .pre .1) (c .before .before .before .before .before .index-cells .ensures .1) (c .before .before .if1 .left ∙ c .before .before .before .cell-at .ensures))
@@ -55,7 +51,6 @@ start-accepted-spec =
     index-cells-requires
     cell-at-requires
     returns
-    slice-aggregate-fill-start
     fill-start-requires
     same-length
     returns-2)

@@ -1,7 +1,8 @@
 // The values that a record gives: its time and its channels. Past the record's end every byte reads as 0, so nothing is required.
 ghost use mathlib.Core.Path.{_≡_};
-ghost use Prim.Native.Nat.{_<_};
+ghost use Prim.Native.Nat.{_+_, _≤_, _<_};
 ghost use lib.Dec.{eqb};
+ghost use lib.ListN.{length};
 ghost use Rattle.rules.specs.Bytes.{byteAt, u16At, u32At};
 ghost use Rattle.rules.specs.Layout.{channelValue, flagOn, timeIn};
 use rules::INT;
@@ -36,11 +37,22 @@ fn half_at(rec: &[u8], at: usize) -> u32
     wide(byte_at(rec, at)) + 256 * wide(byte_at(rec, at + 1))
 }
 
-// The number of 4 bytes at a position.
+// The number of 2 bytes at a position within the record, read with no test.
+fn half_in(rec: &[u8], at: usize) -> u32
+    requires { ⌜ at + 2 ≤ length (now rec) ⌝ }
+    ensures { λ r. ⌜ (r ≡ u16At (now (rec .entry)) at) × (r < 65536) ⌝ }
+{
+    wide(rec[at]) + 256 * wide(rec[at + 1])
+}
+
+// The number of 4 bytes at a position, by one test where they are all in the record.
 fn word_at(rec: &[u8], at: usize) -> u32
     requires { ⌜ at < 98 ⌝ }
     ensures { λ r. ⌜ r ≡ u32At (now (rec .entry)) at ⌝ }
 {
+    if at + 4 <= rec.len() {
+        return half_in(rec, at) + 65536 * half_in(rec, at + 2);
+    }
     half_at(rec, at) + 65536 * half_at(rec, at + 2)
 }
 

@@ -28,24 +28,25 @@ fn wrong_if(wrong: bool, n: usize) -> Place
     }
 }
 
-// The let x, if its definition is around in this region.
-fn needed(marks: &[u16], region: usize, x: usize) -> Place
-    requires { ⌜ (length (now marks) ≡ 1008) × (0 < region) ⌝ }
+// The let x, if its definition is around in this region; by all marks as a slice, whose length is told in the proof.
+fn needed(marks: &[u16; 1008], region: usize, x: usize) -> Place
+    requires { ⌜ 0 < region ⌝ }
     ensures { λ r. ⌜ r ≡ wrongIf (markedIn (now (marks .entry)) region x) x ⌝ }
 {
-    if x < marks.len() {
-        let own = marks[x] as usize;
+    let all = &marks[..];
+    if x < all.len() {
+        let own = all[x] as usize;
         return wrong_if(own == region, x);
     }
     Place::Nowhere
 }
 
 // The smallest let marked with the region that expression i needs at once.
-fn pass_e(p: &[u8], marks: &[u16], region: usize, i: usize) -> Place
-    requires { ⌜ Entered isExpression (now p) (now marks) region i ⌝ }
-    ensures { λ r. ⌜ r ≡ foundE (markedIn (now (marks .entry)) region) (exprAt (now (p .entry)) i) ⌝ }
+fn pass_e(p: &&[u8], marks: &[u16; 1008], region: usize, i: usize) -> Place
+    requires { ⌜ Entered isExpression (now (now p)) (now marks) region i ⌝ }
+    ensures { λ r. ⌜ r ≡ foundE (markedIn (now (marks .entry)) region) (exprAt (now (now (p .entry))) i) ⌝ }
 {
-    let n = fields(p, i);
+    let n = fields(*p, i);
     let k = n.kind;
     match k {
         16 => needed(marks, region, n.a),
@@ -73,11 +74,11 @@ fn pass_e(p: &[u8], marks: &[u16], region: usize, i: usize) -> Place
 }
 
 // The same of signal i, and its lets that are not ready.
-fn pass_s(p: &[u8], marks: &mut [u16], region: usize, i: usize) -> Place
-    requires { ⌜ Entered isSignal (now p) (now marks) region i ⌝ }
-    ensures { λ r. ⌜ (r ≡ foundS (markedIn (now (marks .entry)) region) (signalAt (now (p .entry)) i)) × (now (marks .exit) ≡ now (marks .entry)) ⌝ }
+fn pass_s(p: &&[u8], marks: &mut [u16; 1008], region: usize, i: usize) -> Place
+    requires { ⌜ Entered isSignal (now (now p)) (now marks) region i ⌝ }
+    ensures { λ r. ⌜ (r ≡ foundS (markedIn (now (marks .entry)) region) (signalAt (now (now (p .entry))) i)) × (now (marks .exit) ≡ now (marks .entry)) ⌝ }
 {
-    let n = fields(p, i);
+    let n = fields(*p, i);
     let k = n.kind;
     match k {
         1 => Place::Nowhere,
@@ -112,9 +113,9 @@ fn pass_s(p: &[u8], marks: &mut [u16], region: usize, i: usize) -> Place
 }
 
 // Signal k, in the definition of let i.
-fn inside(p: &[u8], marks: &mut [u16], region: usize, i: usize, k: usize) -> Place
-    requires { ⌜ Entered isSignal (now p) (now marks) region k × (i < length (now marks)) ⌝ }
-    ensures { λ r. ⌜ (r ≡ foundS (adding i (markedIn (now (marks .entry)) region)) (signalAt (now (p .entry)) k)) × (now (marks .exit) ≡ now (marks .entry)) ⌝ }
+fn inside(p: &&[u8], marks: &mut [u16; 1008], region: usize, i: usize, k: usize) -> Place
+    requires { ⌜ Entered isSignal (now (now p)) (now marks) region k × (i < length (now marks)) ⌝ }
+    ensures { λ r. ⌜ (r ≡ foundS (adding i (markedIn (now (marks .entry)) region)) (signalAt (now (now (p .entry))) k)) × (now (marks .exit) ≡ now (marks .entry)) ⌝ }
 {
     let old = marks[i];
     marks[i] = region as u16;
@@ -124,11 +125,11 @@ fn inside(p: &[u8], marks: &mut [u16], region: usize, i: usize, k: usize) -> Pla
 }
 
 // The list of branches at node j.
-fn pass_b(p: &[u8], marks: &mut [u16], region: usize, j: usize) -> Place
-    requires { ⌜ Entered isBranch (now p) (now marks) region j ⌝ }
-    ensures { λ r. ⌜ (r ≡ foundB (markedIn (now (marks .entry)) region) (branchesAt (now (p .entry)) j)) × (now (marks .exit) ≡ now (marks .entry)) ⌝ }
+fn pass_b(p: &&[u8], marks: &mut [u16; 1008], region: usize, j: usize) -> Place
+    requires { ⌜ Entered isBranch (now (now p)) (now marks) region j ⌝ }
+    ensures { λ r. ⌜ (r ≡ foundB (markedIn (now (marks .entry)) region) (branchesAt (now (now (p .entry))) j)) × (now (marks .exit) ≡ now (marks .entry)) ⌝ }
 {
-    let n = fields(p, j);
+    let n = fields(*p, j);
     let body = pass_s(p, marks, region, n.a);
     if n.b == 65535 {
         return sooner(body, Place::Nowhere);
@@ -138,11 +139,11 @@ fn pass_b(p: &[u8], marks: &mut [u16], region: usize, j: usize) -> Place
 }
 
 // The list of cases at node j: each event is a region of its own.
-fn pass_c(p: &[u8], marks: &mut [u16], j: usize) -> Place
-    requires { ⌜ Entered isCase (now p) (now marks) (j + 1) j ⌝ }
-    ensures { λ r. ⌜ (r ≡ readyC (casesAt (now (p .entry)) j)) × (now (marks .exit) ≡ now (marks .entry)) ⌝ }
+fn pass_c(p: &&[u8], marks: &mut [u16; 1008], j: usize) -> Place
+    requires { ⌜ Entered isCase (now (now p)) (now marks) (j + 1) j ⌝ }
+    ensures { λ r. ⌜ (r ≡ readyC (casesAt (now (now (p .entry))) j)) × (now (marks .exit) ≡ now (marks .entry)) ⌝ }
 {
-    let n = fields(p, j);
+    let n = fields(*p, j);
     let event = pass_s(p, marks, n.a + 1, n.a);
     if n.b == 65535 {
         return sooner(event, Place::Nowhere);
@@ -157,5 +158,5 @@ pub fn ready_fault(p: &[u8], count: usize) -> Place
     ensures { λ r. ⌜ r ≡ readyFault (now (p .entry)) ⌝ }
 {
     let mut marks: [u16; 1008] = [0; 1008];
-    pass_s(p, &mut marks, count, count - 1)
+    pass_s(&p, &mut marks, count, count - 1)
 }

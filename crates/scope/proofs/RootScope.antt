@@ -2,19 +2,13 @@
 -- Assumes nothing.
 use mathlib.Core.Path.{_≡_, refl, ap}
 use mathlib.Core.List.{[]}
-use Prim.Native.Nat.{ℕ, _-_, _≤_}
-use lib.ListN.{length, replicate}
+use Prim.Native.Nat.{ℕ, _-_}
+use lib.ListN.{replicate}
 use Rattle.rules.specs.Bytes.{Bytes}
 use Rattle.rules.specs.Layout.{nodes}
-use Rattle.rules.specs.Kinds.{isSignal}
-use Rattle.rules.specs.Shaped.{NodeOf}
 use Rattle.rules.specs.Tree.{signalAt, root}
 use Rattle.rules.specs.Scope.{unmarked, scopeS, scopeFault}
-use Rattle.scope.specs.Offers.{offersAt, Ready, Offered}
-use Rattle.scope.proofs.SignalScope.{no-offer}
-
-pub root-starts : (p : Bytes) (count : ℕ) → NodeOf isSignal p (count - 1) → Ready isSignal p (replicate 1008 0) (count - 1) × Offered p 65535
-root-starts p count w = (record { node = w; room = w .shaped .small }, no-offer p)
+use Rattle.scope.specs.Offers.{offersAt}
 
 pub root-scope : (p : Bytes) (count : ℕ) → count ≡ nodes p → scopeS (replicate 1008 0) (offersAt p 65535) (signalAt p (count - 1)) ≡ scopeFault p
 unfolding scopeFault unmarked root offersAt

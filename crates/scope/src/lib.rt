@@ -2,33 +2,34 @@
 ghost use mathlib.Core.Path.{_≡_};
 ghost use mathlib.Core.Bool.{Bool};
 ghost use Prim.Native.Nat.{_+_, _-_, _*_, _≤_, _<_};
-ghost use lib.ListN.{length, getD};
 ghost use Rattle.rules.specs.Layout.{nodes};
 ghost use Rattle.rules.specs.Kinds.{isExpression, isSignal, isBranch, isCase};
 ghost use Rattle.rules.specs.Places.{sooner as soonerOf, wrongUnless};
 ghost use Rattle.rules.specs.Tree.{exprAt, signalAt, branchesAt, casesAt};
 ghost use Rattle.rules.specs.Scope.{mark, isMarked, hasBranch, isOffered, scopeE, scopeS, scopeB, scopeC, scopeFault};
 ghost use Rattle.rules.specs.Shaped.{NodeOf};
-ghost use Rattle.scope.specs.Offers.{offersAt, Ready, Offered};
+ghost use Rattle.scope.specs.Offers.{offersAt, Offered};
 use places::sooner;
 use places::wrong_unless;
 use rules::Place;
 use table::fields;
 
-fn marked(marks: &[u8], n: usize) -> bool
+// Whether binder n is marked; by the whole array as a slice, whose length is told in the proof.
+fn marked(marks: &[u8; 1008], n: usize) -> bool
     ensures { λ r. ⌜ r ≡ isMarked (now (marks .entry)) n ⌝ }
 {
-    if n < marks.len() {
-        return marks[n] == 1;
+    let all = &marks[..];
+    if n < all.len() {
+        return all[n] == 1;
     }
     false
 }
 
-pub fn scope_e(p: &[u8], marks: &mut [u8], i: usize) -> Place
-    requires { ⌜ Ready isExpression (now p) (now marks) i ⌝ }
-    ensures { λ r. ⌜ (r ≡ scopeE (now (marks .entry)) (exprAt (now (p .entry)) i)) × (now (marks .exit) ≡ now (marks .entry)) ⌝ }
+pub fn scope_e(p: &&[u8], marks: &mut [u8; 1008], i: usize) -> Place
+    requires { ⌜ NodeOf isExpression (now (now p)) i ⌝ }
+    ensures { λ r. ⌜ (r ≡ scopeE (now (marks .entry)) (exprAt (now (now (p .entry))) i)) × (now (marks .exit) ≡ now (marks .entry)) ⌝ }
 {
-    let n = fields(p, i);
+    let n = fields(*p, i);
     let k = n.kind;
     match k {
         16 => wrong_unless(marked(marks, n.a), i),
@@ -56,9 +57,9 @@ pub fn scope_e(p: &[u8], marks: &mut [u8], i: usize) -> Place
 }
 
 // Expression k, below binder i.
-fn inside_e(p: &[u8], marks: &mut [u8], i: usize, k: usize) -> Place
-    requires { ⌜ Ready isExpression (now p) (now marks) k × (i < length (now marks)) ⌝ }
-    ensures { λ r. ⌜ (r ≡ scopeE (mark (now (marks .entry)) i) (exprAt (now (p .entry)) k)) × (now (marks .exit) ≡ now (marks .entry)) ⌝ }
+fn inside_e(p: &&[u8], marks: &mut [u8; 1008], i: usize, k: usize) -> Place
+    requires { ⌜ NodeOf isExpression (now (now p)) k × (i < 1008) ⌝ }
+    ensures { λ r. ⌜ (r ≡ scopeE (mark (now (marks .entry)) i) (exprAt (now (now (p .entry))) k)) × (now (marks .exit) ≡ now (marks .entry)) ⌝ }
 {
     let old = marks[i];
     marks[i] = 1;
@@ -68,23 +69,23 @@ fn inside_e(p: &[u8], marks: &mut [u8], i: usize, k: usize) -> Place
 }
 
 // Whether the list of branches at j has the branch k.
-pub fn has_branch(p: &[u8], j: usize, k: usize) -> bool
-    requires { ⌜ NodeOf isBranch (now p) j ⌝ }
-    ensures { λ r. ⌜ r ≡ hasBranch k (branchesAt (now (p .entry)) j) ⌝ }
+pub fn has_branch(p: &&[u8], j: usize, k: usize) -> bool
+    requires { ⌜ NodeOf isBranch (now (now p)) j ⌝ }
+    ensures { λ r. ⌜ r ≡ hasBranch k (branchesAt (now (now (p .entry))) j) ⌝ }
 {
     if j == k {
         return true;
     }
-    let n = fields(p, j);
+    let n = fields(*p, j);
     if n.b == 65535 {
         return false;
     }
     has_branch(p, n.b, k)
 }
 
-fn offered(p: &[u8], group: usize, k: usize) -> bool
-    requires { ⌜ Offered (now p) group ⌝ }
-    ensures { λ r. ⌜ r ≡ isOffered k (offersAt (now (p .entry)) group) ⌝ }
+fn offered(p: &&[u8], group: usize, k: usize) -> bool
+    requires { ⌜ Offered (now (now p)) group ⌝ }
+    ensures { λ r. ⌜ r ≡ isOffered k (offersAt (now (now (p .entry))) group) ⌝ }
 {
     if group == 65535 {
         return false;
@@ -93,11 +94,11 @@ fn offered(p: &[u8], group: usize, k: usize) -> bool
 }
 
 // Signal i; a case may leave for the group whose first branch is given, if it is not 65535.
-pub fn scope_s(p: &[u8], marks: &mut [u8], i: usize, group: usize) -> Place
-    requires { ⌜ Ready isSignal (now p) (now marks) i × Offered (now p) group ⌝ }
-    ensures { λ r. ⌜ (r ≡ scopeS (now (marks .entry)) (offersAt (now (p .entry)) group) (signalAt (now (p .entry)) i)) × (now (marks .exit) ≡ now (marks .entry)) ⌝ }
+pub fn scope_s(p: &&[u8], marks: &mut [u8; 1008], i: usize, group: usize) -> Place
+    requires { ⌜ NodeOf isSignal (now (now p)) i × Offered (now (now p)) group ⌝ }
+    ensures { λ r. ⌜ (r ≡ scopeS (now (marks .entry)) (offersAt (now (now (p .entry))) group) (signalAt (now (now (p .entry))) i)) × (now (marks .exit) ≡ now (marks .entry)) ⌝ }
 {
-    let n = fields(p, i);
+    let n = fields(*p, i);
     let k = n.kind;
     match k {
         3 => scope_e(p, marks, n.a),
@@ -128,9 +129,9 @@ pub fn scope_s(p: &[u8], marks: &mut [u8], i: usize, group: usize) -> Place
 }
 
 // Signal k, below binder i.
-fn inside_s(p: &[u8], marks: &mut [u8], i: usize, k: usize, group: usize) -> Place
-    requires { ⌜ Ready isSignal (now p) (now marks) k × Offered (now p) group × (i < length (now marks)) ⌝ }
-    ensures { λ r. ⌜ (r ≡ scopeS (mark (now (marks .entry)) i) (offersAt (now (p .entry)) group) (signalAt (now (p .entry)) k)) × (now (marks .exit) ≡ now (marks .entry)) ⌝ }
+fn inside_s(p: &&[u8], marks: &mut [u8; 1008], i: usize, k: usize, group: usize) -> Place
+    requires { ⌜ NodeOf isSignal (now (now p)) k × Offered (now (now p)) group × (i < 1008) ⌝ }
+    ensures { λ r. ⌜ (r ≡ scopeS (mark (now (marks .entry)) i) (offersAt (now (now (p .entry))) group) (signalAt (now (now (p .entry))) k)) × (now (marks .exit) ≡ now (marks .entry)) ⌝ }
 {
     let old = marks[i];
     marks[i] = 1;
@@ -139,11 +140,11 @@ fn inside_s(p: &[u8], marks: &mut [u8], i: usize, k: usize, group: usize) -> Pla
     r
 }
 
-fn scope_b(p: &[u8], marks: &mut [u8], j: usize, group: usize) -> Place
-    requires { ⌜ Ready isBranch (now p) (now marks) j × Offered (now p) group ⌝ }
-    ensures { λ r. ⌜ (r ≡ scopeB (now (marks .entry)) (offersAt (now (p .entry)) group) (branchesAt (now (p .entry)) j)) × (now (marks .exit) ≡ now (marks .entry)) ⌝ }
+fn scope_b(p: &&[u8], marks: &mut [u8; 1008], j: usize, group: usize) -> Place
+    requires { ⌜ NodeOf isBranch (now (now p)) j × Offered (now (now p)) group ⌝ }
+    ensures { λ r. ⌜ (r ≡ scopeB (now (marks .entry)) (offersAt (now (now (p .entry))) group) (branchesAt (now (now (p .entry))) j)) × (now (marks .exit) ≡ now (marks .entry)) ⌝ }
 {
-    let n = fields(p, j);
+    let n = fields(*p, j);
     let body = inside_s(p, marks, j, n.a, group);
     if n.b == 65535 {
         return sooner(body, Place::Nowhere);
@@ -152,11 +153,11 @@ fn scope_b(p: &[u8], marks: &mut [u8], j: usize, group: usize) -> Place
     sooner(body, rest)
 }
 
-fn scope_c(p: &[u8], marks: &mut [u8], j: usize, group: usize) -> Place
-    requires { ⌜ Ready isCase (now p) (now marks) j × Offered (now p) group ⌝ }
-    ensures { λ r. ⌜ (r ≡ scopeC (now (marks .entry)) (offersAt (now (p .entry)) group) (casesAt (now (p .entry)) j)) × (now (marks .exit) ≡ now (marks .entry)) ⌝ }
+fn scope_c(p: &&[u8], marks: &mut [u8; 1008], j: usize, group: usize) -> Place
+    requires { ⌜ NodeOf isCase (now (now p)) j × Offered (now (now p)) group ⌝ }
+    ensures { λ r. ⌜ (r ≡ scopeC (now (marks .entry)) (offersAt (now (now (p .entry))) group) (casesAt (now (now (p .entry))) j)) × (now (marks .exit) ≡ now (marks .entry)) ⌝ }
 {
-    let n = fields(p, j);
+    let n = fields(*p, j);
     let here = wrong_unless(offered(p, group, n.c), j);
     let event = scope_s(p, marks, n.a, 65535);
     if n.b == 65535 {
@@ -172,5 +173,5 @@ pub fn scope_fault(p: &[u8], count: usize) -> Place
     ensures { λ r. ⌜ r ≡ scopeFault (now (p .entry)) ⌝ }
 {
     let mut marks: [u8; 1008] = [0; 1008];
-    scope_s(p, &mut marks, count - 1, 65535)
+    scope_s(&p, &mut marks, count - 1, 65535)
 }

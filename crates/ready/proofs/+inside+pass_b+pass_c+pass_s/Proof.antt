@@ -4,7 +4,7 @@ use native.Mathlib.Omega.{arith}
 use borrow.Author.Needs.{needs}
 use mathlib.Core.List.{List}
 use Prim.Native.Nat.{_*_, _+_}
-use lib.ListN.{length, length-set, set, getD}
+use lib.ListN.{set, getD}
 use Rattle.rules.proofs.Kids.{read}
 use Rattle.rules.proofs.Signals.{time-left, ext-kid, delay-kid, let-kids, switch-kids, group-kids, until-kids, branch-kid, branch-next, case-kid, case-next}
 use Rattle.rules.specs.Tree.{signalAt}
@@ -34,44 +34,53 @@ use Rattle.table.proofs.fields.Reads as fields-reads
 use Rattle.ready.proofs.+inside+pass_b+pass_c+pass_s.{statement}
 use Rattle.ready.proofs.+inside+pass_b+pass_c+pass_s.Tie.{close}
 
-abbrev μ-inside : Measures 2 inside-kinds.ps ℕ
+abbrev μ-inside : Measures 3 inside-kinds.ps ℕ
 μ-inside κs a = 2 * a .1 .1 .1 .1 .0 + 1
 
-abbrev μ-pass-b : Measures 2 pass-b-kinds.ps ℕ
+abbrev μ-pass-b : Measures 3 pass-b-kinds.ps ℕ
 μ-pass-b κs a = 2 * a .1 .1 .1 .0
 
-abbrev μ-pass-c : Measures 2 pass-c-kinds.ps ℕ
+abbrev μ-pass-c : Measures 3 pass-c-kinds.ps ℕ
 μ-pass-c κs a = 2 * a .1 .1 .0
 
-abbrev μ-pass-s : Measures 2 pass-s-kinds.ps ℕ
+abbrev μ-pass-s : Measures 3 pass-s-kinds.ps ℕ
 μ-pass-s κs a = 2 * a .1 .1 .1 .0
 
-abbrev inside-at : ℕ → In 2 inside-kinds.ps
-inside-at t = and 2 inside-kinds.ps (is 2 inside-kinds.ps μ-inside t) inside.Pre
+abbrev inside-at : ℕ → In 3 inside-kinds.ps
+inside-at t = and 3 inside-kinds.ps (is 3 inside-kinds.ps μ-inside t) inside.Pre
 
-abbrev inside-below : ℕ → In 2 inside-kinds.ps
-inside-below t = and 2 inside-kinds.ps (falls 2 inside-kinds.ps _<_ μ-inside t) inside.Pre
+abbrev inside-below : ℕ → In 3 inside-kinds.ps
+inside-below t = and 3 inside-kinds.ps (falls 3 inside-kinds.ps _<_ μ-inside t) inside.Pre
 
-abbrev pass-b-at : ℕ → In 2 pass-b-kinds.ps
-pass-b-at t = and 2 pass-b-kinds.ps (is 2 pass-b-kinds.ps μ-pass-b t) pass-b.Pre
+abbrev pass-b-at : ℕ → In 3 pass-b-kinds.ps
+pass-b-at t = and 3 pass-b-kinds.ps (is 3 pass-b-kinds.ps μ-pass-b t) pass-b.Pre
 
-abbrev pass-b-below : ℕ → In 2 pass-b-kinds.ps
-pass-b-below t = and 2 pass-b-kinds.ps (falls 2 pass-b-kinds.ps _<_ μ-pass-b t) pass-b.Pre
+abbrev pass-b-below : ℕ → In 3 pass-b-kinds.ps
+pass-b-below t = and 3 pass-b-kinds.ps (falls 3 pass-b-kinds.ps _<_ μ-pass-b t) pass-b.Pre
 
-abbrev pass-c-at : ℕ → In 2 pass-c-kinds.ps
-pass-c-at t = and 2 pass-c-kinds.ps (is 2 pass-c-kinds.ps μ-pass-c t) pass-c.Pre
+abbrev pass-c-at : ℕ → In 3 pass-c-kinds.ps
+pass-c-at t = and 3 pass-c-kinds.ps (is 3 pass-c-kinds.ps μ-pass-c t) pass-c.Pre
 
-abbrev pass-c-below : ℕ → In 2 pass-c-kinds.ps
-pass-c-below t = and 2 pass-c-kinds.ps (falls 2 pass-c-kinds.ps _<_ μ-pass-c t) pass-c.Pre
+abbrev pass-c-below : ℕ → In 3 pass-c-kinds.ps
+pass-c-below t = and 3 pass-c-kinds.ps (falls 3 pass-c-kinds.ps _<_ μ-pass-c t) pass-c.Pre
 
-abbrev pass-s-at : ℕ → In 2 pass-s-kinds.ps
-pass-s-at t = and 2 pass-s-kinds.ps (is 2 pass-s-kinds.ps μ-pass-s t) pass-s.Pre
+abbrev pass-s-at : ℕ → In 3 pass-s-kinds.ps
+pass-s-at t = and 3 pass-s-kinds.ps (is 3 pass-s-kinds.ps μ-pass-s t) pass-s.Pre
 
-abbrev pass-s-below : ℕ → In 2 pass-s-kinds.ps
-pass-s-below t = and 2 pass-s-kinds.ps (falls 2 pass-s-kinds.ps _<_ μ-pass-s t) pass-s.Pre
+abbrev pass-s-below : ℕ → In 3 pass-s-kinds.ps
+pass-s-below t = and 3 pass-s-kinds.ps (falls 3 pass-s-kinds.ps _<_ μ-pass-s t) pass-s.Pre
 
 abbrev inside-calls : ℕ → inside-lts.Claims
 inside-calls t = (pass-s-below t, pass-s.Post)
+
+abbrev pass-b-calls : ℕ → pass-b-lts.Claims
+pass-b-calls t = (fields-reads.Asked, fields-reads.Learnt, pass-s-below t, pass-s.Post, sooner-reads.Asked, sooner-reads.Learnt, pass-b-below t, pass-b.Post)
+
+abbrev pass-c-calls : ℕ → pass-c-lts.Claims
+pass-c-calls t = (fields-reads.Asked, fields-reads.Learnt, pass-s-below t, pass-s.Post, sooner-reads.Asked, sooner-reads.Learnt, pass-c-below t, pass-c.Post)
+
+abbrev pass-s-calls : ℕ → pass-s-lts.Claims
+pass-s-calls t = (fields-reads.Asked, fields-reads.Learnt, pass-e-reads.Asked, pass-e-reads.Learnt, pass-s-below t, pass-s.Post, inside-below t, inside.Post, sooner-reads.Asked, sooner-reads.Learnt, pass-b-below t, pass-b.Post, pass-c-below t, pass-c.Post)
 
 -- src/lib.rt:120:15
 inside-mul-old :
@@ -79,15 +88,13 @@ inside-mul-old :
 inside-mul-old t c = search needs
 
 -- src/lib.rt:120:15
-inside-slice-read-old :
-    (t : ℕ) →
-    inside-lts.Need-slice-read-old (inside-calls t) (inside-at t) inside.Post
-inside-slice-read-old t c = search needs
+inside-element-copy-out-old : (t : ℕ) → inside-lts.Need-element-copy-out-old (inside-calls t) (inside-at t) inside.Post
+inside-element-copy-out-old t c = search needs
 
 -- src/lib.rt:121:16
 inside-cast-marks :
     (t : ℕ) → inside-lts.Need-cast-marks (inside-calls t) (inside-at t) inside.Post
-inside-cast-marks t c = omega (arith, c .before .before .before .pre .1 .0 .within, c .before .before .before .pre .1 .0 .node .shaped .small)
+inside-cast-marks t c = omega (arith, c .before .pre .1 .0 .within, c .before .pre .1 .0 .node .shaped .small)
 
 -- src/lib.rt:121:5
 inside-mul-marks :
@@ -95,14 +102,14 @@ inside-mul-marks :
 inside-mul-marks t c = search needs
 
 -- src/lib.rt:121:5
-inside-slice-write-marks : (t : ℕ) → inside-lts.Need-slice-write-marks (inside-calls t) (inside-at t) inside.Post
-inside-slice-write-marks t c = search needs
+inside-element-write-marks : (t : ℕ) → inside-lts.Need-element-write-marks (inside-calls t) (inside-at t) inside.Post
+inside-element-write-marks t c = search needs
 
 -- src/lib.rt:122:9
 inside-pass-s-requires :
     (t : ℕ) →
     inside-lts.Need-pass-s-requires (inside-calls t) (inside-at t) inside.Post
-inside-pass-s-requires t c κs = (omega (arith, c .before .before .before .before .pre .0), marked-entered (c .before .before .before .before .args .i) (c .before .before .before .before .pre .1 .1) (c .before .before .before .before .pre .1 .0))
+inside-pass-s-requires t c κs = (omega (arith, c .before .before .pre .0), marked-entered (c .before .before .args .i) (c .before .before .pre .1 .1) (c .before .before .pre .1 .0))
 
 -- src/lib.rt:123:5
 inside-mul-marks-2 :
@@ -110,127 +117,97 @@ inside-mul-marks-2 :
 inside-mul-marks-2 t c = search needs
 
 -- src/lib.rt:123:5
-inside-slice-write-marks-2 : (t : ℕ) → inside-lts.Need-slice-write-marks-2 (inside-calls t) (inside-at t) inside.Post
-inside-slice-write-marks-2 t c = omega (arith, c .before .before .pass-s .kept .1 .0, length-set (c .before .before .before .before .before .before .before .args .marks .now) (c .before .before .before .before .before .before .before .args .i) (c .before .before .before .before .before .before .before .args .region), c .before .before .before .before .before .before .before .pre .1 .1)
-
--- src/lib.rt:116:1
-inside-same-length :
-    (t : ℕ) → inside-lts.Need-same-length (inside-calls t) (inside-at t) inside.Post
-inside-same-length t c = rw (c .before .before .pass-s .ensures .1) (ap length (put-back (c .before .before .before .before .before .before .before .args .marks .now) (c .before .before .before .before .before .before .before .args .i) (c .before .before .before .before .before .before .before .args .region)))
+inside-element-write-marks-2 : (t : ℕ) → inside-lts.Need-element-write-marks-2 (inside-calls t) (inside-at t) inside.Post
+inside-element-write-marks-2 t c = search needs
 
 -- src/lib.rt:116:1
 inside-returns :
     (t : ℕ) → inside-lts.Need-returns (inside-calls t) (inside-at t) inside.Post
-inside-returns t c = (c .before .before .pass-s .ensures .0 ∙ ap (λ (N : Lets). foundS N (signalAt (c .before .before .before .before .before .before .before .args .p .now) (c .before .before .before .before .before .before .before .args .k))) (marked (c .before .before .before .before .before .before .before .args .marks .now) (c .before .before .before .before .before .before .before .args .i) (c .before .before .before .before .before .before .before .args .region) (c .before .before .before .before .before .before .before .pre .1 .1)), ap (λ (l : List ℕ). set l (c .before .before .before .before .before .before .before .args .i) (getD (c .before .before .before .before .before .before .before .args .marks .now) (c .before .before .before .before .before .before .before .args .i) 0)) (c .before .before .pass-s .ensures .1) ∙ put-back _ _ (c .before .before .before .before .before .before .before .args .region))
-
-abbrev pass-b-calls : ℕ → pass-b-lts.Claims
-pass-b-calls t = (fields-reads.Asked, fields-reads.Learnt, pass-s-below t, pass-s.Post, sooner-reads.Asked, sooner-reads.Learnt, pass-b-below t, pass-b.Post)
+inside-returns t c = (c .pass-s .ensures .0 ∙ ap (λ (N : Lets). foundS N (signalAt (c .before .before .before .args .p .now .now) (c .before .before .before .args .k))) (marked (c .before .before .before .args .marks .now) (c .before .before .before .args .i) (c .before .before .before .args .region) (c .before .before .before .pre .1 .1)), ap (λ (l : List ℕ). set l (c .before .before .before .args .i) (getD (c .before .before .before .args .marks .now) (c .before .before .before .args .i) 0)) (c .pass-s .ensures .1) ∙ put-back _ _ (c .before .before .before .args .region))
 
 -- src/lib.rt:132:9
 pass-b-fields-requires : (t : ℕ) → pass-b-lts.Need-fields-requires (pass-b-calls t) (pass-b-at t) pass-b.Post
-pass-b-fields-requires t c κs = omega (arith, c .before .before .pre .1 .node .inside, c .before .before .pre .1 .node .shaped .within)
+pass-b-fields-requires t c κs = omega (arith, c .before .pre .1 .node .inside, c .before .pre .1 .node .shaped .within)
 
 -- src/lib.rt:133:9
 pass-b-pass-s-requires : (t : ℕ) → pass-b-lts.Need-pass-s-requires (pass-b-calls t) (pass-b-at t) pass-b.Post
-pass-b-pass-s-requires t c κs = let k = read (c .before .fields .ensures .a-is) (branch-kid (c .before .before .before .before .args .p .now) (c .before .before .before .before .args .j) (c .before .before .before .before .pre .1 .node)) in (omega (arith, k .less, c .before .before .before .before .pre .0), entered (c .before .before .before .before .pre .1) refl k (omega (arith, k .less, c .before .before .before .before .pre .1 .above)) (omega (arith, k .less, c .before .before .before .before .pre .1 .above)))
+pass-b-pass-s-requires t c κs = let k = read (c .before .fields .ensures .a-is) (branch-kid (c .before .before .before .args .p .now .now) (c .before .before .before .args .j) (c .before .before .before .pre .1 .node)) in (omega (arith, k .less, c .before .before .before .pre .0), entered (c .before .before .before .pre .1) refl k (omega (arith, k .less, c .before .before .before .pre .1 .above)) (omega (arith, k .less, c .before .before .before .pre .1 .above)))
 
 -- src/lib.rt:135:9
 pass-b-sooner-requires : (t : ℕ) → pass-b-lts.Need-sooner-requires (pass-b-calls t) (pass-b-at t) pass-b.Post
 pass-b-sooner-requires t c κs = search needs
 
 -- src/lib.rt:135:9
-pass-b-same-length : (t : ℕ) → pass-b-lts.Need-same-length (pass-b-calls t) (pass-b-at t) pass-b.Post
-pass-b-same-length t c = c .before .before .before .before .before .pass-s .kept .1 .0
-
--- src/lib.rt:135:9
 pass-b-returns : (t : ℕ) → pass-b-lts.Need-returns (pass-b-calls t) (pass-b-at t) pass-b.Post
-pass-b-returns t c = (cc (branch-last-found (c .before .before .before .before .before .before .before .before .before .before .args .p .now) (c .before .before .before .before .before .before .before .before .before .before .args .j) (c .before .before .before .before .before .before .before .before .before .before .pre .1 .node) (markedIn (c .before .before .before .before .before .before .before .before .before .before .args .marks .now) (c .before .before .before .before .before .before .before .before .before .before .args .region)) (sym (c .before .before .before .before .before .before .before .fields .ensures .b-is) ∙ c .before .if1 .taken)), c .before .before .before .before .before .pass-s .ensures .1)
+pass-b-returns t c = (cc (branch-last-found (c .before .before .before .before .before .before .before .args .p .now .now) (c .before .before .before .before .before .before .before .args .j) (c .before .before .before .before .before .before .before .pre .1 .node) (markedIn (c .before .before .before .before .before .before .before .args .marks .now) (c .before .before .before .before .before .before .before .args .region)) (sym (c .before .before .before .before .before .fields .ensures .b-is) ∙ c .before .if1 .taken)), c .before .before .before .pass-s .ensures .1)
 
 -- src/lib.rt:137:9
 pass-b-pass-b-requires : (t : ℕ) → pass-b-lts.Need-pass-b-requires (pass-b-calls t) (pass-b-at t) pass-b.Post
-pass-b-pass-b-requires t c κs = let k = read (c .before .before .before .before .before .before .before .fields .ensures .b-is) (branch-next (c .before .before .before .before .before .before .before .before .before .before .args .p .now) (c .before .before .before .before .before .before .before .before .before .before .args .j) (c .before .before .before .before .before .before .before .before .before .before .pre .1 .node) (λ h. c .before .if1 .left (c .before .before .before .before .before .before .before .fields .ensures .b-is ∙ h))) in (omega (arith, k .less, c .before .before .before .before .before .before .before .before .before .before .pre .0), entered (c .before .before .before .before .before .before .before .before .before .before .pre .1) (c .before .before .before .before .before .pass-s .ensures .1) k (omega (arith, k .less, c .before .before .before .before .before .before .before .before .before .before .pre .1 .above)) (omega (arith, k .less, c .before .before .before .before .before .before .before .before .before .before .pre .1 .above)))
+pass-b-pass-b-requires t c κs = let k = read (c .before .before .before .before .before .fields .ensures .b-is) (branch-next (c .before .before .before .before .before .before .before .args .p .now .now) (c .before .before .before .before .before .before .before .args .j) (c .before .before .before .before .before .before .before .pre .1 .node) (λ h. c .before .if1 .left (c .before .before .before .before .before .fields .ensures .b-is ∙ h))) in (omega (arith, k .less, c .before .before .before .before .before .before .before .pre .0), entered (c .before .before .before .before .before .before .before .pre .1) (c .before .before .before .pass-s .ensures .1) k (omega (arith, k .less, c .before .before .before .before .before .before .before .pre .1 .above)) (omega (arith, k .less, c .before .before .before .before .before .before .before .pre .1 .above)))
 
 -- src/lib.rt:138:5
 pass-b-sooner-requires-2 : (t : ℕ) → pass-b-lts.Need-sooner-requires-2 (pass-b-calls t) (pass-b-at t) pass-b.Post
 pass-b-sooner-requires-2 t c κs = search needs
 
 -- src/lib.rt:128:1
-pass-b-same-length-2 : (t : ℕ) → pass-b-lts.Need-same-length-2 (pass-b-calls t) (pass-b-at t) pass-b.Post
-pass-b-same-length-2 t c = c .before .before .before .pass-b .kept .1 .0 ∙ c .before .before .before .before .before .before .before .before .before .pass-s .kept .1 .0
-
--- src/lib.rt:128:1
 pass-b-returns-2 : (t : ℕ) → pass-b-lts.Need-returns-2 (pass-b-calls t) (pass-b-at t) pass-b.Post
-pass-b-returns-2 t c = (cc (branch-more-found (c .before .before .before .before .before .before .before .before .before .before .before .before .before .before .args .p .now) (c .before .before .before .before .before .before .before .before .before .before .before .before .before .before .args .j) (c .before .before .before .before .before .before .before .before .before .before .before .before .before .before .pre .1 .node) (markedIn (c .before .before .before .before .before .before .before .before .before .before .before .before .before .before .args .marks .now) (c .before .before .before .before .before .before .before .before .before .before .before .before .before .before .args .region)) (λ h. c .before .before .before .before .before .if1 .left (c .before .before .before .before .before .before .before .before .before .before .before .fields .ensures .b-is ∙ h))), c .before .before .before .pass-b .ensures .1 ∙ c .before .before .before .before .before .before .before .before .before .pass-s .ensures .1)
-
-abbrev pass-c-calls : ℕ → pass-c-lts.Claims
-pass-c-calls t = (fields-reads.Asked, fields-reads.Learnt, pass-s-below t, pass-s.Post, sooner-reads.Asked, sooner-reads.Learnt, pass-c-below t, pass-c.Post)
+pass-b-returns-2 t c = (cc (branch-more-found (c .before .before .before .before .before .before .before .before .before .args .p .now .now) (c .before .before .before .before .before .before .before .before .before .args .j) (c .before .before .before .before .before .before .before .before .before .pre .1 .node) (markedIn (c .before .before .before .before .before .before .before .before .before .args .marks .now) (c .before .before .before .before .before .before .before .before .before .args .region)) (λ h. c .before .before .before .if1 .left (c .before .before .before .before .before .before .before .fields .ensures .b-is ∙ h))), c .before .pass-b .ensures .1 ∙ c .before .before .before .before .before .pass-s .ensures .1)
 
 -- src/lib.rt:146:9
 pass-c-fields-requires : (t : ℕ) → pass-c-lts.Need-fields-requires (pass-c-calls t) (pass-c-at t) pass-c.Post
-pass-c-fields-requires t c κs = omega (arith, c .before .before .pre .1 .node .inside, c .before .before .pre .1 .node .shaped .within)
+pass-c-fields-requires t c κs = omega (arith, c .before .pre .1 .node .inside, c .before .pre .1 .node .shaped .within)
 
 -- src/lib.rt:147:34
 pass-c-add-pass-s : (t : ℕ) → pass-c-lts.Need-add-pass-s (pass-c-calls t) (pass-c-at t) pass-c.Post
-pass-c-add-pass-s t c = let k = read (c .before .before .fields .ensures .a-is) (case-kid (c .before .before .before .before .before .args .p .now) (c .before .before .before .before .before .args .j) (c .before .before .before .before .before .pre .1 .node)) in omega (arith, k .less, k .node .inside, k .node .shaped .small)
+pass-c-add-pass-s t c = let k = read (c .before .before .fields .ensures .a-is) (case-kid (c .before .before .before .before .args .p .now .now) (c .before .before .before .before .args .j) (c .before .before .before .before .pre .1 .node)) in omega (arith, k .less, k .node .inside, k .node .shaped .small)
 
 -- src/lib.rt:147:9
 pass-c-pass-s-requires : (t : ℕ) → pass-c-lts.Need-pass-s-requires (pass-c-calls t) (pass-c-at t) pass-c.Post
-pass-c-pass-s-requires t c κs = let k = read (c .before .before .fields .ensures .a-is) (case-kid (c .before .before .before .before .before .args .p .now) (c .before .before .before .before .before .args .j) (c .before .before .before .before .before .pre .1 .node)) in (omega (arith, k .less, c .before .before .before .before .before .pre .0), entered (c .before .before .before .before .before .pre .1) refl k (omega (arith, k .less, c .before .before .before .before .before .pre .1 .above)) (omega (arith, k .less, c .before .before .before .before .before .pre .1 .above)))
+pass-c-pass-s-requires t c κs = let k = read (c .before .before .fields .ensures .a-is) (case-kid (c .before .before .before .before .args .p .now .now) (c .before .before .before .before .args .j) (c .before .before .before .before .pre .1 .node)) in (omega (arith, k .less, c .before .before .before .before .pre .0), entered (c .before .before .before .before .pre .1) refl k (omega (arith, k .less, c .before .before .before .before .pre .1 .above)) (omega (arith, k .less, c .before .before .before .before .pre .1 .above)))
 
 -- src/lib.rt:149:9
 pass-c-sooner-requires : (t : ℕ) → pass-c-lts.Need-sooner-requires (pass-c-calls t) (pass-c-at t) pass-c.Post
 pass-c-sooner-requires t c κs = search needs
 
 -- src/lib.rt:149:9
-pass-c-same-length : (t : ℕ) → pass-c-lts.Need-same-length (pass-c-calls t) (pass-c-at t) pass-c.Post
-pass-c-same-length t c = c .before .before .before .before .before .pass-s .kept .1 .0
-
--- src/lib.rt:149:9
 pass-c-returns : (t : ℕ) → pass-c-lts.Need-returns (pass-c-calls t) (pass-c-at t) pass-c.Post
-pass-c-returns t c = (cc (case-last-ready (c .before .before .before .before .before .before .before .before .before .before .before .args .p .now) (c .before .before .before .before .before .before .before .before .before .before .before .args .j) (c .before .before .before .before .before .before .before .before .before .before .before .pre .1 .node) (sym (c .before .before .before .before .before .before .before .before .fields .ensures .b-is) ∙ c .before .if1 .taken), apart (c .before .before .before .before .before .before .before .before .before .before .before .pre .1) ((case-kid (c .before .before .before .before .before .before .before .before .before .before .before .args .p .now) (c .before .before .before .before .before .before .before .before .before .before .before .args .j) (c .before .before .before .before .before .before .before .before .before .before .before .pre .1 .node)) .less) (signalAt (c .before .before .before .before .before .before .before .before .before .before .before .args .p .now) (aAt (c .before .before .before .before .before .before .before .before .before .before .before .args .p .now) (c .before .before .before .before .before .before .before .before .before .before .before .args .j)))), c .before .before .before .before .before .pass-s .ensures .1)
+pass-c-returns t c = (cc (case-last-ready (c .before .before .before .before .before .before .before .before .args .p .now .now) (c .before .before .before .before .before .before .before .before .args .j) (c .before .before .before .before .before .before .before .before .pre .1 .node) (sym (c .before .before .before .before .before .before .fields .ensures .b-is) ∙ c .before .if1 .taken), apart (c .before .before .before .before .before .before .before .before .pre .1) ((case-kid (c .before .before .before .before .before .before .before .before .args .p .now .now) (c .before .before .before .before .before .before .before .before .args .j) (c .before .before .before .before .before .before .before .before .pre .1 .node)) .less) (signalAt (c .before .before .before .before .before .before .before .before .args .p .now .now) (aAt (c .before .before .before .before .before .before .before .before .args .p .now .now) (c .before .before .before .before .before .before .before .before .args .j)))), c .before .before .before .pass-s .ensures .1)
 
 -- src/lib.rt:151:9
 pass-c-pass-c-requires : (t : ℕ) → pass-c-lts.Need-pass-c-requires (pass-c-calls t) (pass-c-at t) pass-c.Post
-pass-c-pass-c-requires t c κs = let k = read (c .before .before .before .before .before .before .before .before .fields .ensures .b-is) (case-next (c .before .before .before .before .before .before .before .before .before .before .before .args .p .now) (c .before .before .before .before .before .before .before .before .before .before .before .args .j) (c .before .before .before .before .before .before .before .before .before .before .before .pre .1 .node) (λ h. c .before .if1 .left (c .before .before .before .before .before .before .before .before .fields .ensures .b-is ∙ h))) in (omega (arith, k .less, c .before .before .before .before .before .before .before .before .before .before .before .pre .0), entered (c .before .before .before .before .before .before .before .before .before .before .before .pre .1) (c .before .before .before .before .before .pass-s .ensures .1) k (omega (arith, k .less, c .before .before .before .before .before .before .before .before .before .before .before .pre .1 .above)) (omega (arith, k .less, c .before .before .before .before .before .before .before .before .before .before .before .pre .1 .above)))
+pass-c-pass-c-requires t c κs = let k = read (c .before .before .before .before .before .before .fields .ensures .b-is) (case-next (c .before .before .before .before .before .before .before .before .args .p .now .now) (c .before .before .before .before .before .before .before .before .args .j) (c .before .before .before .before .before .before .before .before .pre .1 .node) (λ h. c .before .if1 .left (c .before .before .before .before .before .before .fields .ensures .b-is ∙ h))) in (omega (arith, k .less, c .before .before .before .before .before .before .before .before .pre .0), entered (c .before .before .before .before .before .before .before .before .pre .1) (c .before .before .before .pass-s .ensures .1) k (omega (arith, k .less, c .before .before .before .before .before .before .before .before .pre .1 .above)) (omega (arith, k .less, c .before .before .before .before .before .before .before .before .pre .1 .above)))
 
 -- src/lib.rt:152:5
 pass-c-sooner-requires-2 : (t : ℕ) → pass-c-lts.Need-sooner-requires-2 (pass-c-calls t) (pass-c-at t) pass-c.Post
 pass-c-sooner-requires-2 t c κs = search needs
 
 -- src/lib.rt:142:1
-pass-c-same-length-2 : (t : ℕ) → pass-c-lts.Need-same-length-2 (pass-c-calls t) (pass-c-at t) pass-c.Post
-pass-c-same-length-2 t c = c .before .before .before .pass-c .kept .1 .0 ∙ c .before .before .before .before .before .before .before .before .before .pass-s .kept .1 .0
-
--- src/lib.rt:142:1
 pass-c-returns-2 : (t : ℕ) → pass-c-lts.Need-returns-2 (pass-c-calls t) (pass-c-at t) pass-c.Post
-pass-c-returns-2 t c = (cc (case-more-ready (c .before .before .before .before .before .before .before .before .before .before .before .before .before .before .before .args .p .now) (c .before .before .before .before .before .before .before .before .before .before .before .before .before .before .before .args .j) (c .before .before .before .before .before .before .before .before .before .before .before .before .before .before .before .pre .1 .node) (λ h. c .before .before .before .before .before .if1 .left (c .before .before .before .before .before .before .before .before .before .before .before .before .fields .ensures .b-is ∙ h)), apart (c .before .before .before .before .before .before .before .before .before .before .before .before .before .before .before .pre .1) ((case-kid (c .before .before .before .before .before .before .before .before .before .before .before .before .before .before .before .args .p .now) (c .before .before .before .before .before .before .before .before .before .before .before .before .before .before .before .args .j) (c .before .before .before .before .before .before .before .before .before .before .before .before .before .before .before .pre .1 .node)) .less) (signalAt (c .before .before .before .before .before .before .before .before .before .before .before .before .before .before .before .args .p .now) (aAt (c .before .before .before .before .before .before .before .before .before .before .before .before .before .before .before .args .p .now) (c .before .before .before .before .before .before .before .before .before .before .before .before .before .before .before .args .j)))), c .before .before .before .pass-c .ensures .1 ∙ c .before .before .before .before .before .before .before .before .before .pass-s .ensures .1)
-
-abbrev pass-s-calls : ℕ → pass-s-lts.Claims
-pass-s-calls t = (fields-reads.Asked, fields-reads.Learnt, pass-e-reads.Asked, pass-e-reads.Learnt, pass-s-below t, pass-s.Post, inside-below t, inside.Post, sooner-reads.Asked, sooner-reads.Learnt, pass-b-below t, pass-b.Post, pass-c-below t, pass-c.Post)
+pass-c-returns-2 t c = (cc (case-more-ready (c .before .before .before .before .before .before .before .before .before .before .args .p .now .now) (c .before .before .before .before .before .before .before .before .before .before .args .j) (c .before .before .before .before .before .before .before .before .before .before .pre .1 .node) (λ h. c .before .before .before .if1 .left (c .before .before .before .before .before .before .before .before .fields .ensures .b-is ∙ h)), apart (c .before .before .before .before .before .before .before .before .before .before .pre .1) ((case-kid (c .before .before .before .before .before .before .before .before .before .before .args .p .now .now) (c .before .before .before .before .before .before .before .before .before .before .args .j) (c .before .before .before .before .before .before .before .before .before .before .pre .1 .node)) .less) (signalAt (c .before .before .before .before .before .before .before .before .before .before .args .p .now .now) (aAt (c .before .before .before .before .before .before .before .before .before .before .args .p .now .now) (c .before .before .before .before .before .before .before .before .before .before .args .j)))), c .before .pass-c .ensures .1 ∙ c .before .before .before .before .before .pass-s .ensures .1)
 
 -- src/lib.rt:81:9
 pass-s-fields-requires : (t : ℕ) → pass-s-lts.Need-fields-requires (pass-s-calls t) (pass-s-at t) pass-s.Post
-pass-s-fields-requires t c κs = omega (arith, c .before .before .pre .1 .node .inside, c .before .before .pre .1 .node .shaped .within)
+pass-s-fields-requires t c κs = omega (arith, c .before .pre .1 .node .inside, c .before .pre .1 .node .shaped .within)
 
 -- src/lib.rt:85:14
 pass-s-pass-e-requires : (t : ℕ) → pass-s-lts.Need-pass-e-requires (pass-s-calls t) (pass-s-at t) pass-s.Post
-pass-s-pass-e-requires t c κs = let k = read (c .before .before .fields .ensures .a-is) (ext-kid (c .before .before .before .before .before .args .p .now) (c .before .before .before .before .before .args .i) (c .before .before .before .before .before .pre .1 .node) (sym (c .before .before .fields .ensures .kind-is) ∙ c .before .match .keys2)) in entered (c .before .before .before .before .before .pre .1) refl k (omega (arith, k .less, c .before .before .before .before .before .pre .1 .above)) (omega (arith, k .less, c .before .before .before .before .before .pre .1 .above))
+pass-s-pass-e-requires t c κs = let k = read (c .before .before .fields .ensures .a-is) (ext-kid (c .before .before .before .before .args .p .now .now) (c .before .before .before .before .args .i) (c .before .before .before .before .pre .1 .node) (sym (c .before .before .fields .ensures .kind-is) ∙ c .before .match .keys2)) in entered (c .before .before .before .before .pre .1) refl k (omega (arith, k .less, c .before .before .before .before .pre .1 .above)) (omega (arith, k .less, c .before .before .before .before .pre .1 .above))
 
 -- src/lib.rt:87:25
 pass-s-add-apart : (t : ℕ) → pass-s-lts.Need-add-apart (pass-s-calls t) (pass-s-at t) pass-s.Post
-pass-s-add-apart t c = let k = read (c .before .before .fields .ensures .a-is) (delay-kid (c .before .before .before .before .before .args .p .now) (c .before .before .before .before .before .args .i) (c .before .before .before .before .before .pre .1 .node) (sym (c .before .before .fields .ensures .kind-is) ∙ c .before .match .keys3)) in omega (arith, k .less, k .node .inside, k .node .shaped .small)
+pass-s-add-apart t c = let k = read (c .before .before .fields .ensures .a-is) (delay-kid (c .before .before .before .before .args .p .now .now) (c .before .before .before .before .args .i) (c .before .before .before .before .pre .1 .node) (sym (c .before .before .fields .ensures .kind-is) ∙ c .before .match .keys3)) in omega (arith, k .less, k .node .inside, k .node .shaped .small)
 
 -- src/lib.rt:88:13
 pass-s-pass-s-requires : (t : ℕ) → pass-s-lts.Need-pass-s-requires (pass-s-calls t) (pass-s-at t) pass-s.Post
-pass-s-pass-s-requires t c κs = let k = read (c .before .before .before .fields .ensures .a-is) (delay-kid (c .before .before .before .before .before .before .args .p .now) (c .before .before .before .before .before .before .args .i) (c .before .before .before .before .before .before .pre .1 .node) (sym (c .before .before .before .fields .ensures .kind-is) ∙ c .before .before .match .keys3)) in (omega (arith, k .less, c .before .before .before .before .before .before .pre .0), entered (c .before .before .before .before .before .before .pre .1) refl k (omega (arith, k .less, c .before .before .before .before .before .before .pre .1 .above)) (omega (arith, k .less, c .before .before .before .before .before .before .pre .1 .above)))
+pass-s-pass-s-requires t c κs = let k = read (c .before .before .before .fields .ensures .a-is) (delay-kid (c .before .before .before .before .before .args .p .now .now) (c .before .before .before .before .before .args .i) (c .before .before .before .before .before .pre .1 .node) (sym (c .before .before .before .fields .ensures .kind-is) ∙ c .before .before .match .keys3)) in (omega (arith, k .less, c .before .before .before .before .before .pre .0), entered (c .before .before .before .before .before .pre .1) refl k (omega (arith, k .less, c .before .before .before .before .before .pre .1 .above)) (omega (arith, k .less, c .before .before .before .before .before .pre .1 .above)))
 
 -- src/lib.rt:91:17
 pass-s-inside-requires : (t : ℕ) → pass-s-lts.Need-inside-requires (pass-s-calls t) (pass-s-at t) pass-s.Post
-pass-s-inside-requires t c κs = let k = read (c .before .before .fields .ensures .a-is) (let-kids (c .before .before .before .before .before .args .p .now) (c .before .before .before .before .before .args .i) (c .before .before .before .before .before .pre .1 .node) (sym (c .before .before .fields .ensures .kind-is) ∙ c .before .match .keys4) .0) in (omega (arith, k .less, c .before .before .before .before .before .pre .0), (entered (c .before .before .before .before .before .pre .1) refl k (omega (arith, k .less, c .before .before .before .before .before .pre .1 .above)) (omega (arith, k .less, c .before .before .before .before .before .pre .1 .above)), omega (arith, c .before .before .before .before .before .pre .1 .room, c .before .before .before .before .before .pre .1 .node .inside, c .before .before .before .before .before .pre .1 .node .shaped .small)))
+pass-s-inside-requires t c κs = let k = read (c .before .before .fields .ensures .a-is) (let-kids (c .before .before .before .before .args .p .now .now) (c .before .before .before .before .args .i) (c .before .before .before .before .pre .1 .node) (sym (c .before .before .fields .ensures .kind-is) ∙ c .before .match .keys4) .0) in (omega (arith, k .less, c .before .before .before .before .pre .0), (entered (c .before .before .before .before .pre .1) refl k (omega (arith, k .less, c .before .before .before .before .pre .1 .above)) (omega (arith, k .less, c .before .before .before .before .pre .1 .above)), omega (arith, c .before .before .before .before .pre .1 .room, c .before .before .before .before .pre .1 .node .inside, c .before .before .before .before .pre .1 .node .shaped .small)))
 
 -- src/lib.rt:92:17
 pass-s-pass-s-requires-2 : (t : ℕ) → pass-s-lts.Need-pass-s-requires-2 (pass-s-calls t) (pass-s-at t) pass-s.Post
-pass-s-pass-s-requires-2 t c κs = let k = read (c .before .before .before .before .before .before .fields .ensures .b-is) (let-kids (c .before .before .before .before .before .before .before .before .before .args .p .now) (c .before .before .before .before .before .before .before .before .before .args .i) (c .before .before .before .before .before .before .before .before .before .pre .1 .node) (sym (c .before .before .before .before .before .before .fields .ensures .kind-is) ∙ c .before .before .before .before .before .match .keys4) .1) in (omega (arith, k .less, c .before .before .before .before .before .before .before .before .before .pre .0), entered (c .before .before .before .before .before .before .before .before .before .pre .1) (c .before .before .before .inside .ensures .1) k (omega (arith, k .less, c .before .before .before .before .before .before .before .before .before .pre .1 .above)) (omega (arith, k .less, c .before .before .before .before .before .before .before .before .before .pre .1 .above)))
+pass-s-pass-s-requires-2 t c κs = let k = read (c .before .before .before .before .fields .ensures .b-is) (let-kids (c .before .before .before .before .before .before .args .p .now .now) (c .before .before .before .before .before .before .args .i) (c .before .before .before .before .before .before .pre .1 .node) (sym (c .before .before .before .before .fields .ensures .kind-is) ∙ c .before .before .before .match .keys4) .1) in (omega (arith, k .less, c .before .before .before .before .before .before .pre .0), entered (c .before .before .before .before .before .before .pre .1) (c .before .inside .ensures .1) k (omega (arith, k .less, c .before .before .before .before .before .before .pre .1 .above)) (omega (arith, k .less, c .before .before .before .before .before .before .pre .1 .above)))
 
 -- src/lib.rt:93:13
 pass-s-sooner-requires : (t : ℕ) → pass-s-lts.Need-sooner-requires (pass-s-calls t) (pass-s-at t) pass-s.Post
@@ -238,19 +215,19 @@ pass-s-sooner-requires t c κs = search needs
 
 -- src/lib.rt:96:17
 pass-s-pass-s-requires-3 : (t : ℕ) → pass-s-lts.Need-pass-s-requires-3 (pass-s-calls t) (pass-s-at t) pass-s.Post
-pass-s-pass-s-requires-3 t c κs = let k = read (c .before .before .fields .ensures .a-is) (switch-kids (c .before .before .before .before .before .args .p .now) (c .before .before .before .before .before .args .i) (c .before .before .before .before .before .pre .1 .node) (sym (c .before .before .fields .ensures .kind-is) ∙ c .before .match .keys5) .0) in (omega (arith, k .less, c .before .before .before .before .before .pre .0), entered (c .before .before .before .before .before .pre .1) refl k (omega (arith, k .less, c .before .before .before .before .before .pre .1 .above)) (omega (arith, k .less, c .before .before .before .before .before .pre .1 .above)))
+pass-s-pass-s-requires-3 t c κs = let k = read (c .before .before .fields .ensures .a-is) (switch-kids (c .before .before .before .before .args .p .now .now) (c .before .before .before .before .args .i) (c .before .before .before .before .pre .1 .node) (sym (c .before .before .fields .ensures .kind-is) ∙ c .before .match .keys5) .0) in (omega (arith, k .less, c .before .before .before .before .pre .0), entered (c .before .before .before .before .pre .1) refl k (omega (arith, k .less, c .before .before .before .before .pre .1 .above)) (omega (arith, k .less, c .before .before .before .before .pre .1 .above)))
 
 -- src/lib.rt:97:38
 pass-s-add-pass-s : (t : ℕ) → pass-s-lts.Need-add-pass-s (pass-s-calls t) (pass-s-at t) pass-s.Post
-pass-s-add-pass-s t c = let k = read (c .before .before .before .before .before .before .before .fields .ensures .b-is) (switch-kids (c .before .before .before .before .before .before .before .before .before .before .args .p .now) (c .before .before .before .before .before .before .before .before .before .before .args .i) (c .before .before .before .before .before .before .before .before .before .before .pre .1 .node) (sym (c .before .before .before .before .before .before .before .fields .ensures .kind-is) ∙ c .before .before .before .before .before .before .match .keys5) .1) in omega (arith, k .less, k .node .inside, k .node .shaped .small)
+pass-s-add-pass-s t c = let k = read (c .before .before .before .before .before .fields .ensures .b-is) (switch-kids (c .before .before .before .before .before .before .before .args .p .now .now) (c .before .before .before .before .before .before .before .args .i) (c .before .before .before .before .before .before .before .pre .1 .node) (sym (c .before .before .before .before .before .fields .ensures .kind-is) ∙ c .before .before .before .before .match .keys5) .1) in omega (arith, k .less, k .node .inside, k .node .shaped .small)
 
 -- src/lib.rt:97:17
 pass-s-pass-s-requires-4 : (t : ℕ) → pass-s-lts.Need-pass-s-requires-4 (pass-s-calls t) (pass-s-at t) pass-s.Post
-pass-s-pass-s-requires-4 t c κs = let k = read (c .before .before .before .before .before .before .before .fields .ensures .b-is) (switch-kids (c .before .before .before .before .before .before .before .before .before .before .args .p .now) (c .before .before .before .before .before .before .before .before .before .before .args .i) (c .before .before .before .before .before .before .before .before .before .before .pre .1 .node) (sym (c .before .before .before .before .before .before .before .fields .ensures .kind-is) ∙ c .before .before .before .before .before .before .match .keys5) .1) in (omega (arith, k .less, c .before .before .before .before .before .before .before .before .before .before .pre .0), entered (c .before .before .before .before .before .before .before .before .before .before .pre .1) (c .before .before .before .before .pass-s3 .ensures .1) k (omega (arith, k .less, c .before .before .before .before .before .before .before .before .before .before .pre .1 .above)) (omega (arith, k .less, c .before .before .before .before .before .before .before .before .before .before .pre .1 .above)))
+pass-s-pass-s-requires-4 t c κs = let k = read (c .before .before .before .before .before .fields .ensures .b-is) (switch-kids (c .before .before .before .before .before .before .before .args .p .now .now) (c .before .before .before .before .before .before .before .args .i) (c .before .before .before .before .before .before .before .pre .1 .node) (sym (c .before .before .before .before .before .fields .ensures .kind-is) ∙ c .before .before .before .before .match .keys5) .1) in (omega (arith, k .less, c .before .before .before .before .before .before .before .pre .0), entered (c .before .before .before .before .before .before .before .pre .1) (c .before .before .pass-s3 .ensures .1) k (omega (arith, k .less, c .before .before .before .before .before .before .before .pre .1 .above)) (omega (arith, k .less, c .before .before .before .before .before .before .before .pre .1 .above)))
 
 -- src/lib.rt:98:17
 pass-s-pass-s-requires-5 : (t : ℕ) → pass-s-lts.Need-pass-s-requires-5 (pass-s-calls t) (pass-s-at t) pass-s.Post
-pass-s-pass-s-requires-5 t c κs = let k = read (c .before .before .before .before .before .before .before .before .before .before .before .fields .ensures .c-is) (switch-kids (c .before .before .before .before .before .before .before .before .before .before .before .before .before .before .args .p .now) (c .before .before .before .before .before .before .before .before .before .before .before .before .before .before .args .i) (c .before .before .before .before .before .before .before .before .before .before .before .before .before .before .pre .1 .node) (sym (c .before .before .before .before .before .before .before .before .before .before .before .fields .ensures .kind-is) ∙ c .before .before .before .before .before .before .before .before .before .before .match .keys5) .2) in (omega (arith, k .less, c .before .before .before .before .before .before .before .before .before .before .before .before .before .before .pre .0), entered (c .before .before .before .before .before .before .before .before .before .before .before .before .before .before .pre .1) (c .before .before .before .pass-s4 .ensures .1 ∙ c .before .before .before .before .before .before .before .before .pass-s3 .ensures .1) k (omega (arith, k .less, c .before .before .before .before .before .before .before .before .before .before .before .before .before .before .pre .1 .above)) (omega (arith, k .less, c .before .before .before .before .before .before .before .before .before .before .before .before .before .before .pre .1 .above)))
+pass-s-pass-s-requires-5 t c κs = let k = read (c .before .before .before .before .before .before .before .fields .ensures .c-is) (switch-kids (c .before .before .before .before .before .before .before .before .before .args .p .now .now) (c .before .before .before .before .before .before .before .before .before .args .i) (c .before .before .before .before .before .before .before .before .before .pre .1 .node) (sym (c .before .before .before .before .before .before .before .fields .ensures .kind-is) ∙ c .before .before .before .before .before .before .match .keys5) .2) in (omega (arith, k .less, c .before .before .before .before .before .before .before .before .before .pre .0), entered (c .before .before .before .before .before .before .before .before .before .pre .1) (c .before .pass-s4 .ensures .1 ∙ c .before .before .before .before .pass-s3 .ensures .1) k (omega (arith, k .less, c .before .before .before .before .before .before .before .before .before .pre .1 .above)) (omega (arith, k .less, c .before .before .before .before .before .before .before .before .before .pre .1 .above)))
 
 -- src/lib.rt:99:23
 pass-s-sooner-requires-2 : (t : ℕ) → pass-s-lts.Need-sooner-requires-2 (pass-s-calls t) (pass-s-at t) pass-s.Post
@@ -262,11 +239,11 @@ pass-s-sooner-requires-3 t c κs = search needs
 
 -- src/lib.rt:102:17
 pass-s-pass-s-requires-6 : (t : ℕ) → pass-s-lts.Need-pass-s-requires-6 (pass-s-calls t) (pass-s-at t) pass-s.Post
-pass-s-pass-s-requires-6 t c κs = let k = read (c .before .before .fields .ensures .a-is) (group-kids (c .before .before .before .before .before .args .p .now) (c .before .before .before .before .before .args .i) (c .before .before .before .before .before .pre .1 .node) (sym (c .before .before .fields .ensures .kind-is) ∙ c .before .match .keys6) .0) in (omega (arith, k .less, c .before .before .before .before .before .pre .0), entered (c .before .before .before .before .before .pre .1) refl k (omega (arith, k .less, c .before .before .before .before .before .pre .1 .above)) (omega (arith, k .less, c .before .before .before .before .before .pre .1 .above)))
+pass-s-pass-s-requires-6 t c κs = let k = read (c .before .before .fields .ensures .a-is) (group-kids (c .before .before .before .before .args .p .now .now) (c .before .before .before .before .args .i) (c .before .before .before .before .pre .1 .node) (sym (c .before .before .fields .ensures .kind-is) ∙ c .before .match .keys6) .0) in (omega (arith, k .less, c .before .before .before .before .pre .0), entered (c .before .before .before .before .pre .1) refl k (omega (arith, k .less, c .before .before .before .before .pre .1 .above)) (omega (arith, k .less, c .before .before .before .before .pre .1 .above)))
 
 -- src/lib.rt:103:17
 pass-s-pass-b-requires : (t : ℕ) → pass-s-lts.Need-pass-b-requires (pass-s-calls t) (pass-s-at t) pass-s.Post
-pass-s-pass-b-requires t c κs = let k = read (c .before .before .before .before .before .before .fields .ensures .b-is) (group-kids (c .before .before .before .before .before .before .before .before .before .args .p .now) (c .before .before .before .before .before .before .before .before .before .args .i) (c .before .before .before .before .before .before .before .before .before .pre .1 .node) (sym (c .before .before .before .before .before .before .fields .ensures .kind-is) ∙ c .before .before .before .before .before .match .keys6) .1) in (omega (arith, k .less, c .before .before .before .before .before .before .before .before .before .pre .0), entered (c .before .before .before .before .before .before .before .before .before .pre .1) (c .before .before .before .pass-s6 .ensures .1) k (omega (arith, k .less, c .before .before .before .before .before .before .before .before .before .pre .1 .above)) (omega (arith, k .less, c .before .before .before .before .before .before .before .before .before .pre .1 .above)))
+pass-s-pass-b-requires t c κs = let k = read (c .before .before .before .before .fields .ensures .b-is) (group-kids (c .before .before .before .before .before .before .args .p .now .now) (c .before .before .before .before .before .before .args .i) (c .before .before .before .before .before .before .pre .1 .node) (sym (c .before .before .before .before .fields .ensures .kind-is) ∙ c .before .before .before .match .keys6) .1) in (omega (arith, k .less, c .before .before .before .before .before .before .pre .0), entered (c .before .before .before .before .before .before .pre .1) (c .before .pass-s6 .ensures .1) k (omega (arith, k .less, c .before .before .before .before .before .before .pre .1 .above)) (omega (arith, k .less, c .before .before .before .before .before .before .pre .1 .above)))
 
 -- src/lib.rt:104:13
 pass-s-sooner-requires-4 : (t : ℕ) → pass-s-lts.Need-sooner-requires-4 (pass-s-calls t) (pass-s-at t) pass-s.Post
@@ -274,11 +251,11 @@ pass-s-sooner-requires-4 t c κs = search needs
 
 -- src/lib.rt:107:17
 pass-s-pass-s-requires-7 : (t : ℕ) → pass-s-lts.Need-pass-s-requires-7 (pass-s-calls t) (pass-s-at t) pass-s.Post
-pass-s-pass-s-requires-7 t c κs = let k = read (c .before .before .fields .ensures .a-is) (until-kids (c .before .before .before .before .before .args .p .now) (c .before .before .before .before .before .args .i) (c .before .before .before .before .before .pre .1 .node) (sym (c .before .before .fields .ensures .kind-is) ∙ c .before .match .keys7) .0) in (omega (arith, k .less, c .before .before .before .before .before .pre .0), entered (c .before .before .before .before .before .pre .1) refl k (omega (arith, k .less, c .before .before .before .before .before .pre .1 .above)) (omega (arith, k .less, c .before .before .before .before .before .pre .1 .above)))
+pass-s-pass-s-requires-7 t c κs = let k = read (c .before .before .fields .ensures .a-is) (until-kids (c .before .before .before .before .args .p .now .now) (c .before .before .before .before .args .i) (c .before .before .before .before .pre .1 .node) (sym (c .before .before .fields .ensures .kind-is) ∙ c .before .match .keys7) .0) in (omega (arith, k .less, c .before .before .before .before .pre .0), entered (c .before .before .before .before .pre .1) refl k (omega (arith, k .less, c .before .before .before .before .pre .1 .above)) (omega (arith, k .less, c .before .before .before .before .pre .1 .above)))
 
 -- src/lib.rt:108:17
 pass-s-pass-c-requires : (t : ℕ) → pass-s-lts.Need-pass-c-requires (pass-s-calls t) (pass-s-at t) pass-s.Post
-pass-s-pass-c-requires t c κs = let k = read (c .before .before .before .before .before .before .fields .ensures .b-is) (until-kids (c .before .before .before .before .before .before .before .before .before .args .p .now) (c .before .before .before .before .before .before .before .before .before .args .i) (c .before .before .before .before .before .before .before .before .before .pre .1 .node) (sym (c .before .before .before .before .before .before .fields .ensures .kind-is) ∙ c .before .before .before .before .before .match .keys7) .1) in (omega (arith, k .less, c .before .before .before .before .before .before .before .before .before .pre .0), entered (c .before .before .before .before .before .before .before .before .before .pre .1) (c .before .before .before .pass-s7 .ensures .1) k (omega (arith, k .less, c .before .before .before .before .before .before .before .before .before .pre .1 .above)) (omega (arith, k .less, c .before .before .before .before .before .before .before .before .before .pre .1 .above)))
+pass-s-pass-c-requires t c κs = let k = read (c .before .before .before .before .fields .ensures .b-is) (until-kids (c .before .before .before .before .before .before .args .p .now .now) (c .before .before .before .before .before .before .args .i) (c .before .before .before .before .before .before .pre .1 .node) (sym (c .before .before .before .before .fields .ensures .kind-is) ∙ c .before .before .before .match .keys7) .1) in (omega (arith, k .less, c .before .before .before .before .before .before .pre .0), entered (c .before .before .before .before .before .before .pre .1) (c .before .pass-s7 .ensures .1) k (omega (arith, k .less, c .before .before .before .before .before .before .pre .1 .above)) (omega (arith, k .less, c .before .before .before .before .before .before .pre .1 .above)))
 
 -- src/lib.rt:109:13
 pass-s-sooner-requires-5 : (t : ℕ) → pass-s-lts.Need-sooner-requires-5 (pass-s-calls t) (pass-s-at t) pass-s.Post
@@ -286,59 +263,35 @@ pass-s-sooner-requires-5 t c κs = search needs
 
 -- src/lib.rt:77:1
 pass-s-returns : (t : ℕ) → pass-s-lts.Need-returns (pass-s-calls t) (pass-s-at t) pass-s.Post
-pass-s-returns t c = (cc (input-found (c .before .before .before .before .args .p .now) (c .before .before .before .before .args .i) (c .before .before .before .before .pre .1 .node) (markedIn (c .before .before .before .before .args .marks .now) (c .before .before .before .before .args .region)) (sym (c .before .fields .ensures .kind-is) ∙ c .match .keys1)), refl)
-
--- src/lib.rt:77:1
-pass-s-same-length : (t : ℕ) → pass-s-lts.Need-same-length (pass-s-calls t) (pass-s-at t) pass-s.Post
-pass-s-same-length t c = refl
+pass-s-returns t c = (cc (input-found (c .before .before .before .args .p .now .now) (c .before .before .before .args .i) (c .before .before .before .pre .1 .node) (markedIn (c .before .before .before .args .marks .now) (c .before .before .before .args .region)) (sym (c .before .fields .ensures .kind-is) ∙ c .match .keys1)), refl)
 
 -- src/lib.rt:77:1
 pass-s-returns-2 : (t : ℕ) → pass-s-lts.Need-returns-2 (pass-s-calls t) (pass-s-at t) pass-s.Post
-pass-s-returns-2 t c = (cc (ext-found (c .before .before .before .before .before .before .args .p .now) (c .before .before .before .before .before .before .args .i) (c .before .before .before .before .before .before .pre .1 .node) (markedIn (c .before .before .before .before .before .before .args .marks .now) (c .before .before .before .before .before .before .args .region)) (sym (c .before .before .before .fields .ensures .kind-is) ∙ c .before .before .match .keys2)), refl)
-
--- src/lib.rt:77:1
-pass-s-same-length-2 : (t : ℕ) → pass-s-lts.Need-same-length-2 (pass-s-calls t) (pass-s-at t) pass-s.Post
-pass-s-same-length-2 t c = c .before .before .pass-s .kept .1 .0
+pass-s-returns-2 t c = (cc (ext-found (c .before .before .before .before .before .args .p .now .now) (c .before .before .before .before .before .args .i) (c .before .before .before .before .before .pre .1 .node) (markedIn (c .before .before .before .before .before .args .marks .now) (c .before .before .before .before .before .args .region)) (sym (c .before .before .before .fields .ensures .kind-is) ∙ c .before .before .match .keys2)), refl)
 
 -- src/lib.rt:77:1
 pass-s-returns-3 : (t : ℕ) → pass-s-lts.Need-returns-3 (pass-s-calls t) (pass-s-at t) pass-s.Post
-pass-s-returns-3 t c = (cc (delay-found (c .before .before .before .before .before .before .before .before .before .args .p .now) (c .before .before .before .before .before .before .before .before .before .args .i) (c .before .before .before .before .before .before .before .before .before .pre .1 .node) (markedIn (c .before .before .before .before .before .before .before .before .before .args .marks .now) (c .before .before .before .before .before .before .before .before .before .args .region)) (sym (c .before .before .before .before .before .before .fields .ensures .kind-is) ∙ c .before .before .before .before .before .match .keys3), apart (c .before .before .before .before .before .before .before .before .before .pre .1) ((delay-kid (c .before .before .before .before .before .before .before .before .before .args .p .now) (c .before .before .before .before .before .before .before .before .before .args .i) (c .before .before .before .before .before .before .before .before .before .pre .1 .node) (sym (c .before .before .before .before .before .before .fields .ensures .kind-is) ∙ c .before .before .before .before .before .match .keys3)) .less) (signalAt (c .before .before .before .before .before .before .before .before .before .args .p .now) (aAt (c .before .before .before .before .before .before .before .before .before .args .p .now) (c .before .before .before .before .before .before .before .before .before .args .i)))), c .before .before .pass-s .ensures .1)
-
--- src/lib.rt:77:1
-pass-s-same-length-3 : (t : ℕ) → pass-s-lts.Need-same-length-3 (pass-s-calls t) (pass-s-at t) pass-s.Post
-pass-s-same-length-3 t c = c .before .before .before .pass-s2 .kept .1 .0 ∙ c .before .before .before .before .before .before .before .inside .kept .1 .0
+pass-s-returns-3 t c = (cc (delay-found (c .before .before .before .before .before .before .args .p .now .now) (c .before .before .before .before .before .before .args .i) (c .before .before .before .before .before .before .pre .1 .node) (markedIn (c .before .before .before .before .before .before .args .marks .now) (c .before .before .before .before .before .before .args .region)) (sym (c .before .before .before .before .fields .ensures .kind-is) ∙ c .before .before .before .match .keys3), apart (c .before .before .before .before .before .before .pre .1) ((delay-kid (c .before .before .before .before .before .before .args .p .now .now) (c .before .before .before .before .before .before .args .i) (c .before .before .before .before .before .before .pre .1 .node) (sym (c .before .before .before .before .fields .ensures .kind-is) ∙ c .before .before .before .match .keys3)) .less) (signalAt (c .before .before .before .before .before .before .args .p .now .now) (aAt (c .before .before .before .before .before .before .args .p .now .now) (c .before .before .before .before .before .before .args .i)))), c .pass-s .ensures .1)
 
 -- src/lib.rt:77:1
 pass-s-returns-4 : (t : ℕ) → pass-s-lts.Need-returns-4 (pass-s-calls t) (pass-s-at t) pass-s.Post
-pass-s-returns-4 t c = (cc (let-found (c .before .before .before .before .before .before .before .before .before .before .before .before .before .args .p .now) (c .before .before .before .before .before .before .before .before .before .before .before .before .before .args .i) (c .before .before .before .before .before .before .before .before .before .before .before .before .before .pre .1 .node) (markedIn (c .before .before .before .before .before .before .before .before .before .before .before .before .before .args .marks .now) (c .before .before .before .before .before .before .before .before .before .before .before .before .before .args .region)) (sym (c .before .before .before .before .before .before .before .before .before .before .fields .ensures .kind-is) ∙ c .before .before .before .before .before .before .before .before .before .match .keys4)), c .before .before .before .pass-s2 .ensures .1 ∙ c .before .before .before .before .before .before .before .inside .ensures .1)
-
--- src/lib.rt:77:1
-pass-s-same-length-4 : (t : ℕ) → pass-s-lts.Need-same-length-4 (pass-s-calls t) (pass-s-at t) pass-s.Post
-pass-s-same-length-4 t c = c .before .before .before .before .pass-s5 .kept .1 .0 ∙ c .before .before .before .before .before .before .before .before .pass-s4 .kept .1 .0 ∙ c .before .before .before .before .before .before .before .before .before .before .before .before .before .pass-s3 .kept .1 .0
+pass-s-returns-4 t c = (cc (let-found (c .before .before .before .before .before .before .before .before .args .p .now .now) (c .before .before .before .before .before .before .before .before .args .i) (c .before .before .before .before .before .before .before .before .pre .1 .node) (markedIn (c .before .before .before .before .before .before .before .before .args .marks .now) (c .before .before .before .before .before .before .before .before .args .region)) (sym (c .before .before .before .before .before .before .fields .ensures .kind-is) ∙ c .before .before .before .before .before .match .keys4)), c .before .pass-s2 .ensures .1 ∙ c .before .before .before .inside .ensures .1)
 
 -- src/lib.rt:77:1
 pass-s-returns-5 : (t : ℕ) → pass-s-lts.Need-returns-5 (pass-s-calls t) (pass-s-at t) pass-s.Post
-pass-s-returns-5 t c = (cc (switch-found (c .before .before .before .before .before .before .before .before .before .before .before .before .before .before .before .before .before .before .before .args .p .now) (c .before .before .before .before .before .before .before .before .before .before .before .before .before .before .before .before .before .before .before .args .i) (c .before .before .before .before .before .before .before .before .before .before .before .before .before .before .before .before .before .before .before .pre .1 .node) (markedIn (c .before .before .before .before .before .before .before .before .before .before .before .before .before .before .before .before .before .before .before .args .marks .now) (c .before .before .before .before .before .before .before .before .before .before .before .before .before .before .before .before .before .before .before .args .region)) (sym (c .before .before .before .before .before .before .before .before .before .before .before .before .before .before .before .before .fields .ensures .kind-is) ∙ c .before .before .before .before .before .before .before .before .before .before .before .before .before .before .before .match .keys5), apart (c .before .before .before .before .before .before .before .before .before .before .before .before .before .before .before .before .before .before .before .pre .1) ((switch-kids (c .before .before .before .before .before .before .before .before .before .before .before .before .before .before .before .before .before .before .before .args .p .now) (c .before .before .before .before .before .before .before .before .before .before .before .before .before .before .before .before .before .before .before .args .i) (c .before .before .before .before .before .before .before .before .before .before .before .before .before .before .before .before .before .before .before .pre .1 .node) (sym (c .before .before .before .before .before .before .before .before .before .before .before .before .before .before .before .before .fields .ensures .kind-is) ∙ c .before .before .before .before .before .before .before .before .before .before .before .before .before .before .before .match .keys5) .1) .less) (signalAt (c .before .before .before .before .before .before .before .before .before .before .before .before .before .before .before .before .before .before .before .args .p .now) (bAt (c .before .before .before .before .before .before .before .before .before .before .before .before .before .before .before .before .before .before .before .args .p .now) (c .before .before .before .before .before .before .before .before .before .before .before .before .before .before .before .before .before .before .before .args .i)))), c .before .before .before .before .pass-s5 .ensures .1 ∙ c .before .before .before .before .before .before .before .before .pass-s4 .ensures .1 ∙ c .before .before .before .before .before .before .before .before .before .before .before .before .before .pass-s3 .ensures .1)
-
--- src/lib.rt:77:1
-pass-s-same-length-5 : (t : ℕ) → pass-s-lts.Need-same-length-5 (pass-s-calls t) (pass-s-at t) pass-s.Post
-pass-s-same-length-5 t c = c .before .before .before .pass-b .kept .1 .0 ∙ c .before .before .before .before .before .before .before .pass-s6 .kept .1 .0
+pass-s-returns-5 t c = (cc (switch-found (c .before .before .before .before .before .before .before .before .before .before .before .before .args .p .now .now) (c .before .before .before .before .before .before .before .before .before .before .before .before .args .i) (c .before .before .before .before .before .before .before .before .before .before .before .before .pre .1 .node) (markedIn (c .before .before .before .before .before .before .before .before .before .before .before .before .args .marks .now) (c .before .before .before .before .before .before .before .before .before .before .before .before .args .region)) (sym (c .before .before .before .before .before .before .before .before .before .before .fields .ensures .kind-is) ∙ c .before .before .before .before .before .before .before .before .before .match .keys5), apart (c .before .before .before .before .before .before .before .before .before .before .before .before .pre .1) ((switch-kids (c .before .before .before .before .before .before .before .before .before .before .before .before .args .p .now .now) (c .before .before .before .before .before .before .before .before .before .before .before .before .args .i) (c .before .before .before .before .before .before .before .before .before .before .before .before .pre .1 .node) (sym (c .before .before .before .before .before .before .before .before .before .before .fields .ensures .kind-is) ∙ c .before .before .before .before .before .before .before .before .before .match .keys5) .1) .less) (signalAt (c .before .before .before .before .before .before .before .before .before .before .before .before .args .p .now .now) (bAt (c .before .before .before .before .before .before .before .before .before .before .before .before .args .p .now .now) (c .before .before .before .before .before .before .before .before .before .before .before .before .args .i)))), c .before .before .pass-s5 .ensures .1 ∙ c .before .before .before .before .pass-s4 .ensures .1 ∙ c .before .before .before .before .before .before .before .pass-s3 .ensures .1)
 
 -- src/lib.rt:77:1
 pass-s-returns-6 : (t : ℕ) → pass-s-lts.Need-returns-6 (pass-s-calls t) (pass-s-at t) pass-s.Post
-pass-s-returns-6 t c = (cc (group-found (c .before .before .before .before .before .before .before .before .before .before .before .before .before .args .p .now) (c .before .before .before .before .before .before .before .before .before .before .before .before .before .args .i) (c .before .before .before .before .before .before .before .before .before .before .before .before .before .pre .1 .node) (markedIn (c .before .before .before .before .before .before .before .before .before .before .before .before .before .args .marks .now) (c .before .before .before .before .before .before .before .before .before .before .before .before .before .args .region)) (sym (c .before .before .before .before .before .before .before .before .before .before .fields .ensures .kind-is) ∙ c .before .before .before .before .before .before .before .before .before .match .keys6)), c .before .before .before .pass-b .ensures .1 ∙ c .before .before .before .before .before .before .before .pass-s6 .ensures .1)
-
--- src/lib.rt:77:1
-pass-s-same-length-6 : (t : ℕ) → pass-s-lts.Need-same-length-6 (pass-s-calls t) (pass-s-at t) pass-s.Post
-pass-s-same-length-6 t c = c .before .before .before .pass-c .kept .1 .0 ∙ c .before .before .before .before .before .before .before .pass-s7 .kept .1 .0
+pass-s-returns-6 t c = (cc (group-found (c .before .before .before .before .before .before .before .before .args .p .now .now) (c .before .before .before .before .before .before .before .before .args .i) (c .before .before .before .before .before .before .before .before .pre .1 .node) (markedIn (c .before .before .before .before .before .before .before .before .args .marks .now) (c .before .before .before .before .before .before .before .before .args .region)) (sym (c .before .before .before .before .before .before .fields .ensures .kind-is) ∙ c .before .before .before .before .before .match .keys6)), c .before .pass-b .ensures .1 ∙ c .before .before .before .pass-s6 .ensures .1)
 
 -- src/lib.rt:77:1
 pass-s-returns-7 : (t : ℕ) → pass-s-lts.Need-returns-7 (pass-s-calls t) (pass-s-at t) pass-s.Post
-pass-s-returns-7 t c = (cc (until-found (c .before .before .before .before .before .before .before .before .before .before .before .before .before .args .p .now) (c .before .before .before .before .before .before .before .before .before .before .before .before .before .args .i) (c .before .before .before .before .before .before .before .before .before .before .before .before .before .pre .1 .node) (markedIn (c .before .before .before .before .before .before .before .before .before .before .before .before .before .args .marks .now) (c .before .before .before .before .before .before .before .before .before .before .before .before .before .args .region)) (sym (c .before .before .before .before .before .before .before .before .before .before .fields .ensures .kind-is) ∙ c .before .before .before .before .before .before .before .before .before .match .keys7)), c .before .before .before .pass-c .ensures .1 ∙ c .before .before .before .before .before .before .before .pass-s7 .ensures .1)
+pass-s-returns-7 t c = (cc (until-found (c .before .before .before .before .before .before .before .before .args .p .now .now) (c .before .before .before .before .before .before .before .before .args .i) (c .before .before .before .before .before .before .before .before .pre .1 .node) (markedIn (c .before .before .before .before .before .before .before .before .args .marks .now) (c .before .before .before .before .before .before .before .before .args .region)) (sym (c .before .before .before .before .before .before .fields .ensures .kind-is) ∙ c .before .before .before .before .before .match .keys7)), c .before .pass-c .ensures .1 ∙ c .before .before .before .pass-s7 .ensures .1)
 
 -- src/lib.rt:77:1
 pass-s-returns-8 : (t : ℕ) → pass-s-lts.Need-returns-8 (pass-s-calls t) (pass-s-at t) pass-s.Post
-pass-s-returns-8 t c = (cc (time-found (c .before .before .before .before .args .p .now) (c .before .before .before .before .args .i) (c .before .before .before .before .pre .1 .node) (markedIn (c .before .before .before .before .args .marks .now) (c .before .before .before .before .args .region)) (time-left (c .before .before .before .before .args .p .now) (c .before .before .before .before .args .i) (c .before .before .before .before .pre .1 .node) (c .before .fields .ensures .kind-is) (c .match .rest))), refl)
+pass-s-returns-8 t c = (cc (time-found (c .before .before .before .args .p .now .now) (c .before .before .before .args .i) (c .before .before .before .pre .1 .node) (markedIn (c .before .before .before .args .marks .now) (c .before .before .before .args .region)) (time-left (c .before .before .before .args .p .now .now) (c .before .before .before .args .i) (c .before .before .before .pre .1 .node) (c .before .fields .ensures .kind-is) (c .match .rest))), refl)
 
 pub +inside+pass-b+pass-c+pass-s-spec : {M : Type 1} → statement M
 +inside+pass-b+pass-c+pass-s-spec =
@@ -350,25 +303,22 @@ pub +inside+pass-b+pass-c+pass-s-spec : {M : Type 1} → statement M
     (λ t. inside-lts.spec (inside-calls t) (inside-at t)
     inside.Post
     (inside-mul-old t)
-    (inside-slice-read-old t)
+    (inside-element-copy-out-old t)
     (inside-cast-marks t)
     (inside-mul-marks t)
-    (inside-slice-write-marks t)
+    (inside-element-write-marks t)
     (inside-pass-s-requires t)
     (inside-mul-marks-2 t)
-    (inside-slice-write-marks-2 t)
-    (inside-same-length t)
+    (inside-element-write-marks-2 t)
     (inside-returns t))
     (λ t. pass-b-lts.spec (pass-b-calls t) (pass-b-at t)
     pass-b.Post
     (pass-b-fields-requires t)
     (pass-b-pass-s-requires t)
     (pass-b-sooner-requires t)
-    (pass-b-same-length t)
     (pass-b-returns t)
     (pass-b-pass-b-requires t)
     (pass-b-sooner-requires-2 t)
-    (pass-b-same-length-2 t)
     (pass-b-returns-2 t))
     (λ t. pass-c-lts.spec (pass-c-calls t) (pass-c-at t)
     pass-c.Post
@@ -376,11 +326,9 @@ pub +inside+pass-b+pass-c+pass-s-spec : {M : Type 1} → statement M
     (pass-c-add-pass-s t)
     (pass-c-pass-s-requires t)
     (pass-c-sooner-requires t)
-    (pass-c-same-length t)
     (pass-c-returns t)
     (pass-c-pass-c-requires t)
     (pass-c-sooner-requires-2 t)
-    (pass-c-same-length-2 t)
     (pass-c-returns-2 t))
     λ t. pass-s-lts.spec (pass-s-calls t) (pass-s-at t)
     pass-s.Post
@@ -404,16 +352,10 @@ pub +inside+pass-b+pass-c+pass-s-spec : {M : Type 1} → statement M
     (pass-s-pass-c-requires t)
     (pass-s-sooner-requires-5 t)
     (pass-s-returns t)
-    (pass-s-same-length t)
     (pass-s-returns-2 t)
-    (pass-s-same-length-2 t)
     (pass-s-returns-3 t)
-    (pass-s-same-length-3 t)
     (pass-s-returns-4 t)
-    (pass-s-same-length-4 t)
     (pass-s-returns-5 t)
-    (pass-s-same-length-5 t)
     (pass-s-returns-6 t)
-    (pass-s-same-length-6 t)
     (pass-s-returns-7 t)
     (pass-s-returns-8 t)

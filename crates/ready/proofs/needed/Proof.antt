@@ -19,7 +19,7 @@ shared-slice-read-own c = search needs
 
 -- src/lib.rt:38:19
 cast-own : tie.Need-cast-own
-cast-own c = omega (arith, c .shared-slice-known2 .given (c .before .before .before .args .x))
+cast-own c = omega (arith, c .shared-slice-known .given (c .before .before .before .args .x))
 
 -- src/lib.rt:39:9
 wrong-if-requires : tie.Need-wrong-if-requires
@@ -30,10 +30,10 @@ returns : tie.Need-returns
 unfolding markedIn
 returns c = c .wrong-if .ensures
 
--- src/lib.rt:33:1
+-- src/lib.rt:32:1
 returns-2 : tie.Need-returns-2
 unfolding wrongIf
-returns-2 c = rw (unmarked-past (c .before .before .args .marks .now) (c .before .before .args .region) (c .before .before .args .x) (c .before .before .pre .1) (c .if1 .left))
+returns-2 c = rw (unmarked-past (c .before .before .args .marks .now) (c .before .before .args .region) (c .before .before .args .x) (c .before .before .pre) (c .if1 .left))
 
 pub needed-spec : {M : Type 1} → statement M
 needed-spec =

@@ -7,21 +7,17 @@ use Rattle.ready.proofs.ready_fault.Reads as reads
 use Rattle.ready.proofs.ready_fault.Lts as lts
 use Rattle.ready.proofs.pass_s.Reads as pass-s-reads
 
--- src/lib.rt:161:15
-slice-aggregate-pass-s : tie.Need-slice-aggregate-pass-s
-slice-aggregate-pass-s c = search needs
-
--- src/lib.rt:161:34
+-- src/lib.rt:161:35
 sub-pass-s : tie.Need-sub-pass-s
 sub-pass-s c = search needs
 
 -- src/lib.rt:161:5
 pass-s-requires : tie.Need-pass-s-requires
-pass-s-requires c κs = root-entered _ _ (c .before .before .pre .0) (c .before .before .pre .1) (c .before .before .pre .2)
+pass-s-requires c κs = root-entered _ _ (c .before .before .before .pre .0) (c .before .before .before .pre .1) (c .before .before .before .pre .2)
 
 -- src/lib.rt:156:1
 returns : tie.Need-returns
-returns c = c .before .pass-s .ensures .0 ∙ root-ready _ _ (c .before .before .before .before .pre .0) (c .before .before .before .before .pre .1)
+returns c = c .pass-s .ensures .0 ∙ root-ready _ _ (c .before .before .before .before .pre .0) (c .before .before .before .before .pre .1)
 
 pub ready-fault-spec : {M : Type 1} → statement M
-ready-fault-spec = tie.close (tie.spec slice-aggregate-pass-s sub-pass-s pass-s-requires returns)
+ready-fault-spec = tie.close (tie.spec sub-pass-s pass-s-requires returns)

@@ -14,39 +14,39 @@ use Rattle.table.proofs.fields.Reads as fields-reads
 use Rattle.scope.proofs.+has_branch.{statement}
 use Rattle.scope.proofs.+has_branch.Tie.{close}
 
-abbrev μ-has-branch : Measures 1 has-branch-kinds.ps ℕ
+abbrev μ-has-branch : Measures 2 has-branch-kinds.ps ℕ
 μ-has-branch κs a = a .1 .0
 
-abbrev has-branch-at : ℕ → In 1 has-branch-kinds.ps
+abbrev has-branch-at : ℕ → In 2 has-branch-kinds.ps
 has-branch-at t =
-    and 1 has-branch-kinds.ps (is 1 has-branch-kinds.ps μ-has-branch t) has-branch.Pre
+    and 2 has-branch-kinds.ps (is 2 has-branch-kinds.ps μ-has-branch t) has-branch.Pre
 
-abbrev has-branch-below : ℕ → In 1 has-branch-kinds.ps
+abbrev has-branch-below : ℕ → In 2 has-branch-kinds.ps
 has-branch-below t =
-    and 1 has-branch-kinds.ps (falls 1 has-branch-kinds.ps _<_ μ-has-branch t) has-branch.Pre
+    and 2 has-branch-kinds.ps (falls 2 has-branch-kinds.ps _<_ μ-has-branch t) has-branch.Pre
 
 abbrev has-branch-calls : ℕ → has-branch-lts.Claims
 has-branch-calls t = (fields-reads.Asked, fields-reads.Learnt, has-branch-below t, has-branch.Post)
 
--- src/lib.rt:76:9
+-- src/lib.rt:77:9
 has-branch-returns : (t : ℕ) → has-branch-lts.Need-returns (has-branch-calls t) (has-branch-at t) has-branch.Post
-has-branch-returns t c = sym (has-here (c .before .before .args .p .now) (c .before .before .args .j) (c .before .before .pre .1) (c .before .before .args .k) (c .if1 .taken))
+has-branch-returns t c = sym (has-here (c .before .args .p .now .now) (c .before .args .j) (c .before .pre .1) (c .before .args .k) (c .if1 .taken))
 
--- src/lib.rt:78:9
+-- src/lib.rt:79:9
 has-branch-fields-requires : (t : ℕ) → has-branch-lts.Need-fields-requires (has-branch-calls t) (has-branch-at t) has-branch.Post
 has-branch-fields-requires t c κs = omega (arith, c .before .before .pre .1 .inside, c .before .before .pre .1 .shaped .within)
 
--- src/lib.rt:80:9
+-- src/lib.rt:81:9
 has-branch-returns-2 : (t : ℕ) → has-branch-lts.Need-returns-2 (has-branch-calls t) (has-branch-at t) has-branch.Post
-has-branch-returns-2 t c = sym (has-last (c .before .before .before .before .before .args .p .now) (c .before .before .before .before .before .args .j) (c .before .before .before .before .before .pre .1) (c .before .before .before .before .before .args .k) (c .before .before .before .if1 .left) (sym (c .before .before .fields .ensures .b-is) ∙ c .if2 .taken))
+has-branch-returns-2 t c = sym (has-last (c .before .before .before .before .before .args .p .now .now) (c .before .before .before .before .before .args .j) (c .before .before .before .before .before .pre .1) (c .before .before .before .before .before .args .k) (c .before .before .before .before .if1 .left) (sym (c .before .before .fields .ensures .b-is) ∙ c .if2 .taken))
 
--- src/lib.rt:82:5
+-- src/lib.rt:83:5
 has-branch-has-branch-requires : (t : ℕ) → has-branch-lts.Need-has-branch-requires (has-branch-calls t) (has-branch-at t) has-branch.Post
-has-branch-has-branch-requires t c κs = let k = read (c .before .before .fields .ensures .b-is) (branch-next (c .before .before .before .before .before .args .p .now) (c .before .before .before .before .before .args .j) (c .before .before .before .before .before .pre .1) (λ h. c .if2 .left (c .before .before .fields .ensures .b-is ∙ h))) in (omega (arith, k .less, c .before .before .before .before .before .pre .0), k .node)
+has-branch-has-branch-requires t c κs = let k = read (c .before .before .fields .ensures .b-is) (branch-next (c .before .before .before .before .before .args .p .now .now) (c .before .before .before .before .before .args .j) (c .before .before .before .before .before .pre .1) (λ h. c .if2 .left (c .before .before .fields .ensures .b-is ∙ h))) in (omega (arith, k .less, c .before .before .before .before .before .pre .0), k .node)
 
--- src/lib.rt:71:1
+-- src/lib.rt:72:1
 has-branch-returns-3 : (t : ℕ) → has-branch-lts.Need-returns-3 (has-branch-calls t) (has-branch-at t) has-branch.Post
-has-branch-returns-3 t c = cc (has-more (c .before .before .before .before .before .before .args .p .now) (c .before .before .before .before .before .before .args .j) (c .before .before .before .before .before .before .pre .1) (c .before .before .before .before .before .before .args .k) (c .before .before .before .before .if1 .left) (λ h. c .before .if2 .left (c .before .before .before .fields .ensures .b-is ∙ h)))
+has-branch-returns-3 t c = cc (has-more (c .before .before .before .before .before .before .args .p .now .now) (c .before .before .before .before .before .before .args .j) (c .before .before .before .before .before .before .pre .1) (c .before .before .before .before .before .before .args .k) (c .before .before .before .before .before .if1 .left) (λ h. c .before .if2 .left (c .before .before .before .fields .ensures .b-is ∙ h)))
 
 pub +has-branch-spec : {M : Type 1} → statement M
 +has-branch-spec = close μ-has-branch λ t. has-branch-lts.spec (has-branch-calls t) (has-branch-at t)

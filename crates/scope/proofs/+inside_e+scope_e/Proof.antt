@@ -1,4 +1,4 @@
-use lib.ListN.{length, length-set, set, getD}
+use lib.ListN.{set, getD}
 use Rattle.scope.proofs.ScopeLaws.{put-back, variable-scope, constant-scope, negation-scope, just-scope, choice-scope, taking-scope, operation-scope}
 use Rattle.rules.proofs.Expressions.{left, negation-kid, just-kid, choice-kids, taking-kids, operation-kids}
 use Rattle.rules.proofs.Kids.{Child, read}
@@ -24,192 +24,161 @@ use Rattle.places.proofs.wrong_unless.Reads as wrong-unless-reads
 use Rattle.scope.proofs.+inside_e+scope_e.{statement}
 use Rattle.scope.proofs.+inside_e+scope_e.Tie.{close}
 
-abbrev μ-inside-e : Measures 2 inside-e-kinds.ps ℕ
+abbrev μ-inside-e : Measures 3 inside-e-kinds.ps ℕ
 μ-inside-e κs a = 2 * a .1 .1 .1 .0 + 1
 
-abbrev μ-scope-e : Measures 2 scope-e-kinds.ps ℕ
+abbrev μ-scope-e : Measures 3 scope-e-kinds.ps ℕ
 μ-scope-e κs a = 2 * a .1 .1 .0
 
-abbrev inside-e-at : ℕ → In 2 inside-e-kinds.ps
-inside-e-at t = and 2 inside-e-kinds.ps (is 2 inside-e-kinds.ps μ-inside-e t) inside-e.Pre
+abbrev inside-e-at : ℕ → In 3 inside-e-kinds.ps
+inside-e-at t = and 3 inside-e-kinds.ps (is 3 inside-e-kinds.ps μ-inside-e t) inside-e.Pre
 
-abbrev inside-e-below : ℕ → In 2 inside-e-kinds.ps
+abbrev inside-e-below : ℕ → In 3 inside-e-kinds.ps
 inside-e-below t =
-    and 2 inside-e-kinds.ps (falls 2 inside-e-kinds.ps _<_ μ-inside-e t) inside-e.Pre
+    and 3 inside-e-kinds.ps (falls 3 inside-e-kinds.ps _<_ μ-inside-e t) inside-e.Pre
 
-abbrev scope-e-at : ℕ → In 2 scope-e-kinds.ps
-scope-e-at t = and 2 scope-e-kinds.ps (is 2 scope-e-kinds.ps μ-scope-e t) scope-e.Pre
+abbrev scope-e-at : ℕ → In 3 scope-e-kinds.ps
+scope-e-at t = and 3 scope-e-kinds.ps (is 3 scope-e-kinds.ps μ-scope-e t) scope-e.Pre
 
-abbrev scope-e-below : ℕ → In 2 scope-e-kinds.ps
-scope-e-below t = and 2 scope-e-kinds.ps (falls 2 scope-e-kinds.ps _<_ μ-scope-e t) scope-e.Pre
+abbrev scope-e-below : ℕ → In 3 scope-e-kinds.ps
+scope-e-below t = and 3 scope-e-kinds.ps (falls 3 scope-e-kinds.ps _<_ μ-scope-e t) scope-e.Pre
 
 abbrev inside-e-calls : ℕ → inside-e-lts.Claims
 inside-e-calls t = (scope-e-below t, scope-e.Post)
 
--- src/lib.rt:63:15
-inside-e-slice-read-old : (t : ℕ) → inside-e-lts.Need-slice-read-old (inside-e-calls t) (inside-e-at t) inside-e.Post
-inside-e-slice-read-old t c = search needs
+abbrev scope-e-calls : ℕ → scope-e-lts.Claims
+scope-e-calls t = (fields-reads.Asked, fields-reads.Learnt, marked-reads.Asked, marked-reads.Learnt, wrong-unless-reads.Asked, wrong-unless-reads.Learnt, scope-e-below t, scope-e.Post, sooner-reads.Asked, sooner-reads.Learnt, inside-e-below t, inside-e.Post)
 
--- src/lib.rt:64:5
-inside-e-slice-write-marks : (t : ℕ) → inside-e-lts.Need-slice-write-marks (inside-e-calls t) (inside-e-at t) inside-e.Post
-inside-e-slice-write-marks t c = search needs
+-- src/lib.rt:64:15
+inside-e-element-copy-out-old : (t : ℕ) → inside-e-lts.Need-element-copy-out-old (inside-e-calls t) (inside-e-at t) inside-e.Post
+inside-e-element-copy-out-old t c = search needs
 
--- src/lib.rt:65:9
+-- src/lib.rt:65:5
+inside-e-element-write-marks : (t : ℕ) → inside-e-lts.Need-element-write-marks (inside-e-calls t) (inside-e-at t) inside-e.Post
+inside-e-element-write-marks t c = search needs
+
+-- src/lib.rt:66:9
 inside-e-scope-e-requires : (t : ℕ) → inside-e-lts.Need-scope-e-requires (inside-e-calls t) (inside-e-at t) inside-e.Post
-inside-e-scope-e-requires t c κs = (omega (arith, c .before .before .before .before .pre .0), record { node = c .before .before .before .before .pre .1 .0 .node; room = simp length-set (c .before .before .before .before .pre .1 .0 .room) })
+inside-e-scope-e-requires t c κs = (omega (arith, c .before .before .pre .0), c .before .before .pre .1 .0)
 
--- src/lib.rt:66:5
-inside-e-slice-write-marks-2 : (t : ℕ) → inside-e-lts.Need-slice-write-marks-2 (inside-e-calls t) (inside-e-at t) inside-e.Post
-inside-e-slice-write-marks-2 t c = omega (arith, c .before .before .scope-e .kept .1 .0, length-set (c .before .before .before .before .before .before .before .args .marks .now) (c .before .before .before .before .before .before .before .args .i) 1, c .before .before .before .before .before .before .before .pre .1 .1)
+-- src/lib.rt:67:5
+inside-e-element-write-marks-2 : (t : ℕ) → inside-e-lts.Need-element-write-marks-2 (inside-e-calls t) (inside-e-at t) inside-e.Post
+inside-e-element-write-marks-2 t c = search needs
 
--- src/lib.rt:59:1
-inside-e-same-length :
-    (t : ℕ) →
-    inside-e-lts.Need-same-length (inside-e-calls t) (inside-e-at t) inside-e.Post
-inside-e-same-length t c = rw (c .before .before .scope-e .ensures .1) (ap length (put-back (c .before .before .before .before .before .before .before .args .marks .now) (c .before .before .before .before .before .before .before .args .i) 1))
-
--- src/lib.rt:59:1
+-- src/lib.rt:60:1
 inside-e-returns :
     (t : ℕ) →
     inside-e-lts.Need-returns (inside-e-calls t) (inside-e-at t) inside-e.Post
 unfolding mark
-inside-e-returns t c = (c .before .before .scope-e .ensures .0, ap (λ (l : List ℕ). set l (c .before .before .before .before .before .before .before .args .i) (getD (c .before .before .before .before .before .before .before .args .marks .now) (c .before .before .before .before .before .before .before .args .i) 0)) (c .before .before .scope-e .ensures .1) ∙ put-back _ _ 1)
+inside-e-returns t c = (c .scope-e .ensures .0, ap (λ (l : List ℕ). set l (c .before .before .before .args .i) (getD (c .before .before .before .args .marks .now) (c .before .before .before .args .i) 0)) (c .scope-e .ensures .1) ∙ put-back _ _ 1)
 
-abbrev scope-e-calls : ℕ → scope-e-lts.Claims
-scope-e-calls t = (fields-reads.Asked, fields-reads.Learnt, marked-reads.Asked, marked-reads.Learnt, wrong-unless-reads.Asked, wrong-unless-reads.Learnt, scope-e-below t, scope-e.Post, sooner-reads.Asked, sooner-reads.Learnt, inside-e-below t, inside-e.Post)
-
--- src/lib.rt:31:9
+-- src/lib.rt:32:9
 scope-e-fields-requires : (t : ℕ) → scope-e-lts.Need-fields-requires (scope-e-calls t) (scope-e-at t) scope-e.Post
-scope-e-fields-requires t c κs = omega (arith, c .before .before .pre .1 .node .inside, c .before .before .pre .1 .node .shaped .within)
+scope-e-fields-requires t c κs = omega (arith, c .before .pre .1 .inside, c .before .pre .1 .shaped .within)
 
--- src/lib.rt:34:28
+-- src/lib.rt:35:28
 scope-e-marked-requires : (t : ℕ) → scope-e-lts.Need-marked-requires (scope-e-calls t) (scope-e-at t) scope-e.Post
 scope-e-marked-requires t c κs = search needs
 
--- src/lib.rt:34:15
+-- src/lib.rt:35:15
 scope-e-wrong-unless-requires : (t : ℕ) → scope-e-lts.Need-wrong-unless-requires (scope-e-calls t) (scope-e-at t) scope-e.Post
-scope-e-wrong-unless-requires t c κs = omega (arith, c .before .before .before .before .before .before .pre .1 .node .inside, c .before .before .before .before .before .before .pre .1 .node .shaped .small)
+scope-e-wrong-unless-requires t c κs = omega (arith, c .before .before .before .before .before .pre .1 .inside, c .before .before .before .before .before .pre .1 .shaped .small)
 
--- src/lib.rt:36:15
+-- src/lib.rt:37:15
 scope-e-scope-e-requires : (t : ℕ) → scope-e-lts.Need-scope-e-requires (scope-e-calls t) (scope-e-at t) scope-e.Post
-scope-e-scope-e-requires t c κs = let k = read (c .before .before .fields .ensures .a-is) (negation-kid (c .before .before .before .before .before .args .p .now) (c .before .before .before .before .before .args .i) (c .before .before .before .before .before .pre .1 .node) (sym (c .before .before .fields .ensures .kind-is) ∙ c .before .match .keys3)) in (omega (arith, k .less, c .before .before .before .before .before .pre .0), record { node = k .node; room = c .before .before .before .before .before .pre .1 .room })
-
--- src/lib.rt:38:17
-scope-e-scope-e-requires-2 : (t : ℕ) → scope-e-lts.Need-scope-e-requires-2 (scope-e-calls t) (scope-e-at t) scope-e.Post
-scope-e-scope-e-requires-2 t c κs = let k = read (c .before .before .fields .ensures .a-is) (choice-kids (c .before .before .before .before .before .args .p .now) (c .before .before .before .before .before .args .i) (c .before .before .before .before .before .pre .1 .node) (sym (c .before .before .fields .ensures .kind-is) ∙ c .before .match .keys4) .0) in (omega (arith, k .less, c .before .before .before .before .before .pre .0), record { node = k .node; room = c .before .before .before .before .before .pre .1 .room })
+scope-e-scope-e-requires t c κs = let k = read (c .before .before .fields .ensures .a-is) (negation-kid (c .before .before .before .before .args .p .now .now) (c .before .before .before .before .args .i) (c .before .before .before .before .pre .1) (sym (c .before .before .fields .ensures .kind-is) ∙ c .before .match .keys3)) in (omega (arith, k .less, c .before .before .before .before .pre .0), k .node)
 
 -- src/lib.rt:39:17
-scope-e-scope-e-requires-3 : (t : ℕ) → scope-e-lts.Need-scope-e-requires-3 (scope-e-calls t) (scope-e-at t) scope-e.Post
-scope-e-scope-e-requires-3 t c κs = let k = read (c .before .before .before .before .before .before .fields .ensures .b-is) (choice-kids (c .before .before .before .before .before .before .before .before .before .args .p .now) (c .before .before .before .before .before .before .before .before .before .args .i) (c .before .before .before .before .before .before .before .before .before .pre .1 .node) (sym (c .before .before .before .before .before .before .fields .ensures .kind-is) ∙ c .before .before .before .before .before .match .keys4) .1) in (omega (arith, k .less, c .before .before .before .before .before .before .before .before .before .pre .0), record { node = k .node; room = omega (arith, c .before .before .before .before .before .before .before .before .before .pre .1 .room, c .before .before .before .scope-e2 .kept .1 .0) })
+scope-e-scope-e-requires-2 : (t : ℕ) → scope-e-lts.Need-scope-e-requires-2 (scope-e-calls t) (scope-e-at t) scope-e.Post
+scope-e-scope-e-requires-2 t c κs = let k = read (c .before .before .fields .ensures .a-is) (choice-kids (c .before .before .before .before .args .p .now .now) (c .before .before .before .before .args .i) (c .before .before .before .before .pre .1) (sym (c .before .before .fields .ensures .kind-is) ∙ c .before .match .keys4) .0) in (omega (arith, k .less, c .before .before .before .before .pre .0), k .node)
 
 -- src/lib.rt:40:17
-scope-e-scope-e-requires-4 : (t : ℕ) → scope-e-lts.Need-scope-e-requires-4 (scope-e-calls t) (scope-e-at t) scope-e.Post
-scope-e-scope-e-requires-4 t c κs = let k = read (c .before .before .before .before .before .before .before .before .before .before .fields .ensures .c-is) (choice-kids (c .before .before .before .before .before .before .before .before .before .before .before .before .before .args .p .now) (c .before .before .before .before .before .before .before .before .before .before .before .before .before .args .i) (c .before .before .before .before .before .before .before .before .before .before .before .before .before .pre .1 .node) (sym (c .before .before .before .before .before .before .before .before .before .before .fields .ensures .kind-is) ∙ c .before .before .before .before .before .before .before .before .before .match .keys4) .2) in (omega (arith, k .less, c .before .before .before .before .before .before .before .before .before .before .before .before .before .pre .0), record { node = k .node; room = omega (arith, c .before .before .before .before .before .before .before .before .before .before .before .before .before .pre .1 .room, c .before .before .before .before .before .before .before .scope-e2 .kept .1 .0, c .before .before .before .scope-e3 .kept .1 .0) })
+scope-e-scope-e-requires-3 : (t : ℕ) → scope-e-lts.Need-scope-e-requires-3 (scope-e-calls t) (scope-e-at t) scope-e.Post
+scope-e-scope-e-requires-3 t c κs = let k = read (c .before .before .before .before .fields .ensures .b-is) (choice-kids (c .before .before .before .before .before .before .args .p .now .now) (c .before .before .before .before .before .before .args .i) (c .before .before .before .before .before .before .pre .1) (sym (c .before .before .before .before .fields .ensures .kind-is) ∙ c .before .before .before .match .keys4) .1) in (omega (arith, k .less, c .before .before .before .before .before .before .pre .0), k .node)
 
--- src/lib.rt:41:26
+-- src/lib.rt:41:17
+scope-e-scope-e-requires-4 : (t : ℕ) → scope-e-lts.Need-scope-e-requires-4 (scope-e-calls t) (scope-e-at t) scope-e.Post
+scope-e-scope-e-requires-4 t c κs = let k = read (c .before .before .before .before .before .before .fields .ensures .c-is) (choice-kids (c .before .before .before .before .before .before .before .before .args .p .now .now) (c .before .before .before .before .before .before .before .before .args .i) (c .before .before .before .before .before .before .before .before .pre .1) (sym (c .before .before .before .before .before .before .fields .ensures .kind-is) ∙ c .before .before .before .before .before .match .keys4) .2) in (omega (arith, k .less, c .before .before .before .before .before .before .before .before .pre .0), k .node)
+
+-- src/lib.rt:42:26
 scope-e-sooner-requires : (t : ℕ) → scope-e-lts.Need-sooner-requires (scope-e-calls t) (scope-e-at t) scope-e.Post
 scope-e-sooner-requires t c κs = search needs
 
--- src/lib.rt:41:13
+-- src/lib.rt:42:13
 scope-e-sooner-requires-2 : (t : ℕ) → scope-e-lts.Need-sooner-requires-2 (scope-e-calls t) (scope-e-at t) scope-e.Post
 scope-e-sooner-requires-2 t c κs = search needs
 
--- src/lib.rt:43:15
+-- src/lib.rt:44:15
 scope-e-scope-e-requires-5 : (t : ℕ) → scope-e-lts.Need-scope-e-requires-5 (scope-e-calls t) (scope-e-at t) scope-e.Post
-scope-e-scope-e-requires-5 t c κs = let k = read (c .before .before .fields .ensures .a-is) (just-kid (c .before .before .before .before .before .args .p .now) (c .before .before .before .before .before .args .i) (c .before .before .before .before .before .pre .1 .node) (sym (c .before .before .fields .ensures .kind-is) ∙ c .before .match .keys5)) in (omega (arith, k .less, c .before .before .before .before .before .pre .0), record { node = k .node; room = c .before .before .before .before .before .pre .1 .room })
-
--- src/lib.rt:45:17
-scope-e-scope-e-requires-6 : (t : ℕ) → scope-e-lts.Need-scope-e-requires-6 (scope-e-calls t) (scope-e-at t) scope-e.Post
-scope-e-scope-e-requires-6 t c κs = let k = read (c .before .before .fields .ensures .a-is) (taking-kids (c .before .before .before .before .before .args .p .now) (c .before .before .before .before .before .args .i) (c .before .before .before .before .before .pre .1 .node) (sym (c .before .before .fields .ensures .kind-is) ∙ c .before .match .keys6) .0) in (omega (arith, k .less, c .before .before .before .before .before .pre .0), record { node = k .node; room = c .before .before .before .before .before .pre .1 .room })
+scope-e-scope-e-requires-5 t c κs = let k = read (c .before .before .fields .ensures .a-is) (just-kid (c .before .before .before .before .args .p .now .now) (c .before .before .before .before .args .i) (c .before .before .before .before .pre .1) (sym (c .before .before .fields .ensures .kind-is) ∙ c .before .match .keys5)) in (omega (arith, k .less, c .before .before .before .before .pre .0), k .node)
 
 -- src/lib.rt:46:17
-scope-e-scope-e-requires-7 : (t : ℕ) → scope-e-lts.Need-scope-e-requires-7 (scope-e-calls t) (scope-e-at t) scope-e.Post
-scope-e-scope-e-requires-7 t c κs = let k = read (c .before .before .before .before .before .before .fields .ensures .b-is) (taking-kids (c .before .before .before .before .before .before .before .before .before .args .p .now) (c .before .before .before .before .before .before .before .before .before .args .i) (c .before .before .before .before .before .before .before .before .before .pre .1 .node) (sym (c .before .before .before .before .before .before .fields .ensures .kind-is) ∙ c .before .before .before .before .before .match .keys6) .1) in (omega (arith, k .less, c .before .before .before .before .before .before .before .before .before .pre .0), record { node = k .node; room = omega (arith, c .before .before .before .before .before .before .before .before .before .pre .1 .room, c .before .before .before .scope-e6 .kept .1 .0) })
+scope-e-scope-e-requires-6 : (t : ℕ) → scope-e-lts.Need-scope-e-requires-6 (scope-e-calls t) (scope-e-at t) scope-e.Post
+scope-e-scope-e-requires-6 t c κs = let k = read (c .before .before .fields .ensures .a-is) (taking-kids (c .before .before .before .before .args .p .now .now) (c .before .before .before .before .args .i) (c .before .before .before .before .pre .1) (sym (c .before .before .fields .ensures .kind-is) ∙ c .before .match .keys6) .0) in (omega (arith, k .less, c .before .before .before .before .pre .0), k .node)
 
 -- src/lib.rt:47:17
-scope-e-inside-e-requires : (t : ℕ) → scope-e-lts.Need-inside-e-requires (scope-e-calls t) (scope-e-at t) scope-e.Post
-scope-e-inside-e-requires t c κs = let k = read (c .before .before .before .before .before .before .before .before .before .before .fields .ensures .c-is) (taking-kids (c .before .before .before .before .before .before .before .before .before .before .before .before .before .args .p .now) (c .before .before .before .before .before .before .before .before .before .before .before .before .before .args .i) (c .before .before .before .before .before .before .before .before .before .before .before .before .before .pre .1 .node) (sym (c .before .before .before .before .before .before .before .before .before .before .fields .ensures .kind-is) ∙ c .before .before .before .before .before .before .before .before .before .match .keys6) .2) in (omega (arith, k .less, c .before .before .before .before .before .before .before .before .before .before .before .before .before .pre .0), (record { node = k .node; room = omega (arith, c .before .before .before .before .before .before .before .before .before .before .before .before .before .pre .1 .room, c .before .before .before .before .before .before .before .scope-e6 .kept .1 .0, c .before .before .before .scope-e7 .kept .1 .0) }, omega (arith, c .before .before .before .before .before .before .before .before .before .before .before .before .before .pre .1 .room, c .before .before .before .before .before .before .before .before .before .before .before .before .before .pre .1 .node .inside, c .before .before .before .before .before .before .before .scope-e6 .kept .1 .0, c .before .before .before .scope-e7 .kept .1 .0)))
+scope-e-scope-e-requires-7 : (t : ℕ) → scope-e-lts.Need-scope-e-requires-7 (scope-e-calls t) (scope-e-at t) scope-e.Post
+scope-e-scope-e-requires-7 t c κs = let k = read (c .before .before .before .before .fields .ensures .b-is) (taking-kids (c .before .before .before .before .before .before .args .p .now .now) (c .before .before .before .before .before .before .args .i) (c .before .before .before .before .before .before .pre .1) (sym (c .before .before .before .before .fields .ensures .kind-is) ∙ c .before .before .before .match .keys6) .1) in (omega (arith, k .less, c .before .before .before .before .before .before .pre .0), k .node)
 
--- src/lib.rt:48:23
+-- src/lib.rt:48:17
+scope-e-inside-e-requires : (t : ℕ) → scope-e-lts.Need-inside-e-requires (scope-e-calls t) (scope-e-at t) scope-e.Post
+scope-e-inside-e-requires t c κs = let k = read (c .before .before .before .before .before .before .fields .ensures .c-is) (taking-kids (c .before .before .before .before .before .before .before .before .args .p .now .now) (c .before .before .before .before .before .before .before .before .args .i) (c .before .before .before .before .before .before .before .before .pre .1) (sym (c .before .before .before .before .before .before .fields .ensures .kind-is) ∙ c .before .before .before .before .before .match .keys6) .2) in (omega (arith, k .less, c .before .before .before .before .before .before .before .before .pre .0), (k .node, omega (arith, c .before .before .before .before .before .before .before .before .pre .1 .inside, c .before .before .before .before .before .before .before .before .pre .1 .shaped .small)))
+
+-- src/lib.rt:49:23
 scope-e-sooner-requires-3 : (t : ℕ) → scope-e-lts.Need-sooner-requires-3 (scope-e-calls t) (scope-e-at t) scope-e.Post
 scope-e-sooner-requires-3 t c κs = search needs
 
--- src/lib.rt:48:13
+-- src/lib.rt:49:13
 scope-e-sooner-requires-4 : (t : ℕ) → scope-e-lts.Need-sooner-requires-4 (scope-e-calls t) (scope-e-at t) scope-e.Post
 scope-e-sooner-requires-4 t c κs = search needs
 
--- src/lib.rt:51:17
-scope-e-scope-e-requires-8 : (t : ℕ) → scope-e-lts.Need-scope-e-requires-8 (scope-e-calls t) (scope-e-at t) scope-e.Post
-scope-e-scope-e-requires-8 t c κs = let k = read (c .before .before .fields .ensures .a-is) (operation-kids (c .before .before .before .before .before .args .p .now) (c .before .before .before .before .before .args .i) (c .before .before .before .before .before .pre .1 .node) (left (c .before .before .fields .ensures .kind-is) (c .before .match .rest)) .0) in (omega (arith, k .less, c .before .before .before .before .before .pre .0), record { node = k .node; room = c .before .before .before .before .before .pre .1 .room })
-
 -- src/lib.rt:52:17
-scope-e-scope-e-requires-9 : (t : ℕ) → scope-e-lts.Need-scope-e-requires-9 (scope-e-calls t) (scope-e-at t) scope-e.Post
-scope-e-scope-e-requires-9 t c κs = let k = read (c .before .before .before .before .before .before .fields .ensures .b-is) (operation-kids (c .before .before .before .before .before .before .before .before .before .args .p .now) (c .before .before .before .before .before .before .before .before .before .args .i) (c .before .before .before .before .before .before .before .before .before .pre .1 .node) (left (c .before .before .before .before .before .before .fields .ensures .kind-is) (c .before .before .before .before .before .match .rest)) .1) in (omega (arith, k .less, c .before .before .before .before .before .before .before .before .before .pre .0), record { node = k .node; room = omega (arith, c .before .before .before .before .before .before .before .before .before .pre .1 .room, c .before .before .before .scope-e8 .kept .1 .0) })
+scope-e-scope-e-requires-8 : (t : ℕ) → scope-e-lts.Need-scope-e-requires-8 (scope-e-calls t) (scope-e-at t) scope-e.Post
+scope-e-scope-e-requires-8 t c κs = let k = read (c .before .before .fields .ensures .a-is) (operation-kids (c .before .before .before .before .args .p .now .now) (c .before .before .before .before .args .i) (c .before .before .before .before .pre .1) (left (c .before .before .fields .ensures .kind-is) (c .before .match .rest)) .0) in (omega (arith, k .less, c .before .before .before .before .pre .0), k .node)
 
--- src/lib.rt:53:13
+-- src/lib.rt:53:17
+scope-e-scope-e-requires-9 : (t : ℕ) → scope-e-lts.Need-scope-e-requires-9 (scope-e-calls t) (scope-e-at t) scope-e.Post
+scope-e-scope-e-requires-9 t c κs = let k = read (c .before .before .before .before .fields .ensures .b-is) (operation-kids (c .before .before .before .before .before .before .args .p .now .now) (c .before .before .before .before .before .before .args .i) (c .before .before .before .before .before .before .pre .1) (left (c .before .before .before .before .fields .ensures .kind-is) (c .before .before .before .match .rest)) .1) in (omega (arith, k .less, c .before .before .before .before .before .before .pre .0), k .node)
+
+-- src/lib.rt:54:13
 scope-e-sooner-requires-5 : (t : ℕ) → scope-e-lts.Need-sooner-requires-5 (scope-e-calls t) (scope-e-at t) scope-e.Post
 scope-e-sooner-requires-5 t c κs = search needs
 
--- src/lib.rt:27:1
-scope-e-same-length : (t : ℕ) → scope-e-lts.Need-same-length (scope-e-calls t) (scope-e-at t) scope-e.Post
-scope-e-same-length t c = search needs
-
--- src/lib.rt:27:1
+-- src/lib.rt:28:1
 scope-e-returns : (t : ℕ) → scope-e-lts.Need-returns (scope-e-calls t) (scope-e-at t) scope-e.Post
-scope-e-returns t c = (cc (variable-scope (c .before .before .before .before .before .before .before .args .p .now) (c .before .before .before .before .before .before .before .args .i) (c .before .before .before .before .before .before .before .pre .1 .node) (c .before .before .before .before .before .before .before .args .marks .now) (sym (c .before .before .before .before .fields .ensures .kind-is) ∙ c .before .before .before .match .keys1)), refl)
+scope-e-returns t c = (cc (variable-scope (c .before .before .before .before .before .before .args .p .now .now) (c .before .before .before .before .before .before .args .i) (c .before .before .before .before .before .before .pre .1) (c .before .before .before .before .before .before .args .marks .now) (sym (c .before .before .before .before .fields .ensures .kind-is) ∙ c .before .before .before .match .keys1)), refl)
 
--- src/lib.rt:27:1
+-- src/lib.rt:28:1
 scope-e-returns-2 : (t : ℕ) → scope-e-lts.Need-returns-2 (scope-e-calls t) (scope-e-at t) scope-e.Post
-scope-e-returns-2 t c = (cc (constant-scope (c .before .before .before .before .args .p .now) (c .before .before .before .before .args .i) (c .before .before .before .before .pre .1 .node) (c .before .before .before .before .args .marks .now) (sym (c .before .fields .ensures .kind-is) ∙ c .match .keys2)), refl)
+scope-e-returns-2 t c = (cc (constant-scope (c .before .before .before .args .p .now .now) (c .before .before .before .args .i) (c .before .before .before .pre .1) (c .before .before .before .args .marks .now) (sym (c .before .fields .ensures .kind-is) ∙ c .match .keys2)), refl)
 
--- src/lib.rt:27:1
-scope-e-same-length-2 : (t : ℕ) → scope-e-lts.Need-same-length-2 (scope-e-calls t) (scope-e-at t) scope-e.Post
-scope-e-same-length-2 t c = c .before .before .scope-e .kept .1 .0
-
--- src/lib.rt:27:1
+-- src/lib.rt:28:1
 scope-e-returns-3 : (t : ℕ) → scope-e-lts.Need-returns-3 (scope-e-calls t) (scope-e-at t) scope-e.Post
-scope-e-returns-3 t c = (cc (negation-scope (c .before .before .before .before .before .before .before .before .args .p .now) (c .before .before .before .before .before .before .before .before .args .i) (c .before .before .before .before .before .before .before .before .pre .1 .node) (c .before .before .before .before .before .before .before .before .args .marks .now) (sym (c .before .before .before .before .before .fields .ensures .kind-is) ∙ c .before .before .before .before .match .keys3)), c .before .before .scope-e .ensures .1)
+scope-e-returns-3 t c = (cc (negation-scope (c .before .before .before .before .before .args .p .now .now) (c .before .before .before .before .before .args .i) (c .before .before .before .before .before .pre .1) (c .before .before .before .before .before .args .marks .now) (sym (c .before .before .before .fields .ensures .kind-is) ∙ c .before .before .match .keys3)), c .scope-e .ensures .1)
 
--- src/lib.rt:27:1
-scope-e-same-length-3 : (t : ℕ) → scope-e-lts.Need-same-length-3 (scope-e-calls t) (scope-e-at t) scope-e.Post
-scope-e-same-length-3 t c = c .before .before .before .before .scope-e4 .kept .1 .0 ∙ c .before .before .before .before .before .before .before .before .scope-e3 .kept .1 .0 ∙ c .before .before .before .before .before .before .before .before .before .before .before .before .scope-e2 .kept .1 .0
-
--- src/lib.rt:27:1
+-- src/lib.rt:28:1
 scope-e-returns-4 : (t : ℕ) → scope-e-lts.Need-returns-4 (scope-e-calls t) (scope-e-at t) scope-e.Post
-scope-e-returns-4 t c = (cc (choice-scope (c .before .before .before .before .before .before .before .before .before .before .before .before .before .before .before .before .before .before .args .p .now) (c .before .before .before .before .before .before .before .before .before .before .before .before .before .before .before .before .before .before .args .i) (c .before .before .before .before .before .before .before .before .before .before .before .before .before .before .before .before .before .before .pre .1 .node) (c .before .before .before .before .before .before .before .before .before .before .before .before .before .before .before .before .before .before .args .marks .now) (sym (c .before .before .before .before .before .before .before .before .before .before .before .before .before .before .before .fields .ensures .kind-is) ∙ c .before .before .before .before .before .before .before .before .before .before .before .before .before .before .match .keys4)), c .before .before .before .before .scope-e4 .ensures .1 ∙ c .before .before .before .before .before .before .before .before .scope-e3 .ensures .1 ∙ c .before .before .before .before .before .before .before .before .before .before .before .before .scope-e2 .ensures .1)
+scope-e-returns-4 t c = (cc (choice-scope (c .before .before .before .before .before .before .before .before .before .before .before .args .p .now .now) (c .before .before .before .before .before .before .before .before .before .before .before .args .i) (c .before .before .before .before .before .before .before .before .before .before .before .pre .1) (c .before .before .before .before .before .before .before .before .before .before .before .args .marks .now) (sym (c .before .before .before .before .before .before .before .before .before .fields .ensures .kind-is) ∙ c .before .before .before .before .before .before .before .before .match .keys4)), c .before .before .scope-e4 .ensures .1 ∙ c .before .before .before .before .scope-e3 .ensures .1 ∙ c .before .before .before .before .before .before .scope-e2 .ensures .1)
 
--- src/lib.rt:27:1
-scope-e-same-length-4 : (t : ℕ) → scope-e-lts.Need-same-length-4 (scope-e-calls t) (scope-e-at t) scope-e.Post
-scope-e-same-length-4 t c = c .before .before .scope-e5 .kept .1 .0
-
--- src/lib.rt:27:1
+-- src/lib.rt:28:1
 scope-e-returns-5 : (t : ℕ) → scope-e-lts.Need-returns-5 (scope-e-calls t) (scope-e-at t) scope-e.Post
-scope-e-returns-5 t c = (cc (just-scope (c .before .before .before .before .before .before .before .before .args .p .now) (c .before .before .before .before .before .before .before .before .args .i) (c .before .before .before .before .before .before .before .before .pre .1 .node) (c .before .before .before .before .before .before .before .before .args .marks .now) (sym (c .before .before .before .before .before .fields .ensures .kind-is) ∙ c .before .before .before .before .match .keys5)), c .before .before .scope-e5 .ensures .1)
+scope-e-returns-5 t c = (cc (just-scope (c .before .before .before .before .before .args .p .now .now) (c .before .before .before .before .before .args .i) (c .before .before .before .before .before .pre .1) (c .before .before .before .before .before .args .marks .now) (sym (c .before .before .before .fields .ensures .kind-is) ∙ c .before .before .match .keys5)), c .scope-e5 .ensures .1)
 
--- src/lib.rt:27:1
-scope-e-same-length-5 : (t : ℕ) → scope-e-lts.Need-same-length-5 (scope-e-calls t) (scope-e-at t) scope-e.Post
-scope-e-same-length-5 t c = c .before .before .before .before .inside-e .kept .1 .0 ∙ c .before .before .before .before .before .before .before .before .scope-e7 .kept .1 .0 ∙ c .before .before .before .before .before .before .before .before .before .before .before .before .scope-e6 .kept .1 .0
-
--- src/lib.rt:27:1
+-- src/lib.rt:28:1
 scope-e-returns-6 : (t : ℕ) → scope-e-lts.Need-returns-6 (scope-e-calls t) (scope-e-at t) scope-e.Post
-scope-e-returns-6 t c = (cc (taking-scope (c .before .before .before .before .before .before .before .before .before .before .before .before .before .before .before .before .before .before .args .p .now) (c .before .before .before .before .before .before .before .before .before .before .before .before .before .before .before .before .before .before .args .i) (c .before .before .before .before .before .before .before .before .before .before .before .before .before .before .before .before .before .before .pre .1 .node) (c .before .before .before .before .before .before .before .before .before .before .before .before .before .before .before .before .before .before .args .marks .now) (sym (c .before .before .before .before .before .before .before .before .before .before .before .before .before .before .before .fields .ensures .kind-is) ∙ c .before .before .before .before .before .before .before .before .before .before .before .before .before .before .match .keys6)), c .before .before .before .before .inside-e .ensures .1 ∙ c .before .before .before .before .before .before .before .before .scope-e7 .ensures .1 ∙ c .before .before .before .before .before .before .before .before .before .before .before .before .scope-e6 .ensures .1)
+scope-e-returns-6 t c = (cc (taking-scope (c .before .before .before .before .before .before .before .before .before .before .before .args .p .now .now) (c .before .before .before .before .before .before .before .before .before .before .before .args .i) (c .before .before .before .before .before .before .before .before .before .before .before .pre .1) (c .before .before .before .before .before .before .before .before .before .before .before .args .marks .now) (sym (c .before .before .before .before .before .before .before .before .before .fields .ensures .kind-is) ∙ c .before .before .before .before .before .before .before .before .match .keys6)), c .before .before .inside-e .ensures .1 ∙ c .before .before .before .before .scope-e7 .ensures .1 ∙ c .before .before .before .before .before .before .scope-e6 .ensures .1)
 
--- src/lib.rt:27:1
-scope-e-same-length-6 : (t : ℕ) → scope-e-lts.Need-same-length-6 (scope-e-calls t) (scope-e-at t) scope-e.Post
-scope-e-same-length-6 t c = c .before .before .before .scope-e9 .kept .1 .0 ∙ c .before .before .before .before .before .before .before .scope-e8 .kept .1 .0
-
--- src/lib.rt:27:1
+-- src/lib.rt:28:1
 scope-e-returns-7 : (t : ℕ) → scope-e-lts.Need-returns-7 (scope-e-calls t) (scope-e-at t) scope-e.Post
-scope-e-returns-7 t c = (cc (operation-scope (c .before .before .before .before .before .before .before .before .before .before .before .before .before .args .p .now) (c .before .before .before .before .before .before .before .before .before .before .before .before .before .args .i) (c .before .before .before .before .before .before .before .before .before .before .before .before .before .pre .1 .node) (c .before .before .before .before .before .before .before .before .before .before .before .before .before .args .marks .now) (left (c .before .before .before .before .before .before .before .before .before .before .fields .ensures .kind-is) (c .before .before .before .before .before .before .before .before .before .match .rest))), c .before .before .before .scope-e9 .ensures .1 ∙ c .before .before .before .before .before .before .before .scope-e8 .ensures .1)
+scope-e-returns-7 t c = (cc (operation-scope (c .before .before .before .before .before .before .before .before .args .p .now .now) (c .before .before .before .before .before .before .before .before .args .i) (c .before .before .before .before .before .before .before .before .pre .1) (c .before .before .before .before .before .before .before .before .args .marks .now) (left (c .before .before .before .before .before .before .fields .ensures .kind-is) (c .before .before .before .before .before .match .rest))), c .before .scope-e9 .ensures .1 ∙ c .before .before .before .scope-e8 .ensures .1)
 
 pub +inside-e+scope-e-spec : {M : Type 1} → statement M
 +inside-e+scope-e-spec = close μ-inside-e μ-scope-e (λ t. inside-e-lts.spec (inside-e-calls t) (inside-e-at t)
     inside-e.Post
-    (inside-e-slice-read-old t)
-    (inside-e-slice-write-marks t)
+    (inside-e-element-copy-out-old t)
+    (inside-e-element-write-marks t)
     (inside-e-scope-e-requires t)
-    (inside-e-slice-write-marks-2 t)
-    (inside-e-same-length t)
+    (inside-e-element-write-marks-2 t)
     (inside-e-returns t))
     λ t. scope-e-lts.spec (scope-e-calls t) (scope-e-at t)
     scope-e.Post
@@ -231,16 +200,10 @@ pub +inside-e+scope-e-spec : {M : Type 1} → statement M
     (scope-e-scope-e-requires-8 t)
     (scope-e-scope-e-requires-9 t)
     (scope-e-sooner-requires-5 t)
-    (scope-e-same-length t)
     (scope-e-returns t)
     (scope-e-returns-2 t)
-    (scope-e-same-length-2 t)
     (scope-e-returns-3 t)
-    (scope-e-same-length-3 t)
     (scope-e-returns-4 t)
-    (scope-e-same-length-4 t)
     (scope-e-returns-5 t)
-    (scope-e-same-length-5 t)
     (scope-e-returns-6 t)
-    (scope-e-same-length-6 t)
     (scope-e-returns-7 t)

@@ -4,7 +4,7 @@ use Rattle.scope.specs.Offers.{offersAt}
 use Rattle.rules.proofs.Signals.{ext-kid, delay-kid, let-kids, switch-kids, group-kids, until-kids, branch-kid, branch-next, case-kid, case-next}
 use Rattle.rules.proofs.Kids.{Child, read}
 use Rattle.rules.specs.Scope.{mark}
-use lib.ListN.{length, length-set, set, getD}
+use lib.ListN.{set, getD}
 use Prim.Native.Nat.{_*_, _+_}
 use mathlib.Core.List.{List}
 use borrow.Author.Needs.{needs}
@@ -34,312 +34,263 @@ use Rattle.places.proofs.wrong_unless.Reads as wrong-unless-reads
 use Rattle.scope.proofs.+inside_s+scope_b+scope_c+scope_s.{statement}
 use Rattle.scope.proofs.+inside_s+scope_b+scope_c+scope_s.Tie.{close}
 
-abbrev μ-inside-s : Measures 2 inside-s-kinds.ps ℕ
+abbrev μ-inside-s : Measures 3 inside-s-kinds.ps ℕ
 μ-inside-s κs a = 2 * a .1 .1 .1 .0 + 1
 
-abbrev μ-scope-b : Measures 2 scope-b-kinds.ps ℕ
+abbrev μ-scope-b : Measures 3 scope-b-kinds.ps ℕ
 μ-scope-b κs a = 2 * a .1 .1 .0
 
-abbrev μ-scope-c : Measures 2 scope-c-kinds.ps ℕ
+abbrev μ-scope-c : Measures 3 scope-c-kinds.ps ℕ
 μ-scope-c κs a = 2 * a .1 .1 .0
 
-abbrev μ-scope-s : Measures 2 scope-s-kinds.ps ℕ
+abbrev μ-scope-s : Measures 3 scope-s-kinds.ps ℕ
 μ-scope-s κs a = 2 * a .1 .1 .0
 
-abbrev inside-s-at : ℕ → In 2 inside-s-kinds.ps
-inside-s-at t = and 2 inside-s-kinds.ps (is 2 inside-s-kinds.ps μ-inside-s t) inside-s.Pre
+abbrev inside-s-at : ℕ → In 3 inside-s-kinds.ps
+inside-s-at t = and 3 inside-s-kinds.ps (is 3 inside-s-kinds.ps μ-inside-s t) inside-s.Pre
 
-abbrev inside-s-below : ℕ → In 2 inside-s-kinds.ps
+abbrev inside-s-below : ℕ → In 3 inside-s-kinds.ps
 inside-s-below t =
-    and 2 inside-s-kinds.ps (falls 2 inside-s-kinds.ps _<_ μ-inside-s t) inside-s.Pre
+    and 3 inside-s-kinds.ps (falls 3 inside-s-kinds.ps _<_ μ-inside-s t) inside-s.Pre
 
-abbrev scope-b-at : ℕ → In 2 scope-b-kinds.ps
-scope-b-at t = and 2 scope-b-kinds.ps (is 2 scope-b-kinds.ps μ-scope-b t) scope-b.Pre
+abbrev scope-b-at : ℕ → In 3 scope-b-kinds.ps
+scope-b-at t = and 3 scope-b-kinds.ps (is 3 scope-b-kinds.ps μ-scope-b t) scope-b.Pre
 
-abbrev scope-b-below : ℕ → In 2 scope-b-kinds.ps
-scope-b-below t = and 2 scope-b-kinds.ps (falls 2 scope-b-kinds.ps _<_ μ-scope-b t) scope-b.Pre
+abbrev scope-b-below : ℕ → In 3 scope-b-kinds.ps
+scope-b-below t = and 3 scope-b-kinds.ps (falls 3 scope-b-kinds.ps _<_ μ-scope-b t) scope-b.Pre
 
-abbrev scope-c-at : ℕ → In 2 scope-c-kinds.ps
-scope-c-at t = and 2 scope-c-kinds.ps (is 2 scope-c-kinds.ps μ-scope-c t) scope-c.Pre
+abbrev scope-c-at : ℕ → In 3 scope-c-kinds.ps
+scope-c-at t = and 3 scope-c-kinds.ps (is 3 scope-c-kinds.ps μ-scope-c t) scope-c.Pre
 
-abbrev scope-c-below : ℕ → In 2 scope-c-kinds.ps
-scope-c-below t = and 2 scope-c-kinds.ps (falls 2 scope-c-kinds.ps _<_ μ-scope-c t) scope-c.Pre
+abbrev scope-c-below : ℕ → In 3 scope-c-kinds.ps
+scope-c-below t = and 3 scope-c-kinds.ps (falls 3 scope-c-kinds.ps _<_ μ-scope-c t) scope-c.Pre
 
-abbrev scope-s-at : ℕ → In 2 scope-s-kinds.ps
-scope-s-at t = and 2 scope-s-kinds.ps (is 2 scope-s-kinds.ps μ-scope-s t) scope-s.Pre
+abbrev scope-s-at : ℕ → In 3 scope-s-kinds.ps
+scope-s-at t = and 3 scope-s-kinds.ps (is 3 scope-s-kinds.ps μ-scope-s t) scope-s.Pre
 
-abbrev scope-s-below : ℕ → In 2 scope-s-kinds.ps
-scope-s-below t = and 2 scope-s-kinds.ps (falls 2 scope-s-kinds.ps _<_ μ-scope-s t) scope-s.Pre
+abbrev scope-s-below : ℕ → In 3 scope-s-kinds.ps
+scope-s-below t = and 3 scope-s-kinds.ps (falls 3 scope-s-kinds.ps _<_ μ-scope-s t) scope-s.Pre
 
 abbrev inside-s-calls : ℕ → inside-s-lts.Claims
 inside-s-calls t = (scope-s-below t, scope-s.Post)
 
--- src/lib.rt:135:15
-inside-s-slice-read-old : (t : ℕ) → inside-s-lts.Need-slice-read-old (inside-s-calls t) (inside-s-at t) inside-s.Post
-inside-s-slice-read-old t c = search needs
-
--- src/lib.rt:136:5
-inside-s-slice-write-marks : (t : ℕ) → inside-s-lts.Need-slice-write-marks (inside-s-calls t) (inside-s-at t) inside-s.Post
-inside-s-slice-write-marks t c = search needs
-
--- src/lib.rt:137:9
-inside-s-scope-s-requires : (t : ℕ) → inside-s-lts.Need-scope-s-requires (inside-s-calls t) (inside-s-at t) inside-s.Post
-inside-s-scope-s-requires t c κs = (omega (arith, c .before .before .before .before .pre .0), (record { node = c .before .before .before .before .pre .1 .0 .node; room = simp length-set (c .before .before .before .before .pre .1 .0 .room) }, c .before .before .before .before .pre .1 .1))
-
--- src/lib.rt:138:5
-inside-s-slice-write-marks-2 : (t : ℕ) → inside-s-lts.Need-slice-write-marks-2 (inside-s-calls t) (inside-s-at t) inside-s.Post
-inside-s-slice-write-marks-2 t c = omega (arith, c .before .before .scope-s .kept .1 .0, length-set (c .before .before .before .before .before .before .before .args .marks .now) (c .before .before .before .before .before .before .before .args .i) 1, c .before .before .before .before .before .before .before .pre .1 .2)
-
--- src/lib.rt:131:1
-inside-s-same-length :
-    (t : ℕ) →
-    inside-s-lts.Need-same-length (inside-s-calls t) (inside-s-at t) inside-s.Post
-inside-s-same-length t c = rw (c .before .before .scope-s .ensures .1) (ap length (put-back (c .before .before .before .before .before .before .before .args .marks .now) (c .before .before .before .before .before .before .before .args .i) 1))
-
--- src/lib.rt:131:1
-inside-s-returns :
-    (t : ℕ) →
-    inside-s-lts.Need-returns (inside-s-calls t) (inside-s-at t) inside-s.Post
-unfolding mark
-inside-s-returns t c = (c .before .before .scope-s .ensures .0, ap (λ (l : List ℕ). set l (c .before .before .before .before .before .before .before .args .i) (getD (c .before .before .before .before .before .before .before .args .marks .now) (c .before .before .before .before .before .before .before .args .i) 0)) (c .before .before .scope-s .ensures .1) ∙ put-back _ _ 1)
-
 abbrev scope-b-calls : ℕ → scope-b-lts.Claims
 scope-b-calls t = (fields-reads.Asked, fields-reads.Learnt, inside-s-below t, inside-s.Post, sooner-reads.Asked, sooner-reads.Learnt, scope-b-below t, scope-b.Post)
-
--- src/lib.rt:146:9
-scope-b-fields-requires : (t : ℕ) → scope-b-lts.Need-fields-requires (scope-b-calls t) (scope-b-at t) scope-b.Post
-scope-b-fields-requires t c κs = omega (arith, c .before .before .pre .1 .0 .node .inside, c .before .before .pre .1 .0 .node .shaped .within)
-
--- src/lib.rt:147:9
-scope-b-inside-s-requires : (t : ℕ) → scope-b-lts.Need-inside-s-requires (scope-b-calls t) (scope-b-at t) scope-b.Post
-scope-b-inside-s-requires t c κs = let k = read (c .before .fields .ensures .a-is) (branch-kid (c .before .before .before .before .args .p .now) (c .before .before .before .before .args .j) (c .before .before .before .before .pre .1 .0 .node)) in (omega (arith, k .less, c .before .before .before .before .pre .0), (record { node = k .node; room = c .before .before .before .before .pre .1 .0 .room }, c .before .before .before .before .pre .1 .1, omega (arith, c .before .before .before .before .pre .1 .0 .room, c .before .before .before .before .pre .1 .0 .node .inside)))
-
--- src/lib.rt:149:9
-scope-b-sooner-requires : (t : ℕ) → scope-b-lts.Need-sooner-requires (scope-b-calls t) (scope-b-at t) scope-b.Post
-scope-b-sooner-requires t c κs = search needs
-
--- src/lib.rt:149:9
-scope-b-same-length : (t : ℕ) → scope-b-lts.Need-same-length (scope-b-calls t) (scope-b-at t) scope-b.Post
-scope-b-same-length t c = c .before .before .before .before .before .inside-s .kept .1 .0
-
--- src/lib.rt:149:9
-scope-b-returns : (t : ℕ) → scope-b-lts.Need-returns (scope-b-calls t) (scope-b-at t) scope-b.Post
-scope-b-returns t c = (cc (branch-last-scope (c .before .before .before .before .before .before .before .before .before .before .args .p .now) (c .before .before .before .before .before .before .before .before .before .before .args .j) (c .before .before .before .before .before .before .before .before .before .before .pre .1 .0 .node) (c .before .before .before .before .before .before .before .before .before .before .args .marks .now) (offersAt (c .before .before .before .before .before .before .before .before .before .before .args .p .now) (c .before .before .before .before .before .before .before .before .before .before .args .group)) (sym (c .before .before .before .before .before .before .before .fields .ensures .b-is) ∙ c .before .if1 .taken)), c .before .before .before .before .before .inside-s .ensures .1)
-
--- src/lib.rt:151:9
-scope-b-scope-b-requires : (t : ℕ) → scope-b-lts.Need-scope-b-requires (scope-b-calls t) (scope-b-at t) scope-b.Post
-scope-b-scope-b-requires t c κs = let k = read (c .before .before .before .before .before .before .before .fields .ensures .b-is) (branch-next (c .before .before .before .before .before .before .before .before .before .before .args .p .now) (c .before .before .before .before .before .before .before .before .before .before .args .j) (c .before .before .before .before .before .before .before .before .before .before .pre .1 .0 .node) (λ h. c .before .if1 .left (c .before .before .before .before .before .before .before .fields .ensures .b-is ∙ h))) in (omega (arith, k .less, c .before .before .before .before .before .before .before .before .before .before .pre .0), (record { node = k .node; room = omega (arith, c .before .before .before .before .before .before .before .before .before .before .pre .1 .0 .room, c .before .before .before .before .before .inside-s .kept .1 .0) }, c .before .before .before .before .before .before .before .before .before .before .pre .1 .1))
-
--- src/lib.rt:152:5
-scope-b-sooner-requires-2 : (t : ℕ) → scope-b-lts.Need-sooner-requires-2 (scope-b-calls t) (scope-b-at t) scope-b.Post
-scope-b-sooner-requires-2 t c κs = search needs
-
--- src/lib.rt:142:1
-scope-b-same-length-2 : (t : ℕ) → scope-b-lts.Need-same-length-2 (scope-b-calls t) (scope-b-at t) scope-b.Post
-scope-b-same-length-2 t c = c .before .before .before .scope-b .kept .1 .0 ∙ c .before .before .before .before .before .before .before .before .before .inside-s .kept .1 .0
-
--- src/lib.rt:142:1
-scope-b-returns-2 : (t : ℕ) → scope-b-lts.Need-returns-2 (scope-b-calls t) (scope-b-at t) scope-b.Post
-scope-b-returns-2 t c = (cc (branch-more-scope (c .before .before .before .before .before .before .before .before .before .before .before .before .before .before .args .p .now) (c .before .before .before .before .before .before .before .before .before .before .before .before .before .before .args .j) (c .before .before .before .before .before .before .before .before .before .before .before .before .before .before .pre .1 .0 .node) (c .before .before .before .before .before .before .before .before .before .before .before .before .before .before .args .marks .now) (offersAt (c .before .before .before .before .before .before .before .before .before .before .before .before .before .before .args .p .now) (c .before .before .before .before .before .before .before .before .before .before .before .before .before .before .args .group)) (λ h. c .before .before .before .before .before .if1 .left (c .before .before .before .before .before .before .before .before .before .before .before .fields .ensures .b-is ∙ h))), c .before .before .before .scope-b .ensures .1 ∙ c .before .before .before .before .before .before .before .before .before .inside-s .ensures .1)
 
 abbrev scope-c-calls : ℕ → scope-c-lts.Claims
 scope-c-calls t = (fields-reads.Asked, fields-reads.Learnt, offered-reads.Asked, offered-reads.Learnt, wrong-unless-reads.Asked, wrong-unless-reads.Learnt, scope-s-below t, scope-s.Post, sooner-reads.Asked, sooner-reads.Learnt, scope-c-below t, scope-c.Post)
 
--- src/lib.rt:159:9
-scope-c-fields-requires : (t : ℕ) → scope-c-lts.Need-fields-requires (scope-c-calls t) (scope-c-at t) scope-c.Post
-scope-c-fields-requires t c κs = omega (arith, c .before .before .pre .1 .0 .node .inside, c .before .before .pre .1 .0 .node .shaped .within)
-
--- src/lib.rt:160:29
-scope-c-offered-requires : (t : ℕ) → scope-c-lts.Need-offered-requires (scope-c-calls t) (scope-c-at t) scope-c.Post
-scope-c-offered-requires t c κs = c .before .before .before .pre .1 .1
-
--- src/lib.rt:160:9
-scope-c-wrong-unless-requires : (t : ℕ) → scope-c-lts.Need-wrong-unless-requires (scope-c-calls t) (scope-c-at t) scope-c.Post
-scope-c-wrong-unless-requires t c κs = omega (arith, c .before .before .before .before .pre .1 .0 .node .inside, c .before .before .before .before .pre .1 .0 .node .shaped .small)
-
--- src/lib.rt:161:9
-scope-c-scope-s-requires : (t : ℕ) → scope-c-lts.Need-scope-s-requires (scope-c-calls t) (scope-c-at t) scope-c.Post
-scope-c-scope-s-requires t c κs = let k = read (c .before .before .before .fields .ensures .a-is) (case-kid (c .before .before .before .before .before .before .args .p .now) (c .before .before .before .before .before .before .args .j) (c .before .before .before .before .before .before .pre .1 .0 .node)) in (omega (arith, k .less, c .before .before .before .before .before .before .pre .0), (record { node = k .node; room = c .before .before .before .before .before .before .pre .1 .0 .room }, no-offer (c .before .before .before .before .before .before .args .p .now)))
-
--- src/lib.rt:163:29
-scope-c-sooner-requires : (t : ℕ) → scope-c-lts.Need-sooner-requires (scope-c-calls t) (scope-c-at t) scope-c.Post
-scope-c-sooner-requires t c κs = search needs
-
--- src/lib.rt:163:9
-scope-c-sooner-requires-2 : (t : ℕ) → scope-c-lts.Need-sooner-requires-2 (scope-c-calls t) (scope-c-at t) scope-c.Post
-scope-c-sooner-requires-2 t c κs = search needs
-
--- src/lib.rt:163:9
-scope-c-same-length : (t : ℕ) → scope-c-lts.Need-same-length (scope-c-calls t) (scope-c-at t) scope-c.Post
-scope-c-same-length t c = c .before .before .before .before .before .before .scope-s .kept .1 .0
-
--- src/lib.rt:163:9
-scope-c-returns : (t : ℕ) → scope-c-lts.Need-returns (scope-c-calls t) (scope-c-at t) scope-c.Post
-scope-c-returns t c = (cc (case-last-scope (c .before .before .before .before .before .before .before .before .before .before .before .before .before .args .p .now) (c .before .before .before .before .before .before .before .before .before .before .before .before .before .args .j) (c .before .before .before .before .before .before .before .before .before .before .before .before .before .pre .1 .0 .node) (c .before .before .before .before .before .before .before .before .before .before .before .before .before .args .marks .now) (offersAt (c .before .before .before .before .before .before .before .before .before .before .before .before .before .args .p .now) (c .before .before .before .before .before .before .before .before .before .before .before .before .before .args .group)) (sym (c .before .before .before .before .before .before .before .before .before .before .fields .ensures .b-is) ∙ c .before .before .if1 .taken)), c .before .before .before .before .before .before .scope-s .ensures .1)
-
--- src/lib.rt:165:9
-scope-c-scope-c-requires : (t : ℕ) → scope-c-lts.Need-scope-c-requires (scope-c-calls t) (scope-c-at t) scope-c.Post
-scope-c-scope-c-requires t c κs = let k = read (c .before .before .before .before .before .before .before .before .before .fields .ensures .b-is) (case-next (c .before .before .before .before .before .before .before .before .before .before .before .before .args .p .now) (c .before .before .before .before .before .before .before .before .before .before .before .before .args .j) (c .before .before .before .before .before .before .before .before .before .before .before .before .pre .1 .0 .node) (λ h. c .before .if1 .left (c .before .before .before .before .before .before .before .before .before .fields .ensures .b-is ∙ h))) in (omega (arith, k .less, c .before .before .before .before .before .before .before .before .before .before .before .before .pre .0), (record { node = k .node; room = omega (arith, c .before .before .before .before .before .before .before .before .before .before .before .before .pre .1 .0 .room, c .before .before .before .before .before .scope-s .kept .1 .0) }, c .before .before .before .before .before .before .before .before .before .before .before .before .pre .1 .1))
-
--- src/lib.rt:166:18
-scope-c-sooner-requires-3 : (t : ℕ) → scope-c-lts.Need-sooner-requires-3 (scope-c-calls t) (scope-c-at t) scope-c.Post
-scope-c-sooner-requires-3 t c κs = search needs
-
--- src/lib.rt:166:5
-scope-c-sooner-requires-4 : (t : ℕ) → scope-c-lts.Need-sooner-requires-4 (scope-c-calls t) (scope-c-at t) scope-c.Post
-scope-c-sooner-requires-4 t c κs = search needs
-
--- src/lib.rt:155:1
-scope-c-same-length-2 : (t : ℕ) → scope-c-lts.Need-same-length-2 (scope-c-calls t) (scope-c-at t) scope-c.Post
-scope-c-same-length-2 t c = c .before .before .before .before .scope-c .kept .1 .0 ∙ c .before .before .before .before .before .before .before .before .before .before .scope-s .kept .1 .0
-
--- src/lib.rt:155:1
-scope-c-returns-2 : (t : ℕ) → scope-c-lts.Need-returns-2 (scope-c-calls t) (scope-c-at t) scope-c.Post
-scope-c-returns-2 t c = (cc (case-more-scope (c .before .before .before .before .before .before .before .before .before .before .before .before .before .before .before .before .before .args .p .now) (c .before .before .before .before .before .before .before .before .before .before .before .before .before .before .before .before .before .args .j) (c .before .before .before .before .before .before .before .before .before .before .before .before .before .before .before .before .before .pre .1 .0 .node) (c .before .before .before .before .before .before .before .before .before .before .before .before .before .before .before .before .before .args .marks .now) (offersAt (c .before .before .before .before .before .before .before .before .before .before .before .before .before .before .before .before .before .args .p .now) (c .before .before .before .before .before .before .before .before .before .before .before .before .before .before .before .before .before .args .group)) (λ h. c .before .before .before .before .before .before .if1 .left (c .before .before .before .before .before .before .before .before .before .before .before .before .before .before .fields .ensures .b-is ∙ h))), c .before .before .before .before .scope-c .ensures .1 ∙ c .before .before .before .before .before .before .before .before .before .before .scope-s .ensures .1)
-
 abbrev scope-s-calls : ℕ → scope-s-lts.Claims
 scope-s-calls t = (fields-reads.Asked, fields-reads.Learnt, scope-e-reads.Asked, scope-e-reads.Learnt, scope-s-below t, scope-s.Post, inside-s-below t, inside-s.Post, sooner-reads.Asked, sooner-reads.Learnt, scope-b-below t, scope-b.Post, scope-c-below t, scope-c.Post)
 
--- src/lib.rt:100:9
-scope-s-fields-requires : (t : ℕ) → scope-s-lts.Need-fields-requires (scope-s-calls t) (scope-s-at t) scope-s.Post
-scope-s-fields-requires t c κs = omega (arith, c .before .before .pre .1 .0 .node .inside, c .before .before .pre .1 .0 .node .shaped .within)
+-- src/lib.rt:136:15
+inside-s-element-copy-out-old : (t : ℕ) → inside-s-lts.Need-element-copy-out-old (inside-s-calls t) (inside-s-at t) inside-s.Post
+inside-s-element-copy-out-old t c = search needs
 
--- src/lib.rt:103:14
-scope-s-scope-e-requires : (t : ℕ) → scope-s-lts.Need-scope-e-requires (scope-s-calls t) (scope-s-at t) scope-s.Post
-scope-s-scope-e-requires t c κs = let k = read (c .before .before .fields .ensures .a-is) (ext-kid (c .before .before .before .before .before .args .p .now) (c .before .before .before .before .before .args .i) (c .before .before .before .before .before .pre .1 .0 .node) (sym (c .before .before .fields .ensures .kind-is) ∙ c .before .match .keys1)) in record { node = k .node; room = c .before .before .before .before .before .pre .1 .0 .room }
+-- src/lib.rt:137:5
+inside-s-element-write-marks : (t : ℕ) → inside-s-lts.Need-element-write-marks (inside-s-calls t) (inside-s-at t) inside-s.Post
+inside-s-element-write-marks t c = search needs
+
+-- src/lib.rt:138:9
+inside-s-scope-s-requires : (t : ℕ) → inside-s-lts.Need-scope-s-requires (inside-s-calls t) (inside-s-at t) inside-s.Post
+inside-s-scope-s-requires t c κs = (omega (arith, c .before .before .pre .0), (c .before .before .pre .1 .0, c .before .before .pre .1 .1))
+
+-- src/lib.rt:139:5
+inside-s-element-write-marks-2 : (t : ℕ) → inside-s-lts.Need-element-write-marks-2 (inside-s-calls t) (inside-s-at t) inside-s.Post
+inside-s-element-write-marks-2 t c = search needs
+
+-- src/lib.rt:132:1
+inside-s-returns :
+    (t : ℕ) →
+    inside-s-lts.Need-returns (inside-s-calls t) (inside-s-at t) inside-s.Post
+unfolding mark
+inside-s-returns t c = (c .scope-s .ensures .0, ap (λ (l : List ℕ). set l (c .before .before .before .args .i) (getD (c .before .before .before .args .marks .now) (c .before .before .before .args .i) 0)) (c .scope-s .ensures .1) ∙ put-back _ _ 1)
+
+-- src/lib.rt:147:9
+scope-b-fields-requires : (t : ℕ) → scope-b-lts.Need-fields-requires (scope-b-calls t) (scope-b-at t) scope-b.Post
+scope-b-fields-requires t c κs = omega (arith, c .before .pre .1 .0 .inside, c .before .pre .1 .0 .shaped .within)
+
+-- src/lib.rt:148:9
+scope-b-inside-s-requires : (t : ℕ) → scope-b-lts.Need-inside-s-requires (scope-b-calls t) (scope-b-at t) scope-b.Post
+scope-b-inside-s-requires t c κs = let k = read (c .before .fields .ensures .a-is) (branch-kid (c .before .before .before .args .p .now .now) (c .before .before .before .args .j) (c .before .before .before .pre .1 .0)) in (omega (arith, k .less, c .before .before .before .pre .0), (k .node, c .before .before .before .pre .1 .1, omega (arith, c .before .before .before .pre .1 .0 .inside, c .before .before .before .pre .1 .0 .shaped .small)))
+
+-- src/lib.rt:150:9
+scope-b-sooner-requires : (t : ℕ) → scope-b-lts.Need-sooner-requires (scope-b-calls t) (scope-b-at t) scope-b.Post
+scope-b-sooner-requires t c κs = search needs
+
+-- src/lib.rt:150:9
+scope-b-returns : (t : ℕ) → scope-b-lts.Need-returns (scope-b-calls t) (scope-b-at t) scope-b.Post
+scope-b-returns t c = (cc (branch-last-scope (c .before .before .before .before .before .before .before .args .p .now .now) (c .before .before .before .before .before .before .before .args .j) (c .before .before .before .before .before .before .before .pre .1 .0) (c .before .before .before .before .before .before .before .args .marks .now) (offersAt (c .before .before .before .before .before .before .before .args .p .now .now) (c .before .before .before .before .before .before .before .args .group)) (sym (c .before .before .before .before .before .fields .ensures .b-is) ∙ c .before .if1 .taken)), c .before .before .before .inside-s .ensures .1)
+
+-- src/lib.rt:152:9
+scope-b-scope-b-requires : (t : ℕ) → scope-b-lts.Need-scope-b-requires (scope-b-calls t) (scope-b-at t) scope-b.Post
+scope-b-scope-b-requires t c κs = let k = read (c .before .before .before .before .before .fields .ensures .b-is) (branch-next (c .before .before .before .before .before .before .before .args .p .now .now) (c .before .before .before .before .before .before .before .args .j) (c .before .before .before .before .before .before .before .pre .1 .0) (λ h. c .before .if1 .left (c .before .before .before .before .before .fields .ensures .b-is ∙ h))) in (omega (arith, k .less, c .before .before .before .before .before .before .before .pre .0), (k .node, c .before .before .before .before .before .before .before .pre .1 .1))
+
+-- src/lib.rt:153:5
+scope-b-sooner-requires-2 : (t : ℕ) → scope-b-lts.Need-sooner-requires-2 (scope-b-calls t) (scope-b-at t) scope-b.Post
+scope-b-sooner-requires-2 t c κs = search needs
+
+-- src/lib.rt:143:1
+scope-b-returns-2 : (t : ℕ) → scope-b-lts.Need-returns-2 (scope-b-calls t) (scope-b-at t) scope-b.Post
+scope-b-returns-2 t c = (cc (branch-more-scope (c .before .before .before .before .before .before .before .before .before .args .p .now .now) (c .before .before .before .before .before .before .before .before .before .args .j) (c .before .before .before .before .before .before .before .before .before .pre .1 .0) (c .before .before .before .before .before .before .before .before .before .args .marks .now) (offersAt (c .before .before .before .before .before .before .before .before .before .args .p .now .now) (c .before .before .before .before .before .before .before .before .before .args .group)) (λ h. c .before .before .before .if1 .left (c .before .before .before .before .before .before .before .fields .ensures .b-is ∙ h))), c .before .scope-b .ensures .1 ∙ c .before .before .before .before .before .inside-s .ensures .1)
+
+-- src/lib.rt:160:9
+scope-c-fields-requires : (t : ℕ) → scope-c-lts.Need-fields-requires (scope-c-calls t) (scope-c-at t) scope-c.Post
+scope-c-fields-requires t c κs = omega (arith, c .before .pre .1 .0 .inside, c .before .pre .1 .0 .shaped .within)
+
+-- src/lib.rt:161:29
+scope-c-offered-requires : (t : ℕ) → scope-c-lts.Need-offered-requires (scope-c-calls t) (scope-c-at t) scope-c.Post
+scope-c-offered-requires t c κs = c .before .before .pre .1 .1
+
+-- src/lib.rt:161:9
+scope-c-wrong-unless-requires : (t : ℕ) → scope-c-lts.Need-wrong-unless-requires (scope-c-calls t) (scope-c-at t) scope-c.Post
+scope-c-wrong-unless-requires t c κs = omega (arith, c .before .before .before .pre .1 .0 .inside, c .before .before .before .pre .1 .0 .shaped .small)
+
+-- src/lib.rt:162:9
+scope-c-scope-s-requires : (t : ℕ) → scope-c-lts.Need-scope-s-requires (scope-c-calls t) (scope-c-at t) scope-c.Post
+scope-c-scope-s-requires t c κs = let k = read (c .before .before .before .fields .ensures .a-is) (case-kid (c .before .before .before .before .before .args .p .now .now) (c .before .before .before .before .before .args .j) (c .before .before .before .before .before .pre .1 .0)) in (omega (arith, k .less, c .before .before .before .before .before .pre .0), (k .node, no-offer (c .before .before .before .before .before .args .p .now .now)))
+
+-- src/lib.rt:164:29
+scope-c-sooner-requires : (t : ℕ) → scope-c-lts.Need-sooner-requires (scope-c-calls t) (scope-c-at t) scope-c.Post
+scope-c-sooner-requires t c κs = search needs
+
+-- src/lib.rt:164:9
+scope-c-sooner-requires-2 : (t : ℕ) → scope-c-lts.Need-sooner-requires-2 (scope-c-calls t) (scope-c-at t) scope-c.Post
+scope-c-sooner-requires-2 t c κs = search needs
+
+-- src/lib.rt:164:9
+scope-c-returns : (t : ℕ) → scope-c-lts.Need-returns (scope-c-calls t) (scope-c-at t) scope-c.Post
+scope-c-returns t c = (cc (case-last-scope (c .before .before .before .before .before .before .before .before .before .before .args .p .now .now) (c .before .before .before .before .before .before .before .before .before .before .args .j) (c .before .before .before .before .before .before .before .before .before .before .pre .1 .0) (c .before .before .before .before .before .before .before .before .before .before .args .marks .now) (offersAt (c .before .before .before .before .before .before .before .before .before .before .args .p .now .now) (c .before .before .before .before .before .before .before .before .before .before .args .group)) (sym (c .before .before .before .before .before .before .before .before .fields .ensures .b-is) ∙ c .before .before .if1 .taken)), c .before .before .before .before .scope-s .ensures .1)
+
+-- src/lib.rt:166:9
+scope-c-scope-c-requires : (t : ℕ) → scope-c-lts.Need-scope-c-requires (scope-c-calls t) (scope-c-at t) scope-c.Post
+scope-c-scope-c-requires t c κs = let k = read (c .before .before .before .before .before .before .before .fields .ensures .b-is) (case-next (c .before .before .before .before .before .before .before .before .before .args .p .now .now) (c .before .before .before .before .before .before .before .before .before .args .j) (c .before .before .before .before .before .before .before .before .before .pre .1 .0) (λ h. c .before .if1 .left (c .before .before .before .before .before .before .before .fields .ensures .b-is ∙ h))) in (omega (arith, k .less, c .before .before .before .before .before .before .before .before .before .pre .0), (k .node, c .before .before .before .before .before .before .before .before .before .pre .1 .1))
+
+-- src/lib.rt:167:18
+scope-c-sooner-requires-3 : (t : ℕ) → scope-c-lts.Need-sooner-requires-3 (scope-c-calls t) (scope-c-at t) scope-c.Post
+scope-c-sooner-requires-3 t c κs = search needs
+
+-- src/lib.rt:167:5
+scope-c-sooner-requires-4 : (t : ℕ) → scope-c-lts.Need-sooner-requires-4 (scope-c-calls t) (scope-c-at t) scope-c.Post
+scope-c-sooner-requires-4 t c κs = search needs
+
+-- src/lib.rt:156:1
+scope-c-returns-2 : (t : ℕ) → scope-c-lts.Need-returns-2 (scope-c-calls t) (scope-c-at t) scope-c.Post
+scope-c-returns-2 t c = (cc (case-more-scope (c .before .before .before .before .before .before .before .before .before .before .before .before .args .p .now .now) (c .before .before .before .before .before .before .before .before .before .before .before .before .args .j) (c .before .before .before .before .before .before .before .before .before .before .before .before .pre .1 .0) (c .before .before .before .before .before .before .before .before .before .before .before .before .args .marks .now) (offersAt (c .before .before .before .before .before .before .before .before .before .before .before .before .args .p .now .now) (c .before .before .before .before .before .before .before .before .before .before .before .before .args .group)) (λ h. c .before .before .before .before .if1 .left (c .before .before .before .before .before .before .before .before .before .before .fields .ensures .b-is ∙ h))), c .before .before .scope-c .ensures .1 ∙ c .before .before .before .before .before .before .scope-s .ensures .1)
+
+-- src/lib.rt:101:9
+scope-s-fields-requires : (t : ℕ) → scope-s-lts.Need-fields-requires (scope-s-calls t) (scope-s-at t) scope-s.Post
+scope-s-fields-requires t c κs = omega (arith, c .before .pre .1 .0 .inside, c .before .pre .1 .0 .shaped .within)
 
 -- src/lib.rt:104:14
-scope-s-scope-s-requires : (t : ℕ) → scope-s-lts.Need-scope-s-requires (scope-s-calls t) (scope-s-at t) scope-s.Post
-scope-s-scope-s-requires t c κs = let k = read (c .before .before .fields .ensures .a-is) (delay-kid (c .before .before .before .before .before .args .p .now) (c .before .before .before .before .before .args .i) (c .before .before .before .before .before .pre .1 .0 .node) (sym (c .before .before .fields .ensures .kind-is) ∙ c .before .match .keys2)) in (omega (arith, k .less, c .before .before .before .before .before .pre .0), (record { node = k .node; room = c .before .before .before .before .before .pre .1 .0 .room }, let none = no-offer (c .before .before .before .before .before .args .p .now) in let above = c .before .before .before .before .before .pre .1 .1 in search needs))
+scope-s-scope-e-requires : (t : ℕ) → scope-s-lts.Need-scope-e-requires (scope-s-calls t) (scope-s-at t) scope-s.Post
+scope-s-scope-e-requires t c κs = let k = read (c .before .before .fields .ensures .a-is) (ext-kid (c .before .before .before .before .args .p .now .now) (c .before .before .before .before .args .i) (c .before .before .before .before .pre .1 .0) (sym (c .before .before .fields .ensures .kind-is) ∙ c .before .match .keys1)) in k .node
 
--- src/lib.rt:106:17
-scope-s-inside-s-requires : (t : ℕ) → scope-s-lts.Need-inside-s-requires (scope-s-calls t) (scope-s-at t) scope-s.Post
-scope-s-inside-s-requires t c κs = let k = read (c .before .before .fields .ensures .a-is) (let-kids (c .before .before .before .before .before .args .p .now) (c .before .before .before .before .before .args .i) (c .before .before .before .before .before .pre .1 .0 .node) (sym (c .before .before .fields .ensures .kind-is) ∙ c .before .match .keys3) .0) in (omega (arith, k .less, c .before .before .before .before .before .pre .0), (record { node = k .node; room = c .before .before .before .before .before .pre .1 .0 .room }, no-offer (c .before .before .before .before .before .args .p .now), omega (arith, c .before .before .before .before .before .pre .1 .0 .room, c .before .before .before .before .before .pre .1 .0 .node .inside)))
+-- src/lib.rt:105:14
+scope-s-scope-s-requires : (t : ℕ) → scope-s-lts.Need-scope-s-requires (scope-s-calls t) (scope-s-at t) scope-s.Post
+scope-s-scope-s-requires t c κs = let k = read (c .before .before .fields .ensures .a-is) (delay-kid (c .before .before .before .before .args .p .now .now) (c .before .before .before .before .args .i) (c .before .before .before .before .pre .1 .0) (sym (c .before .before .fields .ensures .kind-is) ∙ c .before .match .keys2)) in (omega (arith, k .less, c .before .before .before .before .pre .0), (k .node, let none = no-offer (c .before .before .before .before .args .p .now .now) in let above = c .before .before .before .before .pre .1 .1 in search needs))
 
 -- src/lib.rt:107:17
-scope-s-inside-s-requires-2 : (t : ℕ) → scope-s-lts.Need-inside-s-requires-2 (scope-s-calls t) (scope-s-at t) scope-s.Post
-scope-s-inside-s-requires-2 t c κs = let k = read (c .before .before .before .before .before .before .fields .ensures .b-is) (let-kids (c .before .before .before .before .before .before .before .before .before .args .p .now) (c .before .before .before .before .before .before .before .before .before .args .i) (c .before .before .before .before .before .before .before .before .before .pre .1 .0 .node) (sym (c .before .before .before .before .before .before .fields .ensures .kind-is) ∙ c .before .before .before .before .before .match .keys3) .1) in (omega (arith, k .less, c .before .before .before .before .before .before .before .before .before .pre .0), (record { node = k .node; room = omega (arith, c .before .before .before .before .before .before .before .before .before .pre .1 .0 .room, c .before .before .before .inside-s .kept .1 .0) }, c .before .before .before .before .before .before .before .before .before .pre .1 .1, omega (arith, c .before .before .before .before .before .before .before .before .before .pre .1 .0 .room, c .before .before .before .before .before .before .before .before .before .pre .1 .0 .node .inside, c .before .before .before .inside-s .kept .1 .0)))
+scope-s-inside-s-requires : (t : ℕ) → scope-s-lts.Need-inside-s-requires (scope-s-calls t) (scope-s-at t) scope-s.Post
+scope-s-inside-s-requires t c κs = let k = read (c .before .before .fields .ensures .a-is) (let-kids (c .before .before .before .before .args .p .now .now) (c .before .before .before .before .args .i) (c .before .before .before .before .pre .1 .0) (sym (c .before .before .fields .ensures .kind-is) ∙ c .before .match .keys3) .0) in (omega (arith, k .less, c .before .before .before .before .pre .0), (k .node, no-offer (c .before .before .before .before .args .p .now .now), omega (arith, c .before .before .before .before .pre .1 .0 .inside, c .before .before .before .before .pre .1 .0 .shaped .small)))
 
--- src/lib.rt:108:13
+-- src/lib.rt:108:17
+scope-s-inside-s-requires-2 : (t : ℕ) → scope-s-lts.Need-inside-s-requires-2 (scope-s-calls t) (scope-s-at t) scope-s.Post
+scope-s-inside-s-requires-2 t c κs = let k = read (c .before .before .before .before .fields .ensures .b-is) (let-kids (c .before .before .before .before .before .before .args .p .now .now) (c .before .before .before .before .before .before .args .i) (c .before .before .before .before .before .before .pre .1 .0) (sym (c .before .before .before .before .fields .ensures .kind-is) ∙ c .before .before .before .match .keys3) .1) in (omega (arith, k .less, c .before .before .before .before .before .before .pre .0), (k .node, c .before .before .before .before .before .before .pre .1 .1, omega (arith, c .before .before .before .before .before .before .pre .1 .0 .inside, c .before .before .before .before .before .before .pre .1 .0 .shaped .small)))
+
+-- src/lib.rt:109:13
 scope-s-sooner-requires : (t : ℕ) → scope-s-lts.Need-sooner-requires (scope-s-calls t) (scope-s-at t) scope-s.Post
 scope-s-sooner-requires t c κs = search needs
 
--- src/lib.rt:111:17
-scope-s-scope-s-requires-2 : (t : ℕ) → scope-s-lts.Need-scope-s-requires-2 (scope-s-calls t) (scope-s-at t) scope-s.Post
-scope-s-scope-s-requires-2 t c κs = let k = read (c .before .before .fields .ensures .a-is) (switch-kids (c .before .before .before .before .before .args .p .now) (c .before .before .before .before .before .args .i) (c .before .before .before .before .before .pre .1 .0 .node) (sym (c .before .before .fields .ensures .kind-is) ∙ c .before .match .keys4) .0) in (omega (arith, k .less, c .before .before .before .before .before .pre .0), (record { node = k .node; room = c .before .before .before .before .before .pre .1 .0 .room }, no-offer (c .before .before .before .before .before .args .p .now)))
-
 -- src/lib.rt:112:17
-scope-s-scope-s-requires-3 : (t : ℕ) → scope-s-lts.Need-scope-s-requires-3 (scope-s-calls t) (scope-s-at t) scope-s.Post
-scope-s-scope-s-requires-3 t c κs = let k = read (c .before .before .before .before .before .before .fields .ensures .b-is) (switch-kids (c .before .before .before .before .before .before .before .before .before .args .p .now) (c .before .before .before .before .before .before .before .before .before .args .i) (c .before .before .before .before .before .before .before .before .before .pre .1 .0 .node) (sym (c .before .before .before .before .before .before .fields .ensures .kind-is) ∙ c .before .before .before .before .before .match .keys4) .1) in (omega (arith, k .less, c .before .before .before .before .before .before .before .before .before .pre .0), (record { node = k .node; room = omega (arith, c .before .before .before .before .before .before .before .before .before .pre .1 .0 .room, c .before .before .before .scope-s2 .kept .1 .0) }, no-offer (c .before .before .before .before .before .before .before .before .before .args .p .now)))
+scope-s-scope-s-requires-2 : (t : ℕ) → scope-s-lts.Need-scope-s-requires-2 (scope-s-calls t) (scope-s-at t) scope-s.Post
+scope-s-scope-s-requires-2 t c κs = let k = read (c .before .before .fields .ensures .a-is) (switch-kids (c .before .before .before .before .args .p .now .now) (c .before .before .before .before .args .i) (c .before .before .before .before .pre .1 .0) (sym (c .before .before .fields .ensures .kind-is) ∙ c .before .match .keys4) .0) in (omega (arith, k .less, c .before .before .before .before .pre .0), (k .node, no-offer (c .before .before .before .before .args .p .now .now)))
 
 -- src/lib.rt:113:17
-scope-s-inside-s-requires-3 : (t : ℕ) → scope-s-lts.Need-inside-s-requires-3 (scope-s-calls t) (scope-s-at t) scope-s.Post
-scope-s-inside-s-requires-3 t c κs = let k = read (c .before .before .before .before .before .before .before .before .before .before .fields .ensures .c-is) (switch-kids (c .before .before .before .before .before .before .before .before .before .before .before .before .before .args .p .now) (c .before .before .before .before .before .before .before .before .before .before .before .before .before .args .i) (c .before .before .before .before .before .before .before .before .before .before .before .before .before .pre .1 .0 .node) (sym (c .before .before .before .before .before .before .before .before .before .before .fields .ensures .kind-is) ∙ c .before .before .before .before .before .before .before .before .before .match .keys4) .2) in (omega (arith, k .less, c .before .before .before .before .before .before .before .before .before .before .before .before .before .pre .0), (record { node = k .node; room = omega (arith, c .before .before .before .before .before .before .before .before .before .before .before .before .before .pre .1 .0 .room, c .before .before .before .before .before .before .before .scope-s2 .kept .1 .0, c .before .before .before .scope-s3 .kept .1 .0) }, no-offer (c .before .before .before .before .before .before .before .before .before .before .before .before .before .args .p .now), omega (arith, c .before .before .before .before .before .before .before .before .before .before .before .before .before .pre .1 .0 .room, c .before .before .before .before .before .before .before .before .before .before .before .before .before .pre .1 .0 .node .inside, c .before .before .before .before .before .before .before .scope-s2 .kept .1 .0, c .before .before .before .scope-s3 .kept .1 .0)))
+scope-s-scope-s-requires-3 : (t : ℕ) → scope-s-lts.Need-scope-s-requires-3 (scope-s-calls t) (scope-s-at t) scope-s.Post
+scope-s-scope-s-requires-3 t c κs = let k = read (c .before .before .before .before .fields .ensures .b-is) (switch-kids (c .before .before .before .before .before .before .args .p .now .now) (c .before .before .before .before .before .before .args .i) (c .before .before .before .before .before .before .pre .1 .0) (sym (c .before .before .before .before .fields .ensures .kind-is) ∙ c .before .before .before .match .keys4) .1) in (omega (arith, k .less, c .before .before .before .before .before .before .pre .0), (k .node, no-offer (c .before .before .before .before .before .before .args .p .now .now)))
 
--- src/lib.rt:114:23
+-- src/lib.rt:114:17
+scope-s-inside-s-requires-3 : (t : ℕ) → scope-s-lts.Need-inside-s-requires-3 (scope-s-calls t) (scope-s-at t) scope-s.Post
+scope-s-inside-s-requires-3 t c κs = let k = read (c .before .before .before .before .before .before .fields .ensures .c-is) (switch-kids (c .before .before .before .before .before .before .before .before .args .p .now .now) (c .before .before .before .before .before .before .before .before .args .i) (c .before .before .before .before .before .before .before .before .pre .1 .0) (sym (c .before .before .before .before .before .before .fields .ensures .kind-is) ∙ c .before .before .before .before .before .match .keys4) .2) in (omega (arith, k .less, c .before .before .before .before .before .before .before .before .pre .0), (k .node, no-offer (c .before .before .before .before .before .before .before .before .args .p .now .now), omega (arith, c .before .before .before .before .before .before .before .before .pre .1 .0 .inside, c .before .before .before .before .before .before .before .before .pre .1 .0 .shaped .small)))
+
+-- src/lib.rt:115:23
 scope-s-sooner-requires-2 : (t : ℕ) → scope-s-lts.Need-sooner-requires-2 (scope-s-calls t) (scope-s-at t) scope-s.Post
 scope-s-sooner-requires-2 t c κs = search needs
 
--- src/lib.rt:114:13
+-- src/lib.rt:115:13
 scope-s-sooner-requires-3 : (t : ℕ) → scope-s-lts.Need-sooner-requires-3 (scope-s-calls t) (scope-s-at t) scope-s.Post
 scope-s-sooner-requires-3 t c κs = search needs
 
--- src/lib.rt:117:17
-scope-s-scope-s-requires-4 : (t : ℕ) → scope-s-lts.Need-scope-s-requires-4 (scope-s-calls t) (scope-s-at t) scope-s.Post
-scope-s-scope-s-requires-4 t c κs = let k = read (c .before .before .fields .ensures .a-is) (group-kids (c .before .before .before .before .before .args .p .now) (c .before .before .before .before .before .args .i) (c .before .before .before .before .before .pre .1 .0 .node) (sym (c .before .before .fields .ensures .kind-is) ∙ c .before .match .keys5) .0) in (omega (arith, k .less, c .before .before .before .before .before .pre .0), (record { node = k .node; room = c .before .before .before .before .before .pre .1 .0 .room }, let own : Offered (c .before .before .before .before .before .args .p .now) (c .before .before .fields .result .b) = record { offered = λ d. read (c .before .before .fields .ensures .b-is) (group-kids (c .before .before .before .before .before .args .p .now) (c .before .before .before .before .before .args .i) (c .before .before .before .before .before .pre .1 .0 .node) (sym (c .before .before .fields .ensures .kind-is) ∙ c .before .match .keys5) .1) .node } in let above = c .before .before .before .before .before .pre .1 .1 in search needs))
-
 -- src/lib.rt:118:17
-scope-s-scope-b-requires : (t : ℕ) → scope-s-lts.Need-scope-b-requires (scope-s-calls t) (scope-s-at t) scope-s.Post
-scope-s-scope-b-requires t c κs = let k = read (c .before .before .before .before .before .before .fields .ensures .b-is) (group-kids (c .before .before .before .before .before .before .before .before .before .args .p .now) (c .before .before .before .before .before .before .before .before .before .args .i) (c .before .before .before .before .before .before .before .before .before .pre .1 .0 .node) (sym (c .before .before .before .before .before .before .fields .ensures .kind-is) ∙ c .before .before .before .before .before .match .keys5) .1) in (omega (arith, k .less, c .before .before .before .before .before .before .before .before .before .pre .0), (record { node = k .node; room = omega (arith, c .before .before .before .before .before .before .before .before .before .pre .1 .0 .room, c .before .before .before .scope-s4 .kept .1 .0) }, record { offered = λ d. read (c .before .before .before .before .before .before .fields .ensures .b-is) (group-kids (c .before .before .before .before .before .before .before .before .before .args .p .now) (c .before .before .before .before .before .before .before .before .before .args .i) (c .before .before .before .before .before .before .before .before .before .pre .1 .0 .node) (sym (c .before .before .before .before .before .before .fields .ensures .kind-is) ∙ c .before .before .before .before .before .match .keys5) .1) .node }))
+scope-s-scope-s-requires-4 : (t : ℕ) → scope-s-lts.Need-scope-s-requires-4 (scope-s-calls t) (scope-s-at t) scope-s.Post
+scope-s-scope-s-requires-4 t c κs = let k = read (c .before .before .fields .ensures .a-is) (group-kids (c .before .before .before .before .args .p .now .now) (c .before .before .before .before .args .i) (c .before .before .before .before .pre .1 .0) (sym (c .before .before .fields .ensures .kind-is) ∙ c .before .match .keys5) .0) in (omega (arith, k .less, c .before .before .before .before .pre .0), (k .node, let own : Offered (c .before .before .before .before .args .p .now .now) (c .before .before .fields .result .b) = record { offered = λ d. read (c .before .before .fields .ensures .b-is) (group-kids (c .before .before .before .before .args .p .now .now) (c .before .before .before .before .args .i) (c .before .before .before .before .pre .1 .0) (sym (c .before .before .fields .ensures .kind-is) ∙ c .before .match .keys5) .1) .node } in let above = c .before .before .before .before .pre .1 .1 in search needs))
 
--- src/lib.rt:119:13
+-- src/lib.rt:119:17
+scope-s-scope-b-requires : (t : ℕ) → scope-s-lts.Need-scope-b-requires (scope-s-calls t) (scope-s-at t) scope-s.Post
+scope-s-scope-b-requires t c κs = let k = read (c .before .before .before .before .fields .ensures .b-is) (group-kids (c .before .before .before .before .before .before .args .p .now .now) (c .before .before .before .before .before .before .args .i) (c .before .before .before .before .before .before .pre .1 .0) (sym (c .before .before .before .before .fields .ensures .kind-is) ∙ c .before .before .before .match .keys5) .1) in (omega (arith, k .less, c .before .before .before .before .before .before .pre .0), (k .node, record { offered = λ d. read (c .before .before .before .before .fields .ensures .b-is) (group-kids (c .before .before .before .before .before .before .args .p .now .now) (c .before .before .before .before .before .before .args .i) (c .before .before .before .before .before .before .pre .1 .0) (sym (c .before .before .before .before .fields .ensures .kind-is) ∙ c .before .before .before .match .keys5) .1) .node }))
+
+-- src/lib.rt:120:13
 scope-s-sooner-requires-4 : (t : ℕ) → scope-s-lts.Need-sooner-requires-4 (scope-s-calls t) (scope-s-at t) scope-s.Post
 scope-s-sooner-requires-4 t c κs = search needs
 
--- src/lib.rt:122:17
-scope-s-scope-s-requires-5 : (t : ℕ) → scope-s-lts.Need-scope-s-requires-5 (scope-s-calls t) (scope-s-at t) scope-s.Post
-scope-s-scope-s-requires-5 t c κs = let k = read (c .before .before .fields .ensures .a-is) (until-kids (c .before .before .before .before .before .args .p .now) (c .before .before .before .before .before .args .i) (c .before .before .before .before .before .pre .1 .0 .node) (sym (c .before .before .fields .ensures .kind-is) ∙ c .before .match .keys6) .0) in (omega (arith, k .less, c .before .before .before .before .before .pre .0), (record { node = k .node; room = c .before .before .before .before .before .pre .1 .0 .room }, no-offer (c .before .before .before .before .before .args .p .now)))
-
 -- src/lib.rt:123:17
-scope-s-scope-c-requires : (t : ℕ) → scope-s-lts.Need-scope-c-requires (scope-s-calls t) (scope-s-at t) scope-s.Post
-scope-s-scope-c-requires t c κs = let k = read (c .before .before .before .before .before .before .fields .ensures .b-is) (until-kids (c .before .before .before .before .before .before .before .before .before .args .p .now) (c .before .before .before .before .before .before .before .before .before .args .i) (c .before .before .before .before .before .before .before .before .before .pre .1 .0 .node) (sym (c .before .before .before .before .before .before .fields .ensures .kind-is) ∙ c .before .before .before .before .before .match .keys6) .1) in (omega (arith, k .less, c .before .before .before .before .before .before .before .before .before .pre .0), (record { node = k .node; room = omega (arith, c .before .before .before .before .before .before .before .before .before .pre .1 .0 .room, c .before .before .before .scope-s5 .kept .1 .0) }, c .before .before .before .before .before .before .before .before .before .pre .1 .1))
+scope-s-scope-s-requires-5 : (t : ℕ) → scope-s-lts.Need-scope-s-requires-5 (scope-s-calls t) (scope-s-at t) scope-s.Post
+scope-s-scope-s-requires-5 t c κs = let k = read (c .before .before .fields .ensures .a-is) (until-kids (c .before .before .before .before .args .p .now .now) (c .before .before .before .before .args .i) (c .before .before .before .before .pre .1 .0) (sym (c .before .before .fields .ensures .kind-is) ∙ c .before .match .keys6) .0) in (omega (arith, k .less, c .before .before .before .before .pre .0), (k .node, no-offer (c .before .before .before .before .args .p .now .now)))
 
--- src/lib.rt:124:13
+-- src/lib.rt:124:17
+scope-s-scope-c-requires : (t : ℕ) → scope-s-lts.Need-scope-c-requires (scope-s-calls t) (scope-s-at t) scope-s.Post
+scope-s-scope-c-requires t c κs = let k = read (c .before .before .before .before .fields .ensures .b-is) (until-kids (c .before .before .before .before .before .before .args .p .now .now) (c .before .before .before .before .before .before .args .i) (c .before .before .before .before .before .before .pre .1 .0) (sym (c .before .before .before .before .fields .ensures .kind-is) ∙ c .before .before .before .match .keys6) .1) in (omega (arith, k .less, c .before .before .before .before .before .before .pre .0), (k .node, c .before .before .before .before .before .before .pre .1 .1))
+
+-- src/lib.rt:125:13
 scope-s-sooner-requires-5 : (t : ℕ) → scope-s-lts.Need-sooner-requires-5 (scope-s-calls t) (scope-s-at t) scope-s.Post
 scope-s-sooner-requires-5 t c κs = search needs
 
--- src/lib.rt:96:1
-scope-s-same-length : (t : ℕ) → scope-s-lts.Need-same-length (scope-s-calls t) (scope-s-at t) scope-s.Post
-scope-s-same-length t c = c .before .before .scope-e .kept .1 .0
-
--- src/lib.rt:96:1
+-- src/lib.rt:97:1
 scope-s-returns : (t : ℕ) → scope-s-lts.Need-returns (scope-s-calls t) (scope-s-at t) scope-s.Post
-scope-s-returns t c = (cc (ext-scope (c .before .before .before .before .before .before .before .before .args .p .now) (c .before .before .before .before .before .before .before .before .args .i) (c .before .before .before .before .before .before .before .before .pre .1 .0 .node) (c .before .before .before .before .before .before .before .before .args .marks .now) (offersAt (c .before .before .before .before .before .before .before .before .args .p .now) (c .before .before .before .before .before .before .before .before .args .group)) (sym (c .before .before .before .before .before .fields .ensures .kind-is) ∙ c .before .before .before .before .match .keys1)), c .before .before .scope-e .ensures .1)
+scope-s-returns t c = (cc (ext-scope (c .before .before .before .before .before .args .p .now .now) (c .before .before .before .before .before .args .i) (c .before .before .before .before .before .pre .1 .0) (c .before .before .before .before .before .args .marks .now) (offersAt (c .before .before .before .before .before .args .p .now .now) (c .before .before .before .before .before .args .group)) (sym (c .before .before .before .fields .ensures .kind-is) ∙ c .before .before .match .keys1)), c .scope-e .ensures .1)
 
--- src/lib.rt:96:1
-scope-s-same-length-2 : (t : ℕ) → scope-s-lts.Need-same-length-2 (scope-s-calls t) (scope-s-at t) scope-s.Post
-scope-s-same-length-2 t c = c .before .before .scope-s .kept .1 .0
-
--- src/lib.rt:96:1
+-- src/lib.rt:97:1
 scope-s-returns-2 : (t : ℕ) → scope-s-lts.Need-returns-2 (scope-s-calls t) (scope-s-at t) scope-s.Post
-scope-s-returns-2 t c = (cc (delay-scope (c .before .before .before .before .before .before .before .before .args .p .now) (c .before .before .before .before .before .before .before .before .args .i) (c .before .before .before .before .before .before .before .before .pre .1 .0 .node) (c .before .before .before .before .before .before .before .before .args .marks .now) (offersAt (c .before .before .before .before .before .before .before .before .args .p .now) (c .before .before .before .before .before .before .before .before .args .group)) (sym (c .before .before .before .before .before .fields .ensures .kind-is) ∙ c .before .before .before .before .match .keys2)), c .before .before .scope-s .ensures .1)
+scope-s-returns-2 t c = (cc (delay-scope (c .before .before .before .before .before .args .p .now .now) (c .before .before .before .before .before .args .i) (c .before .before .before .before .before .pre .1 .0) (c .before .before .before .before .before .args .marks .now) (offersAt (c .before .before .before .before .before .args .p .now .now) (c .before .before .before .before .before .args .group)) (sym (c .before .before .before .fields .ensures .kind-is) ∙ c .before .before .match .keys2)), c .scope-s .ensures .1)
 
--- src/lib.rt:96:1
-scope-s-same-length-3 : (t : ℕ) → scope-s-lts.Need-same-length-3 (scope-s-calls t) (scope-s-at t) scope-s.Post
-scope-s-same-length-3 t c = c .before .before .before .inside-s2 .kept .1 .0 ∙ c .before .before .before .before .before .before .before .inside-s .kept .1 .0
-
--- src/lib.rt:96:1
+-- src/lib.rt:97:1
 scope-s-returns-3 : (t : ℕ) → scope-s-lts.Need-returns-3 (scope-s-calls t) (scope-s-at t) scope-s.Post
-scope-s-returns-3 t c = (cc (let-scope (c .before .before .before .before .before .before .before .before .before .before .before .before .before .args .p .now) (c .before .before .before .before .before .before .before .before .before .before .before .before .before .args .i) (c .before .before .before .before .before .before .before .before .before .before .before .before .before .pre .1 .0 .node) (c .before .before .before .before .before .before .before .before .before .before .before .before .before .args .marks .now) (offersAt (c .before .before .before .before .before .before .before .before .before .before .before .before .before .args .p .now) (c .before .before .before .before .before .before .before .before .before .before .before .before .before .args .group)) (sym (c .before .before .before .before .before .before .before .before .before .before .fields .ensures .kind-is) ∙ c .before .before .before .before .before .before .before .before .before .match .keys3)), c .before .before .before .inside-s2 .ensures .1 ∙ c .before .before .before .before .before .before .before .inside-s .ensures .1)
+scope-s-returns-3 t c = (cc (let-scope (c .before .before .before .before .before .before .before .before .args .p .now .now) (c .before .before .before .before .before .before .before .before .args .i) (c .before .before .before .before .before .before .before .before .pre .1 .0) (c .before .before .before .before .before .before .before .before .args .marks .now) (offersAt (c .before .before .before .before .before .before .before .before .args .p .now .now) (c .before .before .before .before .before .before .before .before .args .group)) (sym (c .before .before .before .before .before .before .fields .ensures .kind-is) ∙ c .before .before .before .before .before .match .keys3)), c .before .inside-s2 .ensures .1 ∙ c .before .before .before .inside-s .ensures .1)
 
--- src/lib.rt:96:1
-scope-s-same-length-4 : (t : ℕ) → scope-s-lts.Need-same-length-4 (scope-s-calls t) (scope-s-at t) scope-s.Post
-scope-s-same-length-4 t c = c .before .before .before .before .inside-s3 .kept .1 .0 ∙ c .before .before .before .before .before .before .before .before .scope-s3 .kept .1 .0 ∙ c .before .before .before .before .before .before .before .before .before .before .before .before .scope-s2 .kept .1 .0
-
--- src/lib.rt:96:1
+-- src/lib.rt:97:1
 scope-s-returns-4 : (t : ℕ) → scope-s-lts.Need-returns-4 (scope-s-calls t) (scope-s-at t) scope-s.Post
-scope-s-returns-4 t c = (cc (switch-scope (c .before .before .before .before .before .before .before .before .before .before .before .before .before .before .before .before .before .before .args .p .now) (c .before .before .before .before .before .before .before .before .before .before .before .before .before .before .before .before .before .before .args .i) (c .before .before .before .before .before .before .before .before .before .before .before .before .before .before .before .before .before .before .pre .1 .0 .node) (c .before .before .before .before .before .before .before .before .before .before .before .before .before .before .before .before .before .before .args .marks .now) (offersAt (c .before .before .before .before .before .before .before .before .before .before .before .before .before .before .before .before .before .before .args .p .now) (c .before .before .before .before .before .before .before .before .before .before .before .before .before .before .before .before .before .before .args .group)) (sym (c .before .before .before .before .before .before .before .before .before .before .before .before .before .before .before .fields .ensures .kind-is) ∙ c .before .before .before .before .before .before .before .before .before .before .before .before .before .before .match .keys4)), c .before .before .before .before .inside-s3 .ensures .1 ∙ c .before .before .before .before .before .before .before .before .scope-s3 .ensures .1 ∙ c .before .before .before .before .before .before .before .before .before .before .before .before .scope-s2 .ensures .1)
+scope-s-returns-4 t c = (cc (switch-scope (c .before .before .before .before .before .before .before .before .before .before .before .args .p .now .now) (c .before .before .before .before .before .before .before .before .before .before .before .args .i) (c .before .before .before .before .before .before .before .before .before .before .before .pre .1 .0) (c .before .before .before .before .before .before .before .before .before .before .before .args .marks .now) (offersAt (c .before .before .before .before .before .before .before .before .before .before .before .args .p .now .now) (c .before .before .before .before .before .before .before .before .before .before .before .args .group)) (sym (c .before .before .before .before .before .before .before .before .before .fields .ensures .kind-is) ∙ c .before .before .before .before .before .before .before .before .match .keys4)), c .before .before .inside-s3 .ensures .1 ∙ c .before .before .before .before .scope-s3 .ensures .1 ∙ c .before .before .before .before .before .before .scope-s2 .ensures .1)
 
--- src/lib.rt:96:1
-scope-s-same-length-5 : (t : ℕ) → scope-s-lts.Need-same-length-5 (scope-s-calls t) (scope-s-at t) scope-s.Post
-scope-s-same-length-5 t c = c .before .before .before .scope-b .kept .1 .0 ∙ c .before .before .before .before .before .before .before .scope-s4 .kept .1 .0
-
--- src/lib.rt:96:1
+-- src/lib.rt:97:1
 scope-s-returns-5 : (t : ℕ) → scope-s-lts.Need-returns-5 (scope-s-calls t) (scope-s-at t) scope-s.Post
-scope-s-returns-5 t c = (cc (group-scope (c .before .before .before .before .before .before .before .before .before .before .before .before .before .args .p .now) (c .before .before .before .before .before .before .before .before .before .before .before .before .before .args .i) (c .before .before .before .before .before .before .before .before .before .before .before .before .before .pre .1 .0 .node) (c .before .before .before .before .before .before .before .before .before .before .before .before .before .args .marks .now) (offersAt (c .before .before .before .before .before .before .before .before .before .before .before .before .before .args .p .now) (c .before .before .before .before .before .before .before .before .before .before .before .before .before .args .group)) (sym (c .before .before .before .before .before .before .before .before .before .before .fields .ensures .kind-is) ∙ c .before .before .before .before .before .before .before .before .before .match .keys5)), c .before .before .before .scope-b .ensures .1 ∙ c .before .before .before .before .before .before .before .scope-s4 .ensures .1)
+scope-s-returns-5 t c = (cc (group-scope (c .before .before .before .before .before .before .before .before .args .p .now .now) (c .before .before .before .before .before .before .before .before .args .i) (c .before .before .before .before .before .before .before .before .pre .1 .0) (c .before .before .before .before .before .before .before .before .args .marks .now) (offersAt (c .before .before .before .before .before .before .before .before .args .p .now .now) (c .before .before .before .before .before .before .before .before .args .group)) (sym (c .before .before .before .before .before .before .fields .ensures .kind-is) ∙ c .before .before .before .before .before .match .keys5)), c .before .scope-b .ensures .1 ∙ c .before .before .before .scope-s4 .ensures .1)
 
--- src/lib.rt:96:1
-scope-s-same-length-6 : (t : ℕ) → scope-s-lts.Need-same-length-6 (scope-s-calls t) (scope-s-at t) scope-s.Post
-scope-s-same-length-6 t c = c .before .before .before .scope-c .kept .1 .0 ∙ c .before .before .before .before .before .before .before .scope-s5 .kept .1 .0
-
--- src/lib.rt:96:1
+-- src/lib.rt:97:1
 scope-s-returns-6 : (t : ℕ) → scope-s-lts.Need-returns-6 (scope-s-calls t) (scope-s-at t) scope-s.Post
-scope-s-returns-6 t c = (cc (until-scope (c .before .before .before .before .before .before .before .before .before .before .before .before .before .args .p .now) (c .before .before .before .before .before .before .before .before .before .before .before .before .before .args .i) (c .before .before .before .before .before .before .before .before .before .before .before .before .before .pre .1 .0 .node) (c .before .before .before .before .before .before .before .before .before .before .before .before .before .args .marks .now) (offersAt (c .before .before .before .before .before .before .before .before .before .before .before .before .before .args .p .now) (c .before .before .before .before .before .before .before .before .before .before .before .before .before .args .group)) (sym (c .before .before .before .before .before .before .before .before .before .before .fields .ensures .kind-is) ∙ c .before .before .before .before .before .before .before .before .before .match .keys6)), c .before .before .before .scope-c .ensures .1 ∙ c .before .before .before .before .before .before .before .scope-s5 .ensures .1)
+scope-s-returns-6 t c = (cc (until-scope (c .before .before .before .before .before .before .before .before .args .p .now .now) (c .before .before .before .before .before .before .before .before .args .i) (c .before .before .before .before .before .before .before .before .pre .1 .0) (c .before .before .before .before .before .before .before .before .args .marks .now) (offersAt (c .before .before .before .before .before .before .before .before .args .p .now .now) (c .before .before .before .before .before .before .before .before .args .group)) (sym (c .before .before .before .before .before .before .fields .ensures .kind-is) ∙ c .before .before .before .before .before .match .keys6)), c .before .scope-c .ensures .1 ∙ c .before .before .before .scope-s5 .ensures .1)
 
--- src/lib.rt:96:1
+-- src/lib.rt:97:1
 scope-s-returns-7 : (t : ℕ) → scope-s-lts.Need-returns-7 (scope-s-calls t) (scope-s-at t) scope-s.Post
-scope-s-returns-7 t c = (cc (leaf-scope (c .before .before .before .before .args .p .now) (c .before .before .before .before .args .i) (c .before .before .before .before .pre .1 .0 .node) (c .before .before .before .before .args .marks .now) (offersAt (c .before .before .before .before .args .p .now) (c .before .before .before .before .args .group)) (c .before .fields .ensures .kind-is) (c .match .rest)), refl)
+scope-s-returns-7 t c = (cc (leaf-scope (c .before .before .before .args .p .now .now) (c .before .before .before .args .i) (c .before .before .before .pre .1 .0) (c .before .before .before .args .marks .now) (offersAt (c .before .before .before .args .p .now .now) (c .before .before .before .args .group)) (c .before .fields .ensures .kind-is) (c .match .rest)), refl)
 
 pub +inside-s+scope-b+scope-c+scope-s-spec : {M : Type 1} → statement M
 +inside-s+scope-b+scope-c+scope-s-spec =
     close μ-inside-s μ-scope-b μ-scope-c μ-scope-s (λ t. inside-s-lts.spec (inside-s-calls t) (inside-s-at t)
     inside-s.Post
-    (inside-s-slice-read-old t)
-    (inside-s-slice-write-marks t)
+    (inside-s-element-copy-out-old t)
+    (inside-s-element-write-marks t)
     (inside-s-scope-s-requires t)
-    (inside-s-slice-write-marks-2 t)
-    (inside-s-same-length t)
+    (inside-s-element-write-marks-2 t)
     (inside-s-returns t))
     (λ t. scope-b-lts.spec (scope-b-calls t) (scope-b-at t)
     scope-b.Post
     (scope-b-fields-requires t)
     (scope-b-inside-s-requires t)
     (scope-b-sooner-requires t)
-    (scope-b-same-length t)
     (scope-b-returns t)
     (scope-b-scope-b-requires t)
     (scope-b-sooner-requires-2 t)
-    (scope-b-same-length-2 t)
     (scope-b-returns-2 t))
     (λ t. scope-c-lts.spec (scope-c-calls t) (scope-c-at t)
     scope-c.Post
@@ -349,12 +300,10 @@ pub +inside-s+scope-b+scope-c+scope-s-spec : {M : Type 1} → statement M
     (scope-c-scope-s-requires t)
     (scope-c-sooner-requires t)
     (scope-c-sooner-requires-2 t)
-    (scope-c-same-length t)
     (scope-c-returns t)
     (scope-c-scope-c-requires t)
     (scope-c-sooner-requires-3 t)
     (scope-c-sooner-requires-4 t)
-    (scope-c-same-length-2 t)
     (scope-c-returns-2 t))
     λ t. scope-s-lts.spec (scope-s-calls t) (scope-s-at t)
     scope-s.Post
@@ -375,16 +324,10 @@ pub +inside-s+scope-b+scope-c+scope-s-spec : {M : Type 1} → statement M
     (scope-s-scope-s-requires-5 t)
     (scope-s-scope-c-requires t)
     (scope-s-sooner-requires-5 t)
-    (scope-s-same-length t)
     (scope-s-returns t)
-    (scope-s-same-length-2 t)
     (scope-s-returns-2 t)
-    (scope-s-same-length-3 t)
     (scope-s-returns-3 t)
-    (scope-s-same-length-4 t)
     (scope-s-returns-4 t)
-    (scope-s-same-length-5 t)
     (scope-s-returns-5 t)
-    (scope-s-same-length-6 t)
     (scope-s-returns-6 t)
     (scope-s-returns-7 t)

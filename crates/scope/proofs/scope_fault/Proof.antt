@@ -1,4 +1,5 @@
-use Rattle.scope.proofs.RootScope.{root-starts, root-scope}
+use Rattle.scope.proofs.RootScope.{root-scope}
+use Rattle.scope.proofs.SignalScope.{no-offer}
 use mathlib.Core.Path.{_≡_, _∙_}
 use borrow.Author.Needs.{needs}
 use Rattle.scope.proofs.scope_fault.Statement.{statement}
@@ -7,22 +8,17 @@ use Rattle.scope.proofs.scope_fault.Reads as reads
 use Rattle.scope.proofs.scope_fault.Lts as lts
 use Rattle.scope.proofs.scope_s.Reads as scope-s-reads
 
--- src/lib.rt:175:16
-slice-aggregate-scope-s : tie.Need-slice-aggregate-scope-s
-slice-aggregate-scope-s c = search needs
-
--- src/lib.rt:175:28
+-- src/lib.rt:176:29
 sub-scope-s : tie.Need-sub-scope-s
 sub-scope-s c = search needs
 
--- src/lib.rt:175:5
+-- src/lib.rt:176:5
 scope-s-requires : tie.Need-scope-s-requires
-scope-s-requires c κs = root-starts _ _ (c .before .before .pre .2)
+scope-s-requires c κs = (c .before .before .before .pre .2, no-offer _)
 
--- src/lib.rt:170:1
+-- src/lib.rt:171:1
 returns : tie.Need-returns
-returns c = c .before .scope-s .ensures .0 ∙ root-scope _ _ (c .before .before .before .before .pre .0)
+returns c = c .scope-s .ensures .0 ∙ root-scope _ _ (c .before .before .before .before .pre .0)
 
 pub scope-fault-spec : {M : Type 1} → statement M
-scope-fault-spec =
-    tie.close (tie.spec slice-aggregate-scope-s sub-scope-s scope-s-requires returns)
+scope-fault-spec = tie.close (tie.spec sub-scope-s scope-s-requires returns)

@@ -135,11 +135,11 @@ fn sum(event: Bounds, rest: Bounds) -> Bounds
 }
 
 // Expression i.
-pub fn bound_e(p: &[u8], i: usize) -> u32
-    requires { ⌜ Small isExpression nodesE (now p) i ⌝ }
-    ensures { λ r. ⌜ (r ≡ boundE (exprAt (now (p .entry)) i)) × (r ≤ 1008) ⌝ }
+pub fn bound_e(p: &&[u8], i: usize) -> u32
+    requires { ⌜ Small isExpression nodesE (now (now p)) i ⌝ }
+    ensures { λ r. ⌜ (r ≡ boundE (exprAt (now (now (p .entry))) i)) × (r ≤ 1008) ⌝ }
 {
-    let n = fields(p, i);
+    let n = fields(*p, i);
     let k = n.kind;
     match k {
         16 => 1,
@@ -167,11 +167,11 @@ pub fn bound_e(p: &[u8], i: usize) -> u32
 }
 
 // Signal i.
-pub fn bound_s(p: &[u8], i: usize) -> Bounds
-    requires { ⌜ Small isSignal nodesS (now p) i ⌝ }
-    ensures { λ r. ⌜ BoundsOf (boundS (signalAt (now (p .entry)) i)) (boundU (signalAt (now (p .entry)) i)) r ⌝ }
+pub fn bound_s(p: &&[u8], i: usize) -> Bounds
+    requires { ⌜ Small isSignal nodesS (now (now p)) i ⌝ }
+    ensures { λ r. ⌜ BoundsOf (boundS (signalAt (now (now (p .entry))) i)) (boundU (signalAt (now (now (p .entry))) i)) r ⌝ }
 {
-    let n = fields(p, i);
+    let n = fields(*p, i);
     let k = n.kind;
     match k {
         1 => Bounds { eval: 1, update: 1 },
@@ -203,11 +203,11 @@ pub fn bound_s(p: &[u8], i: usize) -> Bounds
 }
 
 // The list of branches at node j: the largest of both.
-pub fn bound_b(p: &[u8], j: usize) -> Bounds
-    requires { ⌜ Small isBranch nodesB (now p) j ⌝ }
-    ensures { λ r. ⌜ BoundsOf (boundSB (branchesAt (now (p .entry)) j)) (boundUB (branchesAt (now (p .entry)) j)) r ⌝ }
+pub fn bound_b(p: &&[u8], j: usize) -> Bounds
+    requires { ⌜ Small isBranch nodesB (now (now p)) j ⌝ }
+    ensures { λ r. ⌜ BoundsOf (boundSB (branchesAt (now (now (p .entry))) j)) (boundUB (branchesAt (now (now (p .entry))) j)) r ⌝ }
 {
-    let n = fields(p, j);
+    let n = fields(*p, j);
     let body = bound_s(p, n.a);
     if n.b == 65535 {
         return largest(body, Bounds { eval: 0, update: 0 });
@@ -217,11 +217,11 @@ pub fn bound_b(p: &[u8], j: usize) -> Bounds
 }
 
 // The list of cases at node j: the sum of both.
-pub fn bound_c(p: &[u8], j: usize) -> Bounds
-    requires { ⌜ Small isCase nodesC (now p) j ⌝ }
-    ensures { λ r. ⌜ BoundsOf (boundSC (casesAt (now (p .entry)) j)) (boundUC (casesAt (now (p .entry)) j)) r ⌝ }
+pub fn bound_c(p: &&[u8], j: usize) -> Bounds
+    requires { ⌜ Small isCase nodesC (now (now p)) j ⌝ }
+    ensures { λ r. ⌜ BoundsOf (boundSC (casesAt (now (now (p .entry))) j)) (boundUC (casesAt (now (now (p .entry))) j)) r ⌝ }
 {
-    let n = fields(p, j);
+    let n = fields(*p, j);
     let event = bound_s(p, n.a);
     if n.b == 65535 {
         return sum(event, Bounds { eval: 0, update: 0 });
@@ -235,6 +235,6 @@ pub fn bound_of(p: &[u8], count: usize) -> u32
     requires { ⌜ (count ≡ nodes (now p)) × (0 < count) × NodeOf isSignal (now p) (count - 1) × (sizeS (root (now p)) ≤ 1008) ⌝ }
     ensures { λ r. ⌜ r ≡ bound (now (p .entry)) ⌝ }
 {
-    let b = bound_s(p, count - 1);
+    let b = bound_s(&p, count - 1);
     b.eval + b.update
 }

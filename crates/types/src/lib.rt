@@ -212,15 +212,15 @@ fn grouping(i: usize, body: Typed, brs: Bodies) -> Typed
     }
 }
 
-pub fn type_e(p: &[u8], i: usize) -> Typed
-    requires { ⌜ NodeOf isExpression (now p) i ⌝ }
-    ensures { λ r. ⌜ (r .ty ≡ typeE (exprAt (now (p .entry)) i)) × (r .place ≡ typesE (exprAt (now (p .entry)) i)) ⌝ }
+pub fn type_e(p: &&[u8], i: usize) -> Typed
+    requires { ⌜ NodeOf isExpression (now (now p)) i ⌝ }
+    ensures { λ r. ⌜ (r .ty ≡ typeE (exprAt (now (now (p .entry))) i)) × (r .place ≡ typesE (exprAt (now (now (p .entry))) i)) ⌝ }
 {
-    let n = fields(p, i);
+    let n = fields(*p, i);
     let k = n.kind;
     match k {
         16 => Typed {
-            ty: declared(p, n.a),
+            ty: declared(*p, n.a),
             place: Place::Nowhere,
         },
         17 => Typed {
@@ -249,11 +249,11 @@ pub fn type_e(p: &[u8], i: usize) -> Typed
     }
 }
 
-pub fn type_s(p: &[u8], i: usize) -> Typed
-    requires { ⌜ NodeOf isSignal (now p) i ⌝ }
-    ensures { λ r. ⌜ (r .ty ≡ typeS (signalAt (now (p .entry)) i)) × (r .place ≡ typesS (signalAt (now (p .entry)) i)) ⌝ }
+pub fn type_s(p: &&[u8], i: usize) -> Typed
+    requires { ⌜ NodeOf isSignal (now (now p)) i ⌝ }
+    ensures { λ r. ⌜ (r .ty ≡ typeS (signalAt (now (now (p .entry))) i)) × (r .place ≡ typesS (signalAt (now (now (p .entry))) i)) ⌝ }
 {
-    let n = fields(p, i);
+    let n = fields(*p, i);
     let k = n.kind;
     match k {
         1 => Typed {
@@ -295,11 +295,11 @@ pub fn type_s(p: &[u8], i: usize) -> Typed
 }
 
 // The list of branches at node j, whose bodies are to have type t.
-pub fn type_b(p: &[u8], j: usize, t: u8) -> Bodies
-    requires { ⌜ NodeOf isBranch (now p) j ⌝ }
-    ensures { λ r. ⌜ (r .same ≡ bodiesHave t (branchesAt (now (p .entry)) j)) × (r .place ≡ typesB (branchesAt (now (p .entry)) j)) ⌝ }
+pub fn type_b(p: &&[u8], j: usize, t: u8) -> Bodies
+    requires { ⌜ NodeOf isBranch (now (now p)) j ⌝ }
+    ensures { λ r. ⌜ (r .same ≡ bodiesHave t (branchesAt (now (now (p .entry))) j)) × (r .place ≡ typesB (branchesAt (now (now (p .entry))) j)) ⌝ }
 {
-    let n = fields(p, j);
+    let n = fields(*p, j);
     let body = type_s(p, n.a);
     let body_at = body.place;
     if n.b == 65535 {
@@ -317,13 +317,13 @@ pub fn type_b(p: &[u8], j: usize, t: u8) -> Bodies
 }
 
 // The list of cases at node j.
-pub fn type_c(p: &[u8], j: usize) -> Place
-    requires { ⌜ NodeOf isCase (now p) j ⌝ }
-    ensures { λ r. ⌜ r ≡ typesC (casesAt (now (p .entry)) j) ⌝ }
+pub fn type_c(p: &&[u8], j: usize) -> Place
+    requires { ⌜ NodeOf isCase (now (now p)) j ⌝ }
+    ensures { λ r. ⌜ r ≡ typesC (casesAt (now (now (p .entry))) j) ⌝ }
 {
-    let n = fields(p, j);
+    let n = fields(*p, j);
     let event = type_s(p, n.a);
-    let right = is_maybe(event.ty, declared(p, n.c));
+    let right = is_maybe(event.ty, declared(*p, n.c));
     let event_at = event.place;
     if n.b == 65535 {
         return under(right, j, event_at, Place::Nowhere);
@@ -337,5 +337,5 @@ pub fn type_root(p: &[u8], count: usize) -> Typed
     requires { ⌜ (count ≡ nodes (now p)) × (0 < count) × NodeOf isSignal (now p) (count - 1) ⌝ }
     ensures { λ r. ⌜ (r .ty ≡ typeS (root (now (p .entry)))) × (r .place ≡ typeFault (now (p .entry))) ⌝ }
 {
-    type_s(p, count - 1)
+    type_s(&p, count - 1)
 }

@@ -98,7 +98,7 @@ pub fn start(program: &[u8], state: &mut [u8]) -> Started
 // Codes 9-11.
 fn lent_verdict(
     p: &[u8],
-    index: &[u16],
+    index: &[u16; 1008],
     st: &[u8],
     recs: &[u8],
     out: &[u8],

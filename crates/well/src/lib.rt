@@ -67,28 +67,28 @@ fn content_fits(t: u8, middle: usize, m: u64) -> bool
 }
 
 // All cells of the signal at node i hold their start content.
-fn rests_s(p: &[u8], index: &[u16], st: &[u8], i: usize) -> bool
-    requires { ⌜ Stated isSignal (now p) (now index) (length (now st)) i ⌝ }
-    ensures { λ r. ⌜ r ≡ restsS (now (st .entry)) (signalAt (now (p .entry)) i) ⌝ }
+fn rests_s(p: &&[u8], index: &[u16; 1008], st: &&[u8], i: usize) -> bool
+    requires { ⌜ Stated isSignal (now (now p)) (now index) (length (now (now st))) i ⌝ }
+    ensures { λ r. ⌜ r ≡ restsS (now (now (st .entry))) (signalAt (now (now (p .entry))) i) ⌝ }
 {
-    let n = fields(p, i);
+    let n = fields(*p, i);
     let k = n.kind;
     match k {
         4 => {
-            let m = own_cell(index, st, i);
+            let m = own_cell(index, *st, i);
             let s = rests_s(p, index, st, n.a);
             both(m == first_value(n), s)
         }
         5 => both(rests_s(p, index, st, n.a), rests_s(p, index, st, n.b)),
         6 => {
-            let m = own_cell(index, st, i);
+            let m = own_cell(index, *st, i);
             let x = rests_s(p, index, st, n.a);
             let e = rests_s(p, index, st, n.b);
             let y = rests_s(p, index, st, n.c);
             both(both(both(m == 0, x), e), y)
         }
         7 => {
-            let m = own_cell(index, st, i);
+            let m = own_cell(index, *st, i);
             let body = rests_s(p, index, st, n.a);
             let brs = rests_b(p, index, st, n.b);
             both(both(m == 0, body), brs)
@@ -99,11 +99,11 @@ fn rests_s(p: &[u8], index: &[u16], st: &[u8], i: usize) -> bool
 }
 
 // All cells of the list of branches at node j hold their start content.
-fn rests_b(p: &[u8], index: &[u16], st: &[u8], j: usize) -> bool
-    requires { ⌜ Stated isBranch (now p) (now index) (length (now st)) j ⌝ }
-    ensures { λ r. ⌜ r ≡ restsB (now (st .entry)) (branchesAt (now (p .entry)) j) ⌝ }
+fn rests_b(p: &&[u8], index: &[u16; 1008], st: &&[u8], j: usize) -> bool
+    requires { ⌜ Stated isBranch (now (now p)) (now index) (length (now (now st))) j ⌝ }
+    ensures { λ r. ⌜ r ≡ restsB (now (now (st .entry))) (branchesAt (now (now (p .entry))) j) ⌝ }
 {
-    let n = fields(p, j);
+    let n = fields(*p, j);
     let body = rests_s(p, index, st, n.a);
     if n.b == 65535 {
         return both(body, true);
@@ -113,11 +113,11 @@ fn rests_b(p: &[u8], index: &[u16], st: &[u8], j: usize) -> bool
 }
 
 // All cells of the list of cases at node j hold their start content.
-fn rests_c(p: &[u8], index: &[u16], st: &[u8], j: usize) -> bool
-    requires { ⌜ Stated isCase (now p) (now index) (length (now st)) j ⌝ }
-    ensures { λ r. ⌜ r ≡ restsC (now (st .entry)) (casesAt (now (p .entry)) j) ⌝ }
+fn rests_c(p: &&[u8], index: &[u16; 1008], st: &&[u8], j: usize) -> bool
+    requires { ⌜ Stated isCase (now (now p)) (now index) (length (now (now st))) j ⌝ }
+    ensures { λ r. ⌜ r ≡ restsC (now (now (st .entry))) (casesAt (now (now (p .entry))) j) ⌝ }
 {
-    let n = fields(p, j);
+    let n = fields(*p, j);
     let event = rests_s(p, index, st, n.a);
     if n.b == 65535 {
         return both(event, true);
@@ -127,21 +127,21 @@ fn rests_c(p: &[u8], index: &[u16], st: &[u8], j: usize) -> bool
 }
 
 // The cells of the signal at node i are valid, and start where they are not current.
-fn well_s(p: &[u8], index: &[u16], st: &[u8], i: usize) -> bool
-    requires { ⌜ Stated isSignal (now p) (now index) (length (now st)) i ⌝ }
-    ensures { λ r. ⌜ r ≡ wellS (now (st .entry)) (signalAt (now (p .entry)) i) ⌝ }
+fn well_s(p: &&[u8], index: &[u16; 1008], st: &&[u8], i: usize) -> bool
+    requires { ⌜ Stated isSignal (now (now p)) (now index) (length (now (now st))) i ⌝ }
+    ensures { λ r. ⌜ r ≡ wellS (now (now (st .entry))) (signalAt (now (now (p .entry))) i) ⌝ }
 {
-    let n = fields(p, i);
+    let n = fields(*p, i);
     let k = n.kind;
     match k {
         4 => {
-            let m = own_cell(index, st, i);
+            let m = own_cell(index, *st, i);
             let s = well_s(p, index, st, n.a);
             both(content_fits(n.ty, 0, m), s)
         }
         5 => both(well_s(p, index, st, n.a), well_s(p, index, st, n.b)),
         6 => {
-            let m = own_cell(index, st, i);
+            let m = own_cell(index, *st, i);
             let e = well_s(p, index, st, n.b);
             if m == 0 {
                 let x = well_s(p, index, st, n.a);
@@ -153,7 +153,7 @@ fn well_s(p: &[u8], index: &[u16], st: &[u8], i: usize) -> bool
             both(e, both(both(content_fits(n.ty, 0, m), x), y))
         }
         7 => {
-            let m = own_cell(index, st, i);
+            let m = own_cell(index, *st, i);
             if m == 0 {
                 let body = well_s(p, index, st, n.a);
                 let brs = rests_b(p, index, st, n.b);
@@ -169,11 +169,11 @@ fn well_s(p: &[u8], index: &[u16], st: &[u8], i: usize) -> bool
 }
 
 // One branch of the list at node j is the one that the content m of its group's cell names.
-fn well_b(p: &[u8], index: &[u16], st: &[u8], j: usize, m: u64) -> bool
-    requires { ⌜ Stated isBranch (now p) (now index) (length (now st)) j ⌝ }
-    ensures { λ r. ⌜ r ≡ wellB (now (st .entry)) m (branchesAt (now (p .entry)) j) ⌝ }
+fn well_b(p: &&[u8], index: &[u16; 1008], st: &&[u8], j: usize, m: u64) -> bool
+    requires { ⌜ Stated isBranch (now (now p)) (now index) (length (now (now st))) j ⌝ }
+    ensures { λ r. ⌜ r ≡ wellB (now (now (st .entry))) m (branchesAt (now (now (p .entry))) j) ⌝ }
 {
-    let n = fields(p, j);
+    let n = fields(*p, j);
     if j == middle_in(m) {
         let body = well_s(p, index, st, n.a);
         let here = both(content_fits(n.ty, j, m), body);
@@ -192,11 +192,11 @@ fn well_b(p: &[u8], index: &[u16], st: &[u8], j: usize, m: u64) -> bool
 }
 
 // The cells of the list of cases at node j are valid, and start where they are not current.
-fn well_c(p: &[u8], index: &[u16], st: &[u8], j: usize) -> bool
-    requires { ⌜ Stated isCase (now p) (now index) (length (now st)) j ⌝ }
-    ensures { λ r. ⌜ r ≡ wellC (now (st .entry)) (casesAt (now (p .entry)) j) ⌝ }
+fn well_c(p: &&[u8], index: &[u16; 1008], st: &&[u8], j: usize) -> bool
+    requires { ⌜ Stated isCase (now (now p)) (now index) (length (now (now st))) j ⌝ }
+    ensures { λ r. ⌜ r ≡ wellC (now (now (st .entry))) (casesAt (now (now (p .entry))) j) ⌝ }
 {
-    let n = fields(p, j);
+    let n = fields(*p, j);
     let event = well_s(p, index, st, n.a);
     if n.b == 65535 {
         return both(event, true);
@@ -206,7 +206,7 @@ fn well_c(p: &[u8], index: &[u16], st: &[u8], j: usize) -> bool
 }
 
 // A state of any length is well-formed, for a program of so many nodes and cells.
-pub fn well_formed(p: &[u8], index: &[u16], st: &[u8], count: usize, cells: usize) -> bool
+pub fn well_formed(p: &[u8], index: &[u16; 1008], st: &[u8], count: usize, cells: usize) -> bool
     requires { ⌜ NodeOf isSignal (now p) (nodes (now p) - 1) × Indexed (now p) (now index) × (count ≡ nodes (now p)) × (cells ≡ cellsOf (now p)) ⌝ }
     ensures { λ r. ⌜ r ≡ wellFormed (now (p .entry)) (now (st .entry)) ⌝ }
 {
@@ -215,6 +215,6 @@ pub fn well_formed(p: &[u8], index: &[u16], st: &[u8], count: usize, cells: usiz
     }
     let time = last_time(st);
     let timed = either(time == 4294967295, time <= 2147483647);
-    let well = well_s(p, index, st, count - 1);
+    let well = well_s(&p, index, &st, count - 1);
     both(timed, well)
 }

@@ -31,217 +31,217 @@ use Rattle.types.proofs.under.Reads as under-reads
 use Rattle.types.proofs.+type_b+type_c+type_s.{statement}
 use Rattle.types.proofs.+type_b+type_c+type_s.Tie.{close}
 
-abbrev μ-type-b : Measures 1 type-b-kinds.ps ℕ
+abbrev μ-type-b : Measures 2 type-b-kinds.ps ℕ
 μ-type-b κs a = a .1 .0
 
-abbrev μ-type-c : Measures 1 type-c-kinds.ps ℕ
+abbrev μ-type-c : Measures 2 type-c-kinds.ps ℕ
 μ-type-c κs a = a .1 .0
 
-abbrev μ-type-s : Measures 1 type-s-kinds.ps ℕ
+abbrev μ-type-s : Measures 2 type-s-kinds.ps ℕ
 μ-type-s κs a = a .1 .0
 
-abbrev type-b-at : ℕ → In 1 type-b-kinds.ps
-type-b-at t = and 1 type-b-kinds.ps (is 1 type-b-kinds.ps μ-type-b t) type-b.Pre
+abbrev type-b-at : ℕ → In 2 type-b-kinds.ps
+type-b-at t = and 2 type-b-kinds.ps (is 2 type-b-kinds.ps μ-type-b t) type-b.Pre
 
-abbrev type-b-below : ℕ → In 1 type-b-kinds.ps
-type-b-below t = and 1 type-b-kinds.ps (falls 1 type-b-kinds.ps _<_ μ-type-b t) type-b.Pre
+abbrev type-b-below : ℕ → In 2 type-b-kinds.ps
+type-b-below t = and 2 type-b-kinds.ps (falls 2 type-b-kinds.ps _<_ μ-type-b t) type-b.Pre
 
-abbrev type-c-at : ℕ → In 1 type-c-kinds.ps
-type-c-at t = and 1 type-c-kinds.ps (is 1 type-c-kinds.ps μ-type-c t) type-c.Pre
+abbrev type-c-at : ℕ → In 2 type-c-kinds.ps
+type-c-at t = and 2 type-c-kinds.ps (is 2 type-c-kinds.ps μ-type-c t) type-c.Pre
 
-abbrev type-c-below : ℕ → In 1 type-c-kinds.ps
-type-c-below t = and 1 type-c-kinds.ps (falls 1 type-c-kinds.ps _<_ μ-type-c t) type-c.Pre
+abbrev type-c-below : ℕ → In 2 type-c-kinds.ps
+type-c-below t = and 2 type-c-kinds.ps (falls 2 type-c-kinds.ps _<_ μ-type-c t) type-c.Pre
 
-abbrev type-s-at : ℕ → In 1 type-s-kinds.ps
-type-s-at t = and 1 type-s-kinds.ps (is 1 type-s-kinds.ps μ-type-s t) type-s.Pre
+abbrev type-s-at : ℕ → In 2 type-s-kinds.ps
+type-s-at t = and 2 type-s-kinds.ps (is 2 type-s-kinds.ps μ-type-s t) type-s.Pre
 
-abbrev type-s-below : ℕ → In 1 type-s-kinds.ps
-type-s-below t = and 1 type-s-kinds.ps (falls 1 type-s-kinds.ps _<_ μ-type-s t) type-s.Pre
+abbrev type-s-below : ℕ → In 2 type-s-kinds.ps
+type-s-below t = and 2 type-s-kinds.ps (falls 2 type-s-kinds.ps _<_ μ-type-s t) type-s.Pre
 
 abbrev type-b-calls : ℕ → type-b-lts.Claims
 type-b-calls t = (fields-reads.Asked, fields-reads.Learnt, type-s-below t, type-s.Post, both-reads.Asked, both-reads.Learnt, sooner-reads.Asked, sooner-reads.Learnt, type-b-below t, type-b.Post)
 
--- src/lib.rt:284:9
-type-b-fields-requires : (t : ℕ) → type-b-lts.Need-fields-requires (type-b-calls t) (type-b-at t) type-b.Post
-type-b-fields-requires t c κs = omega (arith, c .before .pre .1 .inside, c .before .pre .1 .shaped .within)
-
--- src/lib.rt:285:9
-type-b-type-s-requires : (t : ℕ) → type-b-lts.Need-type-s-requires (type-b-calls t) (type-b-at t) type-b.Post
-type-b-type-s-requires t c κs = let k = read (c .fields .ensures .a-is) (branch-kid (c .before .before .args .p .now) (c .before .before .args .j) (c .before .before .pre .1)) in (omega (arith, k .less, c .before .before .pre .0), k .node)
-
--- src/lib.rt:288:31
-type-b-both-requires : (t : ℕ) → type-b-lts.Need-both-requires (type-b-calls t) (type-b-at t) type-b.Post
-type-b-both-requires t c κs = search needs
-
--- src/lib.rt:288:64
-type-b-sooner-requires : (t : ℕ) → type-b-lts.Need-sooner-requires (type-b-calls t) (type-b-at t) type-b.Post
-type-b-sooner-requires t c κs = search needs
-
--- src/lib.rt:288:9
-type-b-returns : (t : ℕ) → type-b-lts.Need-returns (type-b-calls t) (type-b-at t) type-b.Post
-type-b-returns t c = let e = branch-last (c .before .before .before .before .before .before .before .before .args .p .now) (c .before .before .before .before .before .before .before .before .args .j) (c .before .before .before .before .before .before .before .before .pre .1) (c .before .before .before .before .before .before .before .before .args .t) (sym (c .before .before .before .before .before .before .fields .ensures .b-is) ∙ c .before .before .before .if1 .taken) in (cc (e .0), cc (e .1))
-
--- src/lib.rt:290:9
-type-b-type-b-requires : (t : ℕ) → type-b-lts.Need-type-b-requires (type-b-calls t) (type-b-at t) type-b.Post
-type-b-type-b-requires t c κs = let k = read (c .before .before .before .fields .ensures .b-is) (branch-next (c .before .before .before .before .before .args .p .now) (c .before .before .before .before .before .args .j) (c .before .before .before .before .before .pre .1) (λ h. c .if1 .left (c .before .before .before .fields .ensures .b-is ∙ h))) in (omega (arith, k .less, c .before .before .before .before .before .pre .0), k .node)
-
--- src/lib.rt:292:20
-type-b-both-requires-2 : (t : ℕ) → type-b-lts.Need-both-requires-2 (type-b-calls t) (type-b-at t) type-b.Post
-type-b-both-requires-2 t c κs = search needs
-
--- src/lib.rt:292:58
-type-b-sooner-requires-2 : (t : ℕ) → type-b-lts.Need-sooner-requires-2 (type-b-calls t) (type-b-at t) type-b.Post
-type-b-sooner-requires-2 t c κs = search needs
-
--- src/lib.rt:280:1
-type-b-returns-2 : (t : ℕ) → type-b-lts.Need-returns-2 (type-b-calls t) (type-b-at t) type-b.Post
-type-b-returns-2 t c = let e = branch-more (c .before .before .before .before .before .before .before .before .before .args .p .now) (c .before .before .before .before .before .before .before .before .before .args .j) (c .before .before .before .before .before .before .before .before .before .pre .1) (c .before .before .before .before .before .before .before .before .before .args .t) (λ h. c .before .before .before .before .if1 .left (c .before .before .before .before .before .before .before .fields .ensures .b-is ∙ h)) in (cc (e .0), cc (e .1))
-
 abbrev type-c-calls : ℕ → type-c-lts.Claims
 type-c-calls t = (fields-reads.Asked, fields-reads.Learnt, type-s-below t, type-s.Post, declared-reads.Asked, declared-reads.Learnt, is-maybe-reads.Asked, is-maybe-reads.Learnt, under-reads.Asked, under-reads.Learnt, type-c-below t, type-c.Post)
-
--- src/lib.rt:300:9
-type-c-fields-requires : (t : ℕ) → type-c-lts.Need-fields-requires (type-c-calls t) (type-c-at t) type-c.Post
-type-c-fields-requires t c κs = omega (arith, c .before .pre .1 .inside, c .before .pre .1 .shaped .within)
-
--- src/lib.rt:301:9
-type-c-type-s-requires : (t : ℕ) → type-c-lts.Need-type-s-requires (type-c-calls t) (type-c-at t) type-c.Post
-type-c-type-s-requires t c κs = let k = read (c .fields .ensures .a-is) (case-kid (c .before .before .args .p .now) (c .before .before .args .j) (c .before .before .pre .1)) in (omega (arith, k .less, c .before .before .pre .0), k .node)
-
--- src/lib.rt:302:36
-type-c-declared-requires : (t : ℕ) → type-c-lts.Need-declared-requires (type-c-calls t) (type-c-at t) type-c.Post
-type-c-declared-requires t c κs = c .before .before .before .pre .1 .shaped .whole
-
--- src/lib.rt:302:9
-type-c-is-maybe-requires : (t : ℕ) → type-c-lts.Need-is-maybe-requires (type-c-calls t) (type-c-at t) type-c.Post
-type-c-is-maybe-requires t c κs = search needs
-
--- src/lib.rt:305:9
-type-c-under-requires : (t : ℕ) → type-c-lts.Need-under-requires (type-c-calls t) (type-c-at t) type-c.Post
-type-c-under-requires t c κs = omega (arith, c .before .before .before .before .before .before .before .pre .1 .inside, c .before .before .before .before .before .before .before .pre .1 .shaped .small)
-
--- src/lib.rt:305:9
-type-c-returns : (t : ℕ) → type-c-lts.Need-returns (type-c-calls t) (type-c-at t) type-c.Post
-type-c-returns t c = cc (case-last (c .before .before .before .before .before .before .before .before .args .p .now) (c .before .before .before .before .before .before .before .before .args .j) (c .before .before .before .before .before .before .before .before .pre .1) (sym (c .before .before .before .before .before .before .fields .ensures .b-is) ∙ c .before .if1 .taken))
-
--- src/lib.rt:307:9
-type-c-type-c-requires : (t : ℕ) → type-c-lts.Need-type-c-requires (type-c-calls t) (type-c-at t) type-c.Post
-type-c-type-c-requires t c κs = let k = read (c .before .before .before .before .before .fields .ensures .b-is) (case-next (c .before .before .before .before .before .before .before .args .p .now) (c .before .before .before .before .before .before .before .args .j) (c .before .before .before .before .before .before .before .pre .1) (λ h. c .if1 .left (c .before .before .before .before .before .fields .ensures .b-is ∙ h))) in (omega (arith, k .less, c .before .before .before .before .before .before .before .pre .0), k .node)
-
--- src/lib.rt:308:5
-type-c-under-requires-2 : (t : ℕ) → type-c-lts.Need-under-requires-2 (type-c-calls t) (type-c-at t) type-c.Post
-type-c-under-requires-2 t c κs = omega (arith, c .before .before .before .before .before .before .before .before .pre .1 .inside, c .before .before .before .before .before .before .before .before .pre .1 .shaped .small)
-
--- src/lib.rt:296:1
-type-c-returns-2 : (t : ℕ) → type-c-lts.Need-returns-2 (type-c-calls t) (type-c-at t) type-c.Post
-type-c-returns-2 t c = cc (case-more (c .before .before .before .before .before .before .before .before .before .args .p .now) (c .before .before .before .before .before .before .before .before .before .args .j) (c .before .before .before .before .before .before .before .before .before .pre .1) (λ h. c .before .before .if1 .left (c .before .before .before .before .before .before .before .fields .ensures .b-is ∙ h)))
 
 abbrev type-s-calls : ℕ → type-s-lts.Claims
 type-s-calls t = (fields-reads.Asked, fields-reads.Learnt, channel-type-reads.Asked, channel-type-reads.Learnt, type-e-reads.Asked, type-e-reads.Learnt, type-s-below t, type-s.Post, delayed-reads.Asked, delayed-reads.Learnt, letting-reads.Asked, letting-reads.Learnt, switching-reads.Asked, switching-reads.Learnt, type-b-below t, type-b.Post, grouping-reads.Asked, grouping-reads.Learnt, type-c-below t, type-c.Post, sooner-reads.Asked, sooner-reads.Learnt)
 
--- src/lib.rt:247:9
+-- src/lib.rt:302:9
+type-b-fields-requires : (t : ℕ) → type-b-lts.Need-fields-requires (type-b-calls t) (type-b-at t) type-b.Post
+type-b-fields-requires t c κs = omega (arith, c .before .pre .1 .inside, c .before .pre .1 .shaped .within)
+
+-- src/lib.rt:303:9
+type-b-type-s-requires : (t : ℕ) → type-b-lts.Need-type-s-requires (type-b-calls t) (type-b-at t) type-b.Post
+type-b-type-s-requires t c κs = let k = read (c .fields .ensures .a-is) (branch-kid (c .before .before .args .p .now .now) (c .before .before .args .j) (c .before .before .pre .1)) in (omega (arith, k .less, c .before .before .pre .0), k .node)
+
+-- src/lib.rt:307:19
+type-b-both-requires : (t : ℕ) → type-b-lts.Need-both-requires (type-b-calls t) (type-b-at t) type-b.Post
+type-b-both-requires t c κs = search needs
+
+-- src/lib.rt:308:20
+type-b-sooner-requires : (t : ℕ) → type-b-lts.Need-sooner-requires (type-b-calls t) (type-b-at t) type-b.Post
+type-b-sooner-requires t c κs = search needs
+
+-- src/lib.rt:306:9
+type-b-returns : (t : ℕ) → type-b-lts.Need-returns (type-b-calls t) (type-b-at t) type-b.Post
+type-b-returns t c = let e = branch-last (c .before .before .before .before .before .before .before .before .args .p .now .now) (c .before .before .before .before .before .before .before .before .args .j) (c .before .before .before .before .before .before .before .before .pre .1) (c .before .before .before .before .before .before .before .before .args .t) (sym (c .before .before .before .before .before .before .fields .ensures .b-is) ∙ c .before .before .before .if1 .taken) in (cc (e .0), cc (e .1))
+
+-- src/lib.rt:311:9
+type-b-type-b-requires : (t : ℕ) → type-b-lts.Need-type-b-requires (type-b-calls t) (type-b-at t) type-b.Post
+type-b-type-b-requires t c κs = let k = read (c .before .before .before .fields .ensures .b-is) (branch-next (c .before .before .before .before .before .args .p .now .now) (c .before .before .before .before .before .args .j) (c .before .before .before .before .before .pre .1) (λ h. c .if1 .left (c .before .before .before .fields .ensures .b-is ∙ h))) in (omega (arith, k .less, c .before .before .before .before .before .pre .0), k .node)
+
+-- src/lib.rt:314:15
+type-b-both-requires-2 : (t : ℕ) → type-b-lts.Need-both-requires-2 (type-b-calls t) (type-b-at t) type-b.Post
+type-b-both-requires-2 t c κs = search needs
+
+-- src/lib.rt:315:16
+type-b-sooner-requires-2 : (t : ℕ) → type-b-lts.Need-sooner-requires-2 (type-b-calls t) (type-b-at t) type-b.Post
+type-b-sooner-requires-2 t c κs = search needs
+
+-- src/lib.rt:298:1
+type-b-returns-2 : (t : ℕ) → type-b-lts.Need-returns-2 (type-b-calls t) (type-b-at t) type-b.Post
+type-b-returns-2 t c = let e = branch-more (c .before .before .before .before .before .before .before .before .before .args .p .now .now) (c .before .before .before .before .before .before .before .before .before .args .j) (c .before .before .before .before .before .before .before .before .before .pre .1) (c .before .before .before .before .before .before .before .before .before .args .t) (λ h. c .before .before .before .before .if1 .left (c .before .before .before .before .before .before .before .fields .ensures .b-is ∙ h)) in (cc (e .0), cc (e .1))
+
+-- src/lib.rt:324:9
+type-c-fields-requires : (t : ℕ) → type-c-lts.Need-fields-requires (type-c-calls t) (type-c-at t) type-c.Post
+type-c-fields-requires t c κs = omega (arith, c .before .pre .1 .inside, c .before .pre .1 .shaped .within)
+
+-- src/lib.rt:325:9
+type-c-type-s-requires : (t : ℕ) → type-c-lts.Need-type-s-requires (type-c-calls t) (type-c-at t) type-c.Post
+type-c-type-s-requires t c κs = let k = read (c .fields .ensures .a-is) (case-kid (c .before .before .args .p .now .now) (c .before .before .args .j) (c .before .before .pre .1)) in (omega (arith, k .less, c .before .before .pre .0), k .node)
+
+-- src/lib.rt:326:36
+type-c-declared-requires : (t : ℕ) → type-c-lts.Need-declared-requires (type-c-calls t) (type-c-at t) type-c.Post
+type-c-declared-requires t c κs = c .before .before .before .before .pre .1 .shaped .whole
+
+-- src/lib.rt:326:9
+type-c-is-maybe-requires : (t : ℕ) → type-c-lts.Need-is-maybe-requires (type-c-calls t) (type-c-at t) type-c.Post
+type-c-is-maybe-requires t c κs = search needs
+
+-- src/lib.rt:329:9
+type-c-under-requires : (t : ℕ) → type-c-lts.Need-under-requires (type-c-calls t) (type-c-at t) type-c.Post
+type-c-under-requires t c κs = omega (arith, c .before .before .before .before .before .before .before .before .pre .1 .inside, c .before .before .before .before .before .before .before .before .pre .1 .shaped .small)
+
+-- src/lib.rt:329:9
+type-c-returns : (t : ℕ) → type-c-lts.Need-returns (type-c-calls t) (type-c-at t) type-c.Post
+type-c-returns t c = cc (case-last (c .before .before .before .before .before .before .before .before .before .args .p .now .now) (c .before .before .before .before .before .before .before .before .before .args .j) (c .before .before .before .before .before .before .before .before .before .pre .1) (sym (c .before .before .before .before .before .before .before .fields .ensures .b-is) ∙ c .before .if1 .taken))
+
+-- src/lib.rt:331:9
+type-c-type-c-requires : (t : ℕ) → type-c-lts.Need-type-c-requires (type-c-calls t) (type-c-at t) type-c.Post
+type-c-type-c-requires t c κs = let k = read (c .before .before .before .before .before .before .fields .ensures .b-is) (case-next (c .before .before .before .before .before .before .before .before .args .p .now .now) (c .before .before .before .before .before .before .before .before .args .j) (c .before .before .before .before .before .before .before .before .pre .1) (λ h. c .if1 .left (c .before .before .before .before .before .before .fields .ensures .b-is ∙ h))) in (omega (arith, k .less, c .before .before .before .before .before .before .before .before .pre .0), k .node)
+
+-- src/lib.rt:332:5
+type-c-under-requires-2 : (t : ℕ) → type-c-lts.Need-under-requires-2 (type-c-calls t) (type-c-at t) type-c.Post
+type-c-under-requires-2 t c κs = omega (arith, c .before .before .before .before .before .before .before .before .before .pre .1 .inside, c .before .before .before .before .before .before .before .before .before .pre .1 .shaped .small)
+
+-- src/lib.rt:320:1
+type-c-returns-2 : (t : ℕ) → type-c-lts.Need-returns-2 (type-c-calls t) (type-c-at t) type-c.Post
+type-c-returns-2 t c = cc (case-more (c .before .before .before .before .before .before .before .before .before .before .args .p .now .now) (c .before .before .before .before .before .before .before .before .before .before .args .j) (c .before .before .before .before .before .before .before .before .before .before .pre .1) (λ h. c .before .before .if1 .left (c .before .before .before .before .before .before .before .before .fields .ensures .b-is ∙ h)))
+
+-- src/lib.rt:256:9
 type-s-fields-requires : (t : ℕ) → type-s-lts.Need-fields-requires (type-s-calls t) (type-s-at t) type-s.Post
 type-s-fields-requires t c κs = omega (arith, c .before .pre .1 .inside, c .before .pre .1 .shaped .within)
 
--- src/lib.rt:250:26
+-- src/lib.rt:260:17
 type-s-channel-type-requires : (t : ℕ) → type-s-lts.Need-channel-type-requires (type-s-calls t) (type-s-at t) type-s.Post
 type-s-channel-type-requires t c κs = search needs
 
--- src/lib.rt:251:14
+-- src/lib.rt:263:14
 type-s-type-e-requires : (t : ℕ) → type-s-lts.Need-type-e-requires (type-s-calls t) (type-s-at t) type-s.Post
-type-s-type-e-requires t c κs = let k = read (c .before .fields .ensures .a-is) (ext-kid (c .before .before .before .args .p .now) (c .before .before .before .args .i) (c .before .before .before .pre .1) (sym (c .before .fields .ensures .kind-is) ∙ c .match .keys2)) in k .node
+type-s-type-e-requires t c κs = let k = read (c .before .fields .ensures .a-is) (ext-kid (c .before .before .before .args .p .now .now) (c .before .before .before .args .i) (c .before .before .before .pre .1) (sym (c .before .fields .ensures .kind-is) ∙ c .match .keys2)) in k .node
 
--- src/lib.rt:252:31
+-- src/lib.rt:264:31
 type-s-type-s-requires : (t : ℕ) → type-s-lts.Need-type-s-requires (type-s-calls t) (type-s-at t) type-s.Post
-type-s-type-s-requires t c κs = let k = read (c .before .fields .ensures .a-is) (delay-kid (c .before .before .before .args .p .now) (c .before .before .before .args .i) (c .before .before .before .pre .1) (sym (c .before .fields .ensures .kind-is) ∙ c .match .keys3)) in (omega (arith, k .less, c .before .before .before .pre .0), k .node)
+type-s-type-s-requires t c κs = let k = read (c .before .fields .ensures .a-is) (delay-kid (c .before .before .before .args .p .now .now) (c .before .before .before .args .i) (c .before .before .before .pre .1) (sym (c .before .fields .ensures .kind-is) ∙ c .match .keys3)) in (omega (arith, k .less, c .before .before .before .pre .0), k .node)
 
--- src/lib.rt:252:14
+-- src/lib.rt:264:14
 type-s-delayed-requires : (t : ℕ) → type-s-lts.Need-delayed-requires (type-s-calls t) (type-s-at t) type-s.Post
 type-s-delayed-requires t c κs = omega (arith, c .before .before .before .before .pre .1 .inside, c .before .before .before .before .pre .1 .shaped .small)
 
--- src/lib.rt:254:17
+-- src/lib.rt:266:17
 type-s-type-s-requires-2 : (t : ℕ) → type-s-lts.Need-type-s-requires-2 (type-s-calls t) (type-s-at t) type-s.Post
-type-s-type-s-requires-2 t c κs = let k = read (c .before .fields .ensures .a-is) (let-kids (c .before .before .before .args .p .now) (c .before .before .before .args .i) (c .before .before .before .pre .1) (sym (c .before .fields .ensures .kind-is) ∙ c .match .keys4) .0) in (omega (arith, k .less, c .before .before .before .pre .0), k .node)
+type-s-type-s-requires-2 t c κs = let k = read (c .before .fields .ensures .a-is) (let-kids (c .before .before .before .args .p .now .now) (c .before .before .before .args .i) (c .before .before .before .pre .1) (sym (c .before .fields .ensures .kind-is) ∙ c .match .keys4) .0) in (omega (arith, k .less, c .before .before .before .pre .0), k .node)
 
--- src/lib.rt:255:17
+-- src/lib.rt:267:17
 type-s-type-s-requires-3 : (t : ℕ) → type-s-lts.Need-type-s-requires-3 (type-s-calls t) (type-s-at t) type-s.Post
-type-s-type-s-requires-3 t c κs = let k = read (c .before .before .fields .ensures .b-is) (let-kids (c .before .before .before .before .args .p .now) (c .before .before .before .before .args .i) (c .before .before .before .before .pre .1) (sym (c .before .before .fields .ensures .kind-is) ∙ c .before .match .keys4) .1) in (omega (arith, k .less, c .before .before .before .before .pre .0), k .node)
+type-s-type-s-requires-3 t c κs = let k = read (c .before .before .fields .ensures .b-is) (let-kids (c .before .before .before .before .args .p .now .now) (c .before .before .before .before .args .i) (c .before .before .before .before .pre .1) (sym (c .before .before .fields .ensures .kind-is) ∙ c .before .match .keys4) .1) in (omega (arith, k .less, c .before .before .before .before .pre .0), k .node)
 
--- src/lib.rt:256:13
+-- src/lib.rt:268:13
 type-s-letting-requires : (t : ℕ) → type-s-lts.Need-letting-requires (type-s-calls t) (type-s-at t) type-s.Post
 type-s-letting-requires t c κs = omega (arith, c .before .before .before .before .before .pre .1 .inside, c .before .before .before .before .before .pre .1 .shaped .small)
 
--- src/lib.rt:259:17
+-- src/lib.rt:271:17
 type-s-type-s-requires-4 : (t : ℕ) → type-s-lts.Need-type-s-requires-4 (type-s-calls t) (type-s-at t) type-s.Post
-type-s-type-s-requires-4 t c κs = let k = read (c .before .fields .ensures .a-is) (switch-kids (c .before .before .before .args .p .now) (c .before .before .before .args .i) (c .before .before .before .pre .1) (sym (c .before .fields .ensures .kind-is) ∙ c .match .keys5) .0) in (omega (arith, k .less, c .before .before .before .pre .0), k .node)
+type-s-type-s-requires-4 t c κs = let k = read (c .before .fields .ensures .a-is) (switch-kids (c .before .before .before .args .p .now .now) (c .before .before .before .args .i) (c .before .before .before .pre .1) (sym (c .before .fields .ensures .kind-is) ∙ c .match .keys5) .0) in (omega (arith, k .less, c .before .before .before .pre .0), k .node)
 
--- src/lib.rt:260:17
+-- src/lib.rt:272:17
 type-s-type-s-requires-5 : (t : ℕ) → type-s-lts.Need-type-s-requires-5 (type-s-calls t) (type-s-at t) type-s.Post
-type-s-type-s-requires-5 t c κs = let k = read (c .before .before .fields .ensures .b-is) (switch-kids (c .before .before .before .before .args .p .now) (c .before .before .before .before .args .i) (c .before .before .before .before .pre .1) (sym (c .before .before .fields .ensures .kind-is) ∙ c .before .match .keys5) .1) in (omega (arith, k .less, c .before .before .before .before .pre .0), k .node)
+type-s-type-s-requires-5 t c κs = let k = read (c .before .before .fields .ensures .b-is) (switch-kids (c .before .before .before .before .args .p .now .now) (c .before .before .before .before .args .i) (c .before .before .before .before .pre .1) (sym (c .before .before .fields .ensures .kind-is) ∙ c .before .match .keys5) .1) in (omega (arith, k .less, c .before .before .before .before .pre .0), k .node)
 
--- src/lib.rt:261:17
+-- src/lib.rt:273:17
 type-s-type-s-requires-6 : (t : ℕ) → type-s-lts.Need-type-s-requires-6 (type-s-calls t) (type-s-at t) type-s.Post
-type-s-type-s-requires-6 t c κs = let k = read (c .before .before .before .fields .ensures .c-is) (switch-kids (c .before .before .before .before .before .args .p .now) (c .before .before .before .before .before .args .i) (c .before .before .before .before .before .pre .1) (sym (c .before .before .before .fields .ensures .kind-is) ∙ c .before .before .match .keys5) .2) in (omega (arith, k .less, c .before .before .before .before .before .pre .0), k .node)
+type-s-type-s-requires-6 t c κs = let k = read (c .before .before .before .fields .ensures .c-is) (switch-kids (c .before .before .before .before .before .args .p .now .now) (c .before .before .before .before .before .args .i) (c .before .before .before .before .before .pre .1) (sym (c .before .before .before .fields .ensures .kind-is) ∙ c .before .before .match .keys5) .2) in (omega (arith, k .less, c .before .before .before .before .before .pre .0), k .node)
 
--- src/lib.rt:262:13
+-- src/lib.rt:274:13
 type-s-switching-requires : (t : ℕ) → type-s-lts.Need-switching-requires (type-s-calls t) (type-s-at t) type-s.Post
 type-s-switching-requires t c κs = omega (arith, c .before .before .before .before .before .before .pre .1 .inside, c .before .before .before .before .before .before .pre .1 .shaped .small)
 
--- src/lib.rt:265:17
+-- src/lib.rt:277:17
 type-s-type-s-requires-7 : (t : ℕ) → type-s-lts.Need-type-s-requires-7 (type-s-calls t) (type-s-at t) type-s.Post
-type-s-type-s-requires-7 t c κs = let k = read (c .before .fields .ensures .a-is) (group-kids (c .before .before .before .args .p .now) (c .before .before .before .args .i) (c .before .before .before .pre .1) (sym (c .before .fields .ensures .kind-is) ∙ c .match .keys6) .0) in (omega (arith, k .less, c .before .before .before .pre .0), k .node)
+type-s-type-s-requires-7 t c κs = let k = read (c .before .fields .ensures .a-is) (group-kids (c .before .before .before .args .p .now .now) (c .before .before .before .args .i) (c .before .before .before .pre .1) (sym (c .before .fields .ensures .kind-is) ∙ c .match .keys6) .0) in (omega (arith, k .less, c .before .before .before .pre .0), k .node)
 
--- src/lib.rt:266:17
+-- src/lib.rt:278:17
 type-s-type-b-requires : (t : ℕ) → type-s-lts.Need-type-b-requires (type-s-calls t) (type-s-at t) type-s.Post
-type-s-type-b-requires t c κs = let k = read (c .before .before .fields .ensures .b-is) (group-kids (c .before .before .before .before .args .p .now) (c .before .before .before .before .args .i) (c .before .before .before .before .pre .1) (sym (c .before .before .fields .ensures .kind-is) ∙ c .before .match .keys6) .1) in (omega (arith, k .less, c .before .before .before .before .pre .0), k .node)
+type-s-type-b-requires t c κs = let k = read (c .before .before .fields .ensures .b-is) (group-kids (c .before .before .before .before .args .p .now .now) (c .before .before .before .before .args .i) (c .before .before .before .before .pre .1) (sym (c .before .before .fields .ensures .kind-is) ∙ c .before .match .keys6) .1) in (omega (arith, k .less, c .before .before .before .before .pre .0), k .node)
 
--- src/lib.rt:267:13
+-- src/lib.rt:279:13
 type-s-grouping-requires : (t : ℕ) → type-s-lts.Need-grouping-requires (type-s-calls t) (type-s-at t) type-s.Post
 type-s-grouping-requires t c κs = omega (arith, c .before .before .before .before .before .pre .1 .inside, c .before .before .before .before .before .pre .1 .shaped .small)
 
--- src/lib.rt:270:17
+-- src/lib.rt:282:17
 type-s-type-s-requires-8 : (t : ℕ) → type-s-lts.Need-type-s-requires-8 (type-s-calls t) (type-s-at t) type-s.Post
-type-s-type-s-requires-8 t c κs = let k = read (c .before .fields .ensures .a-is) (until-kids (c .before .before .before .args .p .now) (c .before .before .before .args .i) (c .before .before .before .pre .1) (sym (c .before .fields .ensures .kind-is) ∙ c .match .keys7) .0) in (omega (arith, k .less, c .before .before .before .pre .0), k .node)
+type-s-type-s-requires-8 t c κs = let k = read (c .before .fields .ensures .a-is) (until-kids (c .before .before .before .args .p .now .now) (c .before .before .before .args .i) (c .before .before .before .pre .1) (sym (c .before .fields .ensures .kind-is) ∙ c .match .keys7) .0) in (omega (arith, k .less, c .before .before .before .pre .0), k .node)
 
--- src/lib.rt:271:17
+-- src/lib.rt:283:17
 type-s-type-c-requires : (t : ℕ) → type-s-lts.Need-type-c-requires (type-s-calls t) (type-s-at t) type-s.Post
-type-s-type-c-requires t c κs = let k = read (c .before .before .fields .ensures .b-is) (until-kids (c .before .before .before .before .args .p .now) (c .before .before .before .before .args .i) (c .before .before .before .before .pre .1) (sym (c .before .before .fields .ensures .kind-is) ∙ c .before .match .keys7) .1) in (omega (arith, k .less, c .before .before .before .before .pre .0), k .node)
+type-s-type-c-requires t c κs = let k = read (c .before .before .fields .ensures .b-is) (until-kids (c .before .before .before .before .args .p .now .now) (c .before .before .before .before .args .i) (c .before .before .before .before .pre .1) (sym (c .before .before .fields .ensures .kind-is) ∙ c .before .match .keys7) .1) in (omega (arith, k .less, c .before .before .before .before .pre .0), k .node)
 
--- src/lib.rt:273:38
+-- src/lib.rt:287:24
 type-s-sooner-requires : (t : ℕ) → type-s-lts.Need-sooner-requires (type-s-calls t) (type-s-at t) type-s.Post
 type-s-sooner-requires t c κs = search needs
 
--- src/lib.rt:243:1
+-- src/lib.rt:252:1
 type-s-returns : (t : ℕ) → type-s-lts.Need-returns (type-s-calls t) (type-s-at t) type-s.Post
-type-s-returns t c = let e = input-typed (c .before .before .before .before .args .p .now) (c .before .before .before .before .args .i) (c .before .before .before .before .pre .1) (sym (c .before .before .fields .ensures .kind-is) ∙ c .before .match .keys1) in (cc (e .0), cc (e .1))
+type-s-returns t c = let e = input-typed (c .before .before .before .before .args .p .now .now) (c .before .before .before .before .args .i) (c .before .before .before .before .pre .1) (sym (c .before .before .fields .ensures .kind-is) ∙ c .before .match .keys1) in (cc (e .0), cc (e .1))
 
--- src/lib.rt:243:1
+-- src/lib.rt:252:1
 type-s-returns-2 : (t : ℕ) → type-s-lts.Need-returns-2 (type-s-calls t) (type-s-at t) type-s.Post
-type-s-returns-2 t c = let e = ext-typed (c .before .before .before .before .args .p .now) (c .before .before .before .before .args .i) (c .before .before .before .before .pre .1) (sym (c .before .before .fields .ensures .kind-is) ∙ c .before .match .keys2) in (cc (e .0), cc (e .1))
+type-s-returns-2 t c = let e = ext-typed (c .before .before .before .before .args .p .now .now) (c .before .before .before .before .args .i) (c .before .before .before .before .pre .1) (sym (c .before .before .fields .ensures .kind-is) ∙ c .before .match .keys2) in (cc (e .0), cc (e .1))
 
--- src/lib.rt:243:1
+-- src/lib.rt:252:1
 type-s-returns-3 : (t : ℕ) → type-s-lts.Need-returns-3 (type-s-calls t) (type-s-at t) type-s.Post
-type-s-returns-3 t c = let e = delay-typed (c .before .before .before .before .before .args .p .now) (c .before .before .before .before .before .args .i) (c .before .before .before .before .before .pre .1) (sym (c .before .before .before .fields .ensures .kind-is) ∙ c .before .before .match .keys3) in (cc (e .0), cc (e .1))
+type-s-returns-3 t c = let e = delay-typed (c .before .before .before .before .before .args .p .now .now) (c .before .before .before .before .before .args .i) (c .before .before .before .before .before .pre .1) (sym (c .before .before .before .fields .ensures .kind-is) ∙ c .before .before .match .keys3) in (cc (e .0), cc (e .1))
 
--- src/lib.rt:243:1
+-- src/lib.rt:252:1
 type-s-returns-4 : (t : ℕ) → type-s-lts.Need-returns-4 (type-s-calls t) (type-s-at t) type-s.Post
-type-s-returns-4 t c = let e = let-typed (c .before .before .before .before .before .before .args .p .now) (c .before .before .before .before .before .before .args .i) (c .before .before .before .before .before .before .pre .1) (sym (c .before .before .before .before .fields .ensures .kind-is) ∙ c .before .before .before .match .keys4) in (cc (e .0), cc (e .1))
+type-s-returns-4 t c = let e = let-typed (c .before .before .before .before .before .before .args .p .now .now) (c .before .before .before .before .before .before .args .i) (c .before .before .before .before .before .before .pre .1) (sym (c .before .before .before .before .fields .ensures .kind-is) ∙ c .before .before .before .match .keys4) in (cc (e .0), cc (e .1))
 
--- src/lib.rt:243:1
+-- src/lib.rt:252:1
 type-s-returns-5 : (t : ℕ) → type-s-lts.Need-returns-5 (type-s-calls t) (type-s-at t) type-s.Post
-type-s-returns-5 t c = let e = switch-typed (c .before .before .before .before .before .before .before .args .p .now) (c .before .before .before .before .before .before .before .args .i) (c .before .before .before .before .before .before .before .pre .1) (sym (c .before .before .before .before .before .fields .ensures .kind-is) ∙ c .before .before .before .before .match .keys5) in (cc (e .0), cc (e .1))
+type-s-returns-5 t c = let e = switch-typed (c .before .before .before .before .before .before .before .args .p .now .now) (c .before .before .before .before .before .before .before .args .i) (c .before .before .before .before .before .before .before .pre .1) (sym (c .before .before .before .before .before .fields .ensures .kind-is) ∙ c .before .before .before .before .match .keys5) in (cc (e .0), cc (e .1))
 
--- src/lib.rt:243:1
+-- src/lib.rt:252:1
 type-s-returns-6 : (t : ℕ) → type-s-lts.Need-returns-6 (type-s-calls t) (type-s-at t) type-s.Post
-type-s-returns-6 t c = let e = group-typed (c .before .before .before .before .before .before .args .p .now) (c .before .before .before .before .before .before .args .i) (c .before .before .before .before .before .before .pre .1) (sym (c .before .before .before .before .fields .ensures .kind-is) ∙ c .before .before .before .match .keys6) in (cc (e .0), cc (e .1))
+type-s-returns-6 t c = let e = group-typed (c .before .before .before .before .before .before .args .p .now .now) (c .before .before .before .before .before .before .args .i) (c .before .before .before .before .before .before .pre .1) (sym (c .before .before .before .before .fields .ensures .kind-is) ∙ c .before .before .before .match .keys6) in (cc (e .0), cc (e .1))
 
--- src/lib.rt:243:1
+-- src/lib.rt:252:1
 type-s-returns-7 : (t : ℕ) → type-s-lts.Need-returns-7 (type-s-calls t) (type-s-at t) type-s.Post
-type-s-returns-7 t c = let e = until-typed (c .before .before .before .before .before .before .args .p .now) (c .before .before .before .before .before .before .args .i) (c .before .before .before .before .before .before .pre .1) (sym (c .before .before .before .before .fields .ensures .kind-is) ∙ c .before .before .before .match .keys7) in (cc (e .0), cc (e .1))
+type-s-returns-7 t c = let e = until-typed (c .before .before .before .before .before .before .args .p .now .now) (c .before .before .before .before .before .before .args .i) (c .before .before .before .before .before .before .pre .1) (sym (c .before .before .before .before .fields .ensures .kind-is) ∙ c .before .before .before .match .keys7) in (cc (e .0), cc (e .1))
 
--- src/lib.rt:243:1
+-- src/lib.rt:252:1
 type-s-returns-8 : (t : ℕ) → type-s-lts.Need-returns-8 (type-s-calls t) (type-s-at t) type-s.Post
-type-s-returns-8 t c = let e = time-typed (c .before .before .before .args .p .now) (c .before .before .before .args .i) (c .before .before .before .pre .1) (time-left (c .before .before .before .args .p .now) (c .before .before .before .args .i) (c .before .before .before .pre .1) (c .before .fields .ensures .kind-is) (c .match .rest)) in (cc (e .0), cc (e .1))
+type-s-returns-8 t c = let e = time-typed (c .before .before .before .args .p .now .now) (c .before .before .before .args .i) (c .before .before .before .pre .1) (time-left (c .before .before .before .args .p .now .now) (c .before .before .before .args .i) (c .before .before .before .pre .1) (c .before .fields .ensures .kind-is) (c .match .rest)) in (cc (e .0), cc (e .1))
 
 pub +type-b+type-c+type-s-spec : {M : Type 1} → statement M
 +type-b+type-c+type-s-spec = close μ-type-b μ-type-c μ-type-s (λ t. type-b-lts.spec (type-b-calls t) (type-b-at t)

@@ -9,31 +9,31 @@ use Rattle.answers.proofs.otherwise.Reads as otherwise-reads
 use Rattle.answers.proofs.refuse_if.Reads as refuse-if-reads
 use Rattle.well.proofs.well_formed.Reads as well-formed-reads
 
--- src/lib.rt:103:9
+-- src/lib.rt:112:9
 well-formed-requires : tie.Need-well-formed-requires
-well-formed-requires c κs = c .before .before .before .before .before .pre
+well-formed-requires c κs = c .before .before .before .before .pre
 
--- src/lib.rt:104:9
+-- src/lib.rt:113:9
 refuse-if-requires : tie.Need-refuse-if-requires
 refuse-if-requires c κs = search needs
 
--- src/lib.rt:105:9
+-- src/lib.rt:114:9
 refuse-if-requires-2 : tie.Need-refuse-if-requires-2
 refuse-if-requires-2 c κs = search needs
 
--- src/lib.rt:106:41
+-- src/lib.rt:115:41
 mul-refuse-if : tie.Need-mul-refuse-if
 mul-refuse-if c = search needs
 
--- src/lib.rt:106:9
+-- src/lib.rt:115:9
 refuse-if-requires-3 : tie.Need-refuse-if-requires-3
 refuse-if-requires-3 c κs = search needs
 
--- src/lib.rt:107:22
+-- src/lib.rt:116:22
 otherwise-requires : tie.Need-otherwise-requires
 otherwise-requires c κs = search needs
 
--- src/lib.rt:107:5
+-- src/lib.rt:116:5
 otherwise-requires-2 : tie.Need-otherwise-requires-2
 otherwise-requires-2 c κs = search needs
 

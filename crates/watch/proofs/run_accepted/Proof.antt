@@ -16,72 +16,68 @@ use Rattle.steps.proofs.run_records.Reads as run-records-reads
 use Rattle.watch.proofs.lent_verdict.Reads as lent-verdict-reads
 use Rattle.watch.proofs.run_fits.Reads as run-fits-reads
 
--- src/lib.rt:123:31
+-- src/lib.rt:136:31
 slice-aggregate-index-cells : tie.Need-slice-aggregate-index-cells
 slice-aggregate-index-cells c = search needs
 
--- src/lib.rt:123:9
+-- src/lib.rt:136:9
 index-cells-requires : tie.Need-index-cells-requires
 index-cells-requires c κs = let k = counted _ _ (c .before .before .before .before .before .pre .0) (c .before .before .before .before .before .pre .1) in (k .shaped, k .listed, c .before .before .before .before .before .pre .1, rw (length-replicate) (k .most))
 
--- src/lib.rt:124:9
+-- src/lib.rt:137:9
 run-fits-requires : tie.Need-run-fits-requires
 run-fits-requires c κs = search needs
 
--- src/lib.rt:125:33
-slice-aggregate-lent-verdict : tie.Need-slice-aggregate-lent-verdict
-slice-aggregate-lent-verdict c = search needs
-
--- src/lib.rt:125:9
+-- src/lib.rt:138:9
 lent-verdict-requires : tie.Need-lent-verdict-requires
 lent-verdict-requires c κs = (root-of _ (c .before .before .before .before .before .before .before .before .before .before .before .pre .0), c .before .before .before .before .before .index-cells .ensures .0, c .before .before .before .before .before .before .before .before .before .before .before .pre .1, c .before .before .before .before .before .index-cells .ensures .1 ∙ all-cells _ _ (c .before .before .before .before .before .before .before .before .before .before .before .pre .1))
 
--- src/lib.rt:127:25
+-- src/lib.rt:140:25
 enum-known-fault : tie.Need-enum-known-fault
 enum-known-fault c = search needs
 
--- src/lib.rt:129:17
+-- src/lib.rt:142:17
 enum-told : tie.Need-enum-told
 enum-told c = search needs
 
--- src/lib.rt:130:17
+-- src/lib.rt:143:17
 bound-of-requires : tie.Need-bound-of-requires
 bound-of-requires c κs = let k = counted _ _ (c .before .before .before .before .before .before .before .before .before .before .before .before .before .before .pre .0) (c .before .before .before .before .before .before .before .before .before .before .before .before .before .before .pre .1) in (c .before .before .before .before .before .before .before .before .before .before .before .before .before .before .pre .1, k .some, k .rooted, k .small)
 
--- src/lib.rt:131:28
+-- src/lib.rt:144:28
 slice-aggregate-run-records : tie.Need-slice-aggregate-run-records
 slice-aggregate-run-records c = search needs
 
--- src/lib.rt:131:46
+-- src/lib.rt:144:46
 slice-aggregate-run-records-2 : tie.Need-slice-aggregate-run-records-2
 slice-aggregate-run-records-2 c = search needs
 
--- src/lib.rt:131:13
+-- src/lib.rt:144:13
 run-records-requires : tie.Need-run-records-requires
 unfolding unbound
 run-records-requires c κs = let f = lent-fine _ _ _ _ _ (sym (c .before .before .before .before .before .before .before .lent-verdict .ensures) ∙ c .before .before .before .before .before .enum-told .given .1) in (record { accepted = c .before .before .before .before .before .before .before .before .before .before .before .before .before .before .before .before .before .before .before .pre .0; indexed = c .before .before .before .before .before .before .before .before .before .before .before .before .before .index-cells .ensures .0; counted = c .before .before .before .before .before .before .before .before .before .before .before .before .before .before .before .before .before .before .before .pre .1; well = f .well; blank = refl }, c .before .before .before .before .bound-of .ensures, fits-most _ (sym (c .before .before .before .before .before .before .before .before .before .before .before .run-fits .ensures) ∙ f .fitting), f .room)
 
--- src/lib.rt:118:1
+-- src/lib.rt:131:1
 same-length : tie.Need-same-length
 same-length c = search needs
 
--- src/lib.rt:118:1
+-- src/lib.rt:131:1
 same-length-2 : tie.Need-same-length-2
 same-length-2 c = search needs
 
--- src/lib.rt:118:1
+-- src/lib.rt:131:1
 returns : tie.Need-returns
 returns c = run-lent _ _ _ _ _ (ap (lentRest _ _ _ _) (sym (c .before .before .before .before .before .before .before .run-fits .ensures)) ∙ sym (c .before .before .before .lent-verdict .ensures) ∙ c .before .fault .given .1)
 
--- src/lib.rt:118:1
+-- src/lib.rt:131:1
 same-length-3 : tie.Need-same-length-3
 same-length-3 c = search needs
 
--- src/lib.rt:118:1
+-- src/lib.rt:131:1
 same-length-4 : tie.Need-same-length-4
 same-length-4 c = search needs
 
--- src/lib.rt:118:1
+-- src/lib.rt:131:1
 returns-2 : tie.Need-returns-2
 returns-2 c = rw (run-goes _ _ _ _ _ (ap (lentRest _ _ _ _) (sym (c .before .before .before .before .before .before .before .before .before .before .before .before .before .before .before .before .before .run-fits .ensures)) ∙ sym (c .before .before .before .before .before .before .before .before .before .before .before .before .before .lent-verdict .ensures) ∙ c .before .before .before .before .before .before .before .before .before .before .before .enum-told .given .1)) (c .before .before .before .before .before .run-records .ensures)
 
@@ -92,7 +88,6 @@ run-accepted-spec =
     slice-aggregate-index-cells
     index-cells-requires
     run-fits-requires
-    slice-aggregate-lent-verdict
     lent-verdict-requires
     enum-known-fault
     enum-told

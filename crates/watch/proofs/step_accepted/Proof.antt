@@ -14,64 +14,60 @@ use Rattle.cells.proofs.index_cells.Reads as index-cells-reads
 use Rattle.steps.proofs.step_record.Reads as step-record-reads
 use Rattle.watch.proofs.lent_verdict.Reads as lent-verdict-reads
 
--- src/lib.rt:154:31
+-- src/lib.rt:167:31
 slice-aggregate-index-cells : tie.Need-slice-aggregate-index-cells
 slice-aggregate-index-cells c = search needs
 
--- src/lib.rt:154:9
+-- src/lib.rt:167:9
 index-cells-requires : tie.Need-index-cells-requires
 index-cells-requires c κs = let k = counted _ _ (c .before .before .before .before .before .pre .0) (c .before .before .before .before .before .pre .1) in (k .shaped, k .listed, c .before .before .before .before .before .pre .1, rw (length-replicate) (k .most))
 
--- src/lib.rt:156:33
-slice-aggregate-lent-verdict : tie.Need-slice-aggregate-lent-verdict
-slice-aggregate-lent-verdict c = search needs
-
--- src/lib.rt:156:9
+-- src/lib.rt:169:9
 lent-verdict-requires : tie.Need-lent-verdict-requires
 lent-verdict-requires c κs = (root-of _ (c .before .before .before .before .before .before .before .before .before .before .pre .0), c .before .before .before .before .index-cells .ensures .0, c .before .before .before .before .before .before .before .before .before .before .pre .1, c .before .before .before .before .index-cells .ensures .1 ∙ all-cells _ _ (c .before .before .before .before .before .before .before .before .before .before .pre .1))
 
--- src/lib.rt:158:25
+-- src/lib.rt:171:25
 enum-known-fault : tie.Need-enum-known-fault
 enum-known-fault c = search needs
 
--- src/lib.rt:160:17
+-- src/lib.rt:173:17
 enum-told : tie.Need-enum-told
 enum-told c = search needs
 
--- src/lib.rt:161:28
+-- src/lib.rt:174:28
 slice-aggregate-step-record : tie.Need-slice-aggregate-step-record
 slice-aggregate-step-record c = search needs
 
--- src/lib.rt:161:45
+-- src/lib.rt:174:45
 slice-aggregate-step-record-2 : tie.Need-slice-aggregate-step-record-2
 slice-aggregate-step-record-2 c = search needs
 
--- src/lib.rt:161:13
+-- src/lib.rt:174:13
 step-record-requires : tie.Need-step-record-requires
 unfolding unbound
 step-record-requires c κs = let f = lent-fine _ _ _ _ _ (sym (c .before .before .before .before .before .before .lent-verdict .ensures) ∙ c .before .before .before .before .enum-told .given .1) in (record { accepted = c .before .before .before .before .before .before .before .before .before .before .before .before .before .before .before .before .before .pre .0; indexed = c .before .before .before .before .before .before .before .before .before .before .before .index-cells .ensures .0; counted = c .before .before .before .before .before .before .before .before .before .before .before .before .before .before .before .before .before .pre .1; well = f .well; blank = refl }, one-record _ _ _ _ f .0, one-record _ _ _ _ f .1)
 
--- src/lib.rt:149:1
+-- src/lib.rt:162:1
 same-length : tie.Need-same-length
 same-length c = search needs
 
--- src/lib.rt:149:1
+-- src/lib.rt:162:1
 same-length-2 : tie.Need-same-length-2
 same-length-2 c = search needs
 
--- src/lib.rt:149:1
+-- src/lib.rt:162:1
 returns : tie.Need-returns
 returns c = step-lent _ _ _ _ _ (sym (c .before .before .before .lent-verdict .ensures) ∙ c .before .fault .given .1)
 
--- src/lib.rt:149:1
+-- src/lib.rt:162:1
 same-length-3 : tie.Need-same-length-3
 same-length-3 c = search needs
 
--- src/lib.rt:149:1
+-- src/lib.rt:162:1
 same-length-4 : tie.Need-same-length-4
 same-length-4 c = search needs
 
--- src/lib.rt:149:1
+-- src/lib.rt:162:1
 returns-2 : tie.Need-returns-2
 returns-2 c = rw (step-fits _ _ (sym (c .before .before .before .before .before .before .before .before .before .before .before .before .lent-verdict .ensures) ∙ c .before .before .before .before .before .before .before .before .before .before .enum-told .given .1)) (c .before .before .before .before .before .step-record .ensures)
 
@@ -81,7 +77,6 @@ step-accepted-spec =
     (tie.spec
     slice-aggregate-index-cells
     index-cells-requires
-    slice-aggregate-lent-verdict
     lent-verdict-requires
     enum-known-fault
     enum-told

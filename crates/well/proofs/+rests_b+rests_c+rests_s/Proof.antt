@@ -24,213 +24,213 @@ use Rattle.well.proofs.both.Reads as both-reads
 use Rattle.well.proofs.+rests_b+rests_c+rests_s.{statement}
 use Rattle.well.proofs.+rests_b+rests_c+rests_s.Tie.{close}
 
-abbrev μ-rests-b : Measures 3 rests-b-kinds.ps ℕ
+abbrev μ-rests-b : Measures 5 rests-b-kinds.ps ℕ
 μ-rests-b κs a = a .1 .1 .1 .0
 
-abbrev μ-rests-c : Measures 3 rests-c-kinds.ps ℕ
+abbrev μ-rests-c : Measures 5 rests-c-kinds.ps ℕ
 μ-rests-c κs a = a .1 .1 .1 .0
 
-abbrev μ-rests-s : Measures 3 rests-s-kinds.ps ℕ
+abbrev μ-rests-s : Measures 5 rests-s-kinds.ps ℕ
 μ-rests-s κs a = a .1 .1 .1 .0
 
-abbrev rests-b-at : ℕ → In 3 rests-b-kinds.ps
-rests-b-at t = and 3 rests-b-kinds.ps (is 3 rests-b-kinds.ps μ-rests-b t) rests-b.Pre
+abbrev rests-b-at : ℕ → In 5 rests-b-kinds.ps
+rests-b-at t = and 5 rests-b-kinds.ps (is 5 rests-b-kinds.ps μ-rests-b t) rests-b.Pre
 
-abbrev rests-b-below : ℕ → In 3 rests-b-kinds.ps
-rests-b-below t = and 3 rests-b-kinds.ps (falls 3 rests-b-kinds.ps _<_ μ-rests-b t) rests-b.Pre
+abbrev rests-b-below : ℕ → In 5 rests-b-kinds.ps
+rests-b-below t = and 5 rests-b-kinds.ps (falls 5 rests-b-kinds.ps _<_ μ-rests-b t) rests-b.Pre
 
-abbrev rests-c-at : ℕ → In 3 rests-c-kinds.ps
-rests-c-at t = and 3 rests-c-kinds.ps (is 3 rests-c-kinds.ps μ-rests-c t) rests-c.Pre
+abbrev rests-c-at : ℕ → In 5 rests-c-kinds.ps
+rests-c-at t = and 5 rests-c-kinds.ps (is 5 rests-c-kinds.ps μ-rests-c t) rests-c.Pre
 
-abbrev rests-c-below : ℕ → In 3 rests-c-kinds.ps
-rests-c-below t = and 3 rests-c-kinds.ps (falls 3 rests-c-kinds.ps _<_ μ-rests-c t) rests-c.Pre
+abbrev rests-c-below : ℕ → In 5 rests-c-kinds.ps
+rests-c-below t = and 5 rests-c-kinds.ps (falls 5 rests-c-kinds.ps _<_ μ-rests-c t) rests-c.Pre
 
-abbrev rests-s-at : ℕ → In 3 rests-s-kinds.ps
-rests-s-at t = and 3 rests-s-kinds.ps (is 3 rests-s-kinds.ps μ-rests-s t) rests-s.Pre
+abbrev rests-s-at : ℕ → In 5 rests-s-kinds.ps
+rests-s-at t = and 5 rests-s-kinds.ps (is 5 rests-s-kinds.ps μ-rests-s t) rests-s.Pre
 
-abbrev rests-s-below : ℕ → In 3 rests-s-kinds.ps
-rests-s-below t = and 3 rests-s-kinds.ps (falls 3 rests-s-kinds.ps _<_ μ-rests-s t) rests-s.Pre
+abbrev rests-s-below : ℕ → In 5 rests-s-kinds.ps
+rests-s-below t = and 5 rests-s-kinds.ps (falls 5 rests-s-kinds.ps _<_ μ-rests-s t) rests-s.Pre
 
 abbrev rests-b-calls : ℕ → rests-b-lts.Claims
 rests-b-calls t = (fields-reads.Asked, fields-reads.Learnt, rests-s-below t, rests-s.Post, both-reads.Asked, both-reads.Learnt, rests-b-below t, rests-b.Post)
 
--- src/lib.rt:112:9
-rests-b-fields-requires : (t : ℕ) → rests-b-lts.Need-fields-requires (rests-b-calls t) (rests-b-at t) rests-b.Post
-rests-b-fields-requires t c κs = omega (arith, c .before .before .before .pre .1 .node .inside, c .before .before .before .pre .1 .node .shaped .within)
-
--- src/lib.rt:113:9
-rests-b-rests-s-requires : (t : ℕ) → rests-b-lts.Need-rests-s-requires (rests-b-calls t) (rests-b-at t) rests-b.Post
-rests-b-rests-s-requires t c κs = let k = read (c .fields .ensures .a-is) (branch-kid (c .before .before .before .before .args .p .now) (c .before .before .before .before .args .j) (c .before .before .before .before .pre .1 .node)) in (omega (arith, k .less, c .before .before .before .before .pre .0), carried (c .before .before .before .before .pre .1) refl k)
-
--- src/lib.rt:115:9
-rests-b-both-requires : (t : ℕ) → rests-b-lts.Need-both-requires (rests-b-calls t) (rests-b-at t) rests-b.Post
-rests-b-both-requires t c κs = search needs
-
--- src/lib.rt:115:9
-rests-b-returns : (t : ℕ) → rests-b-lts.Need-returns (rests-b-calls t) (rests-b-at t) rests-b.Post
-rests-b-returns t c = cc (branch-rests-end (c .before .before .before .before .before .before .before .before .args .p .now) (c .before .before .before .before .before .before .before .before .args .j) (c .before .before .before .before .before .before .before .before .pre .1 .node) (c .before .before .before .before .before .before .before .before .args .st .now) (sym (c .before .before .before .before .fields .ensures .b-is) ∙ c .before .if1 .taken))
-
--- src/lib.rt:117:9
-rests-b-rests-b-requires : (t : ℕ) → rests-b-lts.Need-rests-b-requires (rests-b-calls t) (rests-b-at t) rests-b.Post
-rests-b-rests-b-requires t c κs = let k = read (c .before .before .before .fields .ensures .b-is) (branch-next (c .before .before .before .before .before .before .before .args .p .now) (c .before .before .before .before .before .before .before .args .j) (c .before .before .before .before .before .before .before .pre .1 .node) (λ h. c .if1 .left (c .before .before .before .fields .ensures .b-is ∙ h))) in (omega (arith, k .less, c .before .before .before .before .before .before .before .pre .0), carried (c .before .before .before .before .before .before .before .pre .1) refl k)
-
--- src/lib.rt:118:5
-rests-b-both-requires-2 : (t : ℕ) → rests-b-lts.Need-both-requires-2 (rests-b-calls t) (rests-b-at t) rests-b.Post
-rests-b-both-requires-2 t c κs = search needs
-
--- src/lib.rt:108:1
-rests-b-returns-2 : (t : ℕ) → rests-b-lts.Need-returns-2 (rests-b-calls t) (rests-b-at t) rests-b.Post
-rests-b-returns-2 t c = cc (branch-rests-on (c .before .before .before .before .before .before .before .before .before .args .p .now) (c .before .before .before .before .before .before .before .before .before .args .j) (c .before .before .before .before .before .before .before .before .before .pre .1 .node) (c .before .before .before .before .before .before .before .before .before .args .st .now) (λ h. c .before .before .if1 .left (c .before .before .before .before .before .fields .ensures .b-is ∙ h)))
-
 abbrev rests-c-calls : ℕ → rests-c-lts.Claims
 rests-c-calls t = (fields-reads.Asked, fields-reads.Learnt, rests-s-below t, rests-s.Post, both-reads.Asked, both-reads.Learnt, rests-c-below t, rests-c.Post)
-
--- src/lib.rt:126:9
-rests-c-fields-requires : (t : ℕ) → rests-c-lts.Need-fields-requires (rests-c-calls t) (rests-c-at t) rests-c.Post
-rests-c-fields-requires t c κs = omega (arith, c .before .before .before .pre .1 .node .inside, c .before .before .before .pre .1 .node .shaped .within)
-
--- src/lib.rt:127:9
-rests-c-rests-s-requires : (t : ℕ) → rests-c-lts.Need-rests-s-requires (rests-c-calls t) (rests-c-at t) rests-c.Post
-rests-c-rests-s-requires t c κs = let k = read (c .fields .ensures .a-is) (case-kid (c .before .before .before .before .args .p .now) (c .before .before .before .before .args .j) (c .before .before .before .before .pre .1 .node)) in (omega (arith, k .less, c .before .before .before .before .pre .0), carried (c .before .before .before .before .pre .1) refl k)
-
--- src/lib.rt:129:9
-rests-c-both-requires : (t : ℕ) → rests-c-lts.Need-both-requires (rests-c-calls t) (rests-c-at t) rests-c.Post
-rests-c-both-requires t c κs = search needs
-
--- src/lib.rt:129:9
-rests-c-returns : (t : ℕ) → rests-c-lts.Need-returns (rests-c-calls t) (rests-c-at t) rests-c.Post
-rests-c-returns t c = cc (case-rests-end (c .before .before .before .before .before .before .before .before .args .p .now) (c .before .before .before .before .before .before .before .before .args .j) (c .before .before .before .before .before .before .before .before .pre .1 .node) (c .before .before .before .before .before .before .before .before .args .st .now) (sym (c .before .before .before .before .fields .ensures .b-is) ∙ c .before .if1 .taken))
-
--- src/lib.rt:131:9
-rests-c-rests-c-requires : (t : ℕ) → rests-c-lts.Need-rests-c-requires (rests-c-calls t) (rests-c-at t) rests-c.Post
-rests-c-rests-c-requires t c κs = let k = read (c .before .before .before .fields .ensures .b-is) (case-next (c .before .before .before .before .before .before .before .args .p .now) (c .before .before .before .before .before .before .before .args .j) (c .before .before .before .before .before .before .before .pre .1 .node) (λ h. c .if1 .left (c .before .before .before .fields .ensures .b-is ∙ h))) in (omega (arith, k .less, c .before .before .before .before .before .before .before .pre .0), carried (c .before .before .before .before .before .before .before .pre .1) refl k)
-
--- src/lib.rt:132:5
-rests-c-both-requires-2 : (t : ℕ) → rests-c-lts.Need-both-requires-2 (rests-c-calls t) (rests-c-at t) rests-c.Post
-rests-c-both-requires-2 t c κs = search needs
-
--- src/lib.rt:122:1
-rests-c-returns-2 : (t : ℕ) → rests-c-lts.Need-returns-2 (rests-c-calls t) (rests-c-at t) rests-c.Post
-rests-c-returns-2 t c = cc (case-rests-on (c .before .before .before .before .before .before .before .before .before .args .p .now) (c .before .before .before .before .before .before .before .before .before .args .j) (c .before .before .before .before .before .before .before .before .before .pre .1 .node) (c .before .before .before .before .before .before .before .before .before .args .st .now) (λ h. c .before .before .if1 .left (c .before .before .before .before .before .fields .ensures .b-is ∙ h)))
 
 abbrev rests-s-calls : ℕ → rests-s-lts.Claims
 rests-s-calls t = (fields-reads.Asked, fields-reads.Learnt, own-cell-reads.Asked, own-cell-reads.Learnt, rests-s-below t, rests-s.Post, first-value-reads.Asked, first-value-reads.Learnt, both-reads.Asked, both-reads.Learnt, rests-b-below t, rests-b.Post, rests-c-below t, rests-c.Post)
 
--- src/lib.rt:72:9
+-- src/lib.rt:106:9
+rests-b-fields-requires : (t : ℕ) → rests-b-lts.Need-fields-requires (rests-b-calls t) (rests-b-at t) rests-b.Post
+rests-b-fields-requires t c κs = omega (arith, c .before .pre .1 .node .inside, c .before .pre .1 .node .shaped .within)
+
+-- src/lib.rt:107:9
+rests-b-rests-s-requires : (t : ℕ) → rests-b-lts.Need-rests-s-requires (rests-b-calls t) (rests-b-at t) rests-b.Post
+rests-b-rests-s-requires t c κs = let k = read (c .fields .ensures .a-is) (branch-kid (c .before .before .args .p .now .now) (c .before .before .args .j) (c .before .before .pre .1 .node)) in (omega (arith, k .less, c .before .before .pre .0), carried (c .before .before .pre .1) refl k)
+
+-- src/lib.rt:109:9
+rests-b-both-requires : (t : ℕ) → rests-b-lts.Need-both-requires (rests-b-calls t) (rests-b-at t) rests-b.Post
+rests-b-both-requires t c κs = search needs
+
+-- src/lib.rt:109:9
+rests-b-returns : (t : ℕ) → rests-b-lts.Need-returns (rests-b-calls t) (rests-b-at t) rests-b.Post
+rests-b-returns t c = cc (branch-rests-end (c .before .before .before .before .before .before .args .p .now .now) (c .before .before .before .before .before .before .args .j) (c .before .before .before .before .before .before .pre .1 .node) (c .before .before .before .before .before .before .args .st .now .now) (sym (c .before .before .before .before .fields .ensures .b-is) ∙ c .before .if1 .taken))
+
+-- src/lib.rt:111:9
+rests-b-rests-b-requires : (t : ℕ) → rests-b-lts.Need-rests-b-requires (rests-b-calls t) (rests-b-at t) rests-b.Post
+rests-b-rests-b-requires t c κs = let k = read (c .before .before .before .fields .ensures .b-is) (branch-next (c .before .before .before .before .before .args .p .now .now) (c .before .before .before .before .before .args .j) (c .before .before .before .before .before .pre .1 .node) (λ h. c .if1 .left (c .before .before .before .fields .ensures .b-is ∙ h))) in (omega (arith, k .less, c .before .before .before .before .before .pre .0), carried (c .before .before .before .before .before .pre .1) refl k)
+
+-- src/lib.rt:112:5
+rests-b-both-requires-2 : (t : ℕ) → rests-b-lts.Need-both-requires-2 (rests-b-calls t) (rests-b-at t) rests-b.Post
+rests-b-both-requires-2 t c κs = search needs
+
+-- src/lib.rt:102:1
+rests-b-returns-2 : (t : ℕ) → rests-b-lts.Need-returns-2 (rests-b-calls t) (rests-b-at t) rests-b.Post
+rests-b-returns-2 t c = cc (branch-rests-on (c .before .before .before .before .before .before .before .args .p .now .now) (c .before .before .before .before .before .before .before .args .j) (c .before .before .before .before .before .before .before .pre .1 .node) (c .before .before .before .before .before .before .before .args .st .now .now) (λ h. c .before .before .if1 .left (c .before .before .before .before .before .fields .ensures .b-is ∙ h)))
+
+-- src/lib.rt:120:9
+rests-c-fields-requires : (t : ℕ) → rests-c-lts.Need-fields-requires (rests-c-calls t) (rests-c-at t) rests-c.Post
+rests-c-fields-requires t c κs = omega (arith, c .before .pre .1 .node .inside, c .before .pre .1 .node .shaped .within)
+
+-- src/lib.rt:121:9
+rests-c-rests-s-requires : (t : ℕ) → rests-c-lts.Need-rests-s-requires (rests-c-calls t) (rests-c-at t) rests-c.Post
+rests-c-rests-s-requires t c κs = let k = read (c .fields .ensures .a-is) (case-kid (c .before .before .args .p .now .now) (c .before .before .args .j) (c .before .before .pre .1 .node)) in (omega (arith, k .less, c .before .before .pre .0), carried (c .before .before .pre .1) refl k)
+
+-- src/lib.rt:123:9
+rests-c-both-requires : (t : ℕ) → rests-c-lts.Need-both-requires (rests-c-calls t) (rests-c-at t) rests-c.Post
+rests-c-both-requires t c κs = search needs
+
+-- src/lib.rt:123:9
+rests-c-returns : (t : ℕ) → rests-c-lts.Need-returns (rests-c-calls t) (rests-c-at t) rests-c.Post
+rests-c-returns t c = cc (case-rests-end (c .before .before .before .before .before .before .args .p .now .now) (c .before .before .before .before .before .before .args .j) (c .before .before .before .before .before .before .pre .1 .node) (c .before .before .before .before .before .before .args .st .now .now) (sym (c .before .before .before .before .fields .ensures .b-is) ∙ c .before .if1 .taken))
+
+-- src/lib.rt:125:9
+rests-c-rests-c-requires : (t : ℕ) → rests-c-lts.Need-rests-c-requires (rests-c-calls t) (rests-c-at t) rests-c.Post
+rests-c-rests-c-requires t c κs = let k = read (c .before .before .before .fields .ensures .b-is) (case-next (c .before .before .before .before .before .args .p .now .now) (c .before .before .before .before .before .args .j) (c .before .before .before .before .before .pre .1 .node) (λ h. c .if1 .left (c .before .before .before .fields .ensures .b-is ∙ h))) in (omega (arith, k .less, c .before .before .before .before .before .pre .0), carried (c .before .before .before .before .before .pre .1) refl k)
+
+-- src/lib.rt:126:5
+rests-c-both-requires-2 : (t : ℕ) → rests-c-lts.Need-both-requires-2 (rests-c-calls t) (rests-c-at t) rests-c.Post
+rests-c-both-requires-2 t c κs = search needs
+
+-- src/lib.rt:116:1
+rests-c-returns-2 : (t : ℕ) → rests-c-lts.Need-returns-2 (rests-c-calls t) (rests-c-at t) rests-c.Post
+rests-c-returns-2 t c = cc (case-rests-on (c .before .before .before .before .before .before .before .args .p .now .now) (c .before .before .before .before .before .before .before .args .j) (c .before .before .before .before .before .before .before .pre .1 .node) (c .before .before .before .before .before .before .before .args .st .now .now) (λ h. c .before .before .if1 .left (c .before .before .before .before .before .fields .ensures .b-is ∙ h)))
+
+-- src/lib.rt:74:9
 rests-s-fields-requires : (t : ℕ) → rests-s-lts.Need-fields-requires (rests-s-calls t) (rests-s-at t) rests-s.Post
-rests-s-fields-requires t c κs = omega (arith, c .before .before .before .pre .1 .node .inside, c .before .before .before .pre .1 .node .shaped .within)
+rests-s-fields-requires t c κs = omega (arith, c .before .pre .1 .node .inside, c .before .pre .1 .node .shaped .within)
 
--- src/lib.rt:76:17
+-- src/lib.rt:78:17
 rests-s-own-cell-requires : (t : ℕ) → rests-s-lts.Need-own-cell-requires (rests-s-calls t) (rests-s-at t) rests-s.Post
-rests-s-own-cell-requires t c κs = own-delay (c .before .before .before .before .before .args .p .now) (c .before .before .before .before .before .args .index .now) _ (c .before .before .before .before .before .args .i) (c .before .before .before .before .before .pre .1) (sym (c .before .fields .ensures .kind-is) ∙ c .match .keys1)
+rests-s-own-cell-requires t c κs = own-delay (c .before .before .before .before .before .args .p .now .now) (c .before .before .before .before .before .args .index .now) _ (c .before .before .before .before .before .args .i) (c .before .before .before .before .before .pre .1) (sym (c .before .before .before .fields .ensures .kind-is) ∙ c .before .before .match .keys1)
 
--- src/lib.rt:77:17
+-- src/lib.rt:79:17
 rests-s-rests-s-requires : (t : ℕ) → rests-s-lts.Need-rests-s-requires (rests-s-calls t) (rests-s-at t) rests-s.Post
-rests-s-rests-s-requires t c κs = let k = read (c .before .before .fields .ensures .a-is) (delay-kid (c .before .before .before .before .before .before .args .p .now) (c .before .before .before .before .before .before .args .i) (c .before .before .before .before .before .before .pre .1 .node) (sym (c .before .before .fields .ensures .kind-is) ∙ c .before .match .keys1)) in (omega (arith, k .less, c .before .before .before .before .before .before .pre .0), carried (c .before .before .before .before .before .before .pre .1) refl k)
+rests-s-rests-s-requires t c κs = let k = read (c .before .before .before .before .fields .ensures .a-is) (delay-kid (c .before .before .before .before .before .before .args .p .now .now) (c .before .before .before .before .before .before .args .i) (c .before .before .before .before .before .before .pre .1 .node) (sym (c .before .before .before .before .fields .ensures .kind-is) ∙ c .before .before .before .match .keys1)) in (omega (arith, k .less, c .before .before .before .before .before .before .pre .0), carried (c .before .before .before .before .before .before .pre .1) refl k)
 
--- src/lib.rt:78:23
+-- src/lib.rt:80:23
 rests-s-first-value-requires : (t : ℕ) → rests-s-lts.Need-first-value-requires (rests-s-calls t) (rests-s-at t) rests-s.Post
 rests-s-first-value-requires t c κs = search needs
 
--- src/lib.rt:78:13
+-- src/lib.rt:80:13
 rests-s-both-requires : (t : ℕ) → rests-s-lts.Need-both-requires (rests-s-calls t) (rests-s-at t) rests-s.Post
 rests-s-both-requires t c κs = search needs
 
--- src/lib.rt:81:17
+-- src/lib.rt:82:19
 rests-s-rests-s-requires-2 : (t : ℕ) → rests-s-lts.Need-rests-s-requires-2 (rests-s-calls t) (rests-s-at t) rests-s.Post
-rests-s-rests-s-requires-2 t c κs = let k = read (c .before .fields .ensures .a-is) (let-kids (c .before .before .before .before .before .args .p .now) (c .before .before .before .before .before .args .i) (c .before .before .before .before .before .pre .1 .node) (sym (c .before .fields .ensures .kind-is) ∙ c .match .keys2) .0) in (omega (arith, k .less, c .before .before .before .before .before .pre .0), carried (c .before .before .before .before .before .pre .1) refl k)
+rests-s-rests-s-requires-2 t c κs = let k = read (c .before .fields .ensures .a-is) (let-kids (c .before .before .before .args .p .now .now) (c .before .before .before .args .i) (c .before .before .before .pre .1 .node) (sym (c .before .fields .ensures .kind-is) ∙ c .match .keys2) .0) in (omega (arith, k .less, c .before .before .before .pre .0), carried (c .before .before .before .pre .1) refl k)
 
--- src/lib.rt:82:17
+-- src/lib.rt:82:47
 rests-s-rests-s-requires-3 : (t : ℕ) → rests-s-lts.Need-rests-s-requires-3 (rests-s-calls t) (rests-s-at t) rests-s.Post
-rests-s-rests-s-requires-3 t c κs = let k = read (c .before .before .fields .ensures .b-is) (let-kids (c .before .before .before .before .before .before .args .p .now) (c .before .before .before .before .before .before .args .i) (c .before .before .before .before .before .before .pre .1 .node) (sym (c .before .before .fields .ensures .kind-is) ∙ c .before .match .keys2) .1) in (omega (arith, k .less, c .before .before .before .before .before .before .pre .0), carried (c .before .before .before .before .before .before .pre .1) refl k)
+rests-s-rests-s-requires-3 t c κs = let k = read (c .before .before .fields .ensures .b-is) (let-kids (c .before .before .before .before .args .p .now .now) (c .before .before .before .before .args .i) (c .before .before .before .before .pre .1 .node) (sym (c .before .before .fields .ensures .kind-is) ∙ c .before .match .keys2) .1) in (omega (arith, k .less, c .before .before .before .before .pre .0), carried (c .before .before .before .before .pre .1) refl k)
 
--- src/lib.rt:83:13
+-- src/lib.rt:82:14
 rests-s-both-requires-2 : (t : ℕ) → rests-s-lts.Need-both-requires-2 (rests-s-calls t) (rests-s-at t) rests-s.Post
 rests-s-both-requires-2 t c κs = search needs
 
--- src/lib.rt:86:17
+-- src/lib.rt:84:17
 rests-s-own-cell-requires-2 : (t : ℕ) → rests-s-lts.Need-own-cell-requires-2 (rests-s-calls t) (rests-s-at t) rests-s.Post
-rests-s-own-cell-requires-2 t c κs = own-switch (c .before .before .before .before .before .args .p .now) (c .before .before .before .before .before .args .index .now) _ (c .before .before .before .before .before .args .i) (c .before .before .before .before .before .pre .1) (sym (c .before .fields .ensures .kind-is) ∙ c .match .keys3)
+rests-s-own-cell-requires-2 t c κs = own-switch (c .before .before .before .before .before .args .p .now .now) (c .before .before .before .before .before .args .index .now) _ (c .before .before .before .before .before .args .i) (c .before .before .before .before .before .pre .1) (sym (c .before .before .before .fields .ensures .kind-is) ∙ c .before .before .match .keys3)
+
+-- src/lib.rt:85:17
+rests-s-rests-s-requires-4 : (t : ℕ) → rests-s-lts.Need-rests-s-requires-4 (rests-s-calls t) (rests-s-at t) rests-s.Post
+rests-s-rests-s-requires-4 t c κs = let k = read (c .before .before .before .before .fields .ensures .a-is) (switch-kids (c .before .before .before .before .before .before .args .p .now .now) (c .before .before .before .before .before .before .args .i) (c .before .before .before .before .before .before .pre .1 .node) (sym (c .before .before .before .before .fields .ensures .kind-is) ∙ c .before .before .before .match .keys3) .0) in (omega (arith, k .less, c .before .before .before .before .before .before .pre .0), carried (c .before .before .before .before .before .before .pre .1) refl k)
+
+-- src/lib.rt:86:17
+rests-s-rests-s-requires-5 : (t : ℕ) → rests-s-lts.Need-rests-s-requires-5 (rests-s-calls t) (rests-s-at t) rests-s.Post
+rests-s-rests-s-requires-5 t c κs = let k = read (c .before .before .before .before .before .fields .ensures .b-is) (switch-kids (c .before .before .before .before .before .before .before .args .p .now .now) (c .before .before .before .before .before .before .before .args .i) (c .before .before .before .before .before .before .before .pre .1 .node) (sym (c .before .before .before .before .before .fields .ensures .kind-is) ∙ c .before .before .before .before .match .keys3) .1) in (omega (arith, k .less, c .before .before .before .before .before .before .before .pre .0), carried (c .before .before .before .before .before .before .before .pre .1) refl k)
 
 -- src/lib.rt:87:17
-rests-s-rests-s-requires-4 : (t : ℕ) → rests-s-lts.Need-rests-s-requires-4 (rests-s-calls t) (rests-s-at t) rests-s.Post
-rests-s-rests-s-requires-4 t c κs = let k = read (c .before .before .fields .ensures .a-is) (switch-kids (c .before .before .before .before .before .before .args .p .now) (c .before .before .before .before .before .before .args .i) (c .before .before .before .before .before .before .pre .1 .node) (sym (c .before .before .fields .ensures .kind-is) ∙ c .before .match .keys3) .0) in (omega (arith, k .less, c .before .before .before .before .before .before .pre .0), carried (c .before .before .before .before .before .before .pre .1) refl k)
-
--- src/lib.rt:88:17
-rests-s-rests-s-requires-5 : (t : ℕ) → rests-s-lts.Need-rests-s-requires-5 (rests-s-calls t) (rests-s-at t) rests-s.Post
-rests-s-rests-s-requires-5 t c κs = let k = read (c .before .before .before .fields .ensures .b-is) (switch-kids (c .before .before .before .before .before .before .before .args .p .now) (c .before .before .before .before .before .before .before .args .i) (c .before .before .before .before .before .before .before .pre .1 .node) (sym (c .before .before .before .fields .ensures .kind-is) ∙ c .before .before .match .keys3) .1) in (omega (arith, k .less, c .before .before .before .before .before .before .before .pre .0), carried (c .before .before .before .before .before .before .before .pre .1) refl k)
-
--- src/lib.rt:89:17
 rests-s-rests-s-requires-6 : (t : ℕ) → rests-s-lts.Need-rests-s-requires-6 (rests-s-calls t) (rests-s-at t) rests-s.Post
-rests-s-rests-s-requires-6 t c κs = let k = read (c .before .before .before .before .fields .ensures .c-is) (switch-kids (c .before .before .before .before .before .before .before .before .args .p .now) (c .before .before .before .before .before .before .before .before .args .i) (c .before .before .before .before .before .before .before .before .pre .1 .node) (sym (c .before .before .before .before .fields .ensures .kind-is) ∙ c .before .before .before .match .keys3) .2) in (omega (arith, k .less, c .before .before .before .before .before .before .before .before .pre .0), carried (c .before .before .before .before .before .before .before .before .pre .1) refl k)
+rests-s-rests-s-requires-6 t c κs = let k = read (c .before .before .before .before .before .before .fields .ensures .c-is) (switch-kids (c .before .before .before .before .before .before .before .before .args .p .now .now) (c .before .before .before .before .before .before .before .before .args .i) (c .before .before .before .before .before .before .before .before .pre .1 .node) (sym (c .before .before .before .before .before .before .fields .ensures .kind-is) ∙ c .before .before .before .before .before .match .keys3) .2) in (omega (arith, k .less, c .before .before .before .before .before .before .before .before .pre .0), carried (c .before .before .before .before .before .before .before .before .pre .1) refl k)
 
--- src/lib.rt:90:23
+-- src/lib.rt:88:23
 rests-s-both-requires-3 : (t : ℕ) → rests-s-lts.Need-both-requires-3 (rests-s-calls t) (rests-s-at t) rests-s.Post
 rests-s-both-requires-3 t c κs = search needs
 
--- src/lib.rt:90:18
+-- src/lib.rt:88:18
 rests-s-both-requires-4 : (t : ℕ) → rests-s-lts.Need-both-requires-4 (rests-s-calls t) (rests-s-at t) rests-s.Post
 rests-s-both-requires-4 t c κs = search needs
 
--- src/lib.rt:90:13
+-- src/lib.rt:88:13
 rests-s-both-requires-5 : (t : ℕ) → rests-s-lts.Need-both-requires-5 (rests-s-calls t) (rests-s-at t) rests-s.Post
 rests-s-both-requires-5 t c κs = search needs
 
--- src/lib.rt:93:17
+-- src/lib.rt:91:17
 rests-s-own-cell-requires-3 : (t : ℕ) → rests-s-lts.Need-own-cell-requires-3 (rests-s-calls t) (rests-s-at t) rests-s.Post
-rests-s-own-cell-requires-3 t c κs = own-group (c .before .before .before .before .before .args .p .now) (c .before .before .before .before .before .args .index .now) _ (c .before .before .before .before .before .args .i) (c .before .before .before .before .before .pre .1) (sym (c .before .fields .ensures .kind-is) ∙ c .match .keys4)
+rests-s-own-cell-requires-3 t c κs = own-group (c .before .before .before .before .before .args .p .now .now) (c .before .before .before .before .before .args .index .now) _ (c .before .before .before .before .before .args .i) (c .before .before .before .before .before .pre .1) (sym (c .before .before .before .fields .ensures .kind-is) ∙ c .before .before .match .keys4)
 
--- src/lib.rt:94:17
+-- src/lib.rt:92:17
 rests-s-rests-s-requires-7 : (t : ℕ) → rests-s-lts.Need-rests-s-requires-7 (rests-s-calls t) (rests-s-at t) rests-s.Post
-rests-s-rests-s-requires-7 t c κs = let k = read (c .before .before .fields .ensures .a-is) (group-kids (c .before .before .before .before .before .before .args .p .now) (c .before .before .before .before .before .before .args .i) (c .before .before .before .before .before .before .pre .1 .node) (sym (c .before .before .fields .ensures .kind-is) ∙ c .before .match .keys4) .0) in (omega (arith, k .less, c .before .before .before .before .before .before .pre .0), carried (c .before .before .before .before .before .before .pre .1) refl k)
+rests-s-rests-s-requires-7 t c κs = let k = read (c .before .before .before .before .fields .ensures .a-is) (group-kids (c .before .before .before .before .before .before .args .p .now .now) (c .before .before .before .before .before .before .args .i) (c .before .before .before .before .before .before .pre .1 .node) (sym (c .before .before .before .before .fields .ensures .kind-is) ∙ c .before .before .before .match .keys4) .0) in (omega (arith, k .less, c .before .before .before .before .before .before .pre .0), carried (c .before .before .before .before .before .before .pre .1) refl k)
 
--- src/lib.rt:95:17
+-- src/lib.rt:93:17
 rests-s-rests-b-requires : (t : ℕ) → rests-s-lts.Need-rests-b-requires (rests-s-calls t) (rests-s-at t) rests-s.Post
-rests-s-rests-b-requires t c κs = let k = read (c .before .before .before .fields .ensures .b-is) (group-kids (c .before .before .before .before .before .before .before .args .p .now) (c .before .before .before .before .before .before .before .args .i) (c .before .before .before .before .before .before .before .pre .1 .node) (sym (c .before .before .before .fields .ensures .kind-is) ∙ c .before .before .match .keys4) .1) in (omega (arith, k .less, c .before .before .before .before .before .before .before .pre .0), carried (c .before .before .before .before .before .before .before .pre .1) refl k)
+rests-s-rests-b-requires t c κs = let k = read (c .before .before .before .before .before .fields .ensures .b-is) (group-kids (c .before .before .before .before .before .before .before .args .p .now .now) (c .before .before .before .before .before .before .before .args .i) (c .before .before .before .before .before .before .before .pre .1 .node) (sym (c .before .before .before .before .before .fields .ensures .kind-is) ∙ c .before .before .before .before .match .keys4) .1) in (omega (arith, k .less, c .before .before .before .before .before .before .before .pre .0), carried (c .before .before .before .before .before .before .before .pre .1) refl k)
 
--- src/lib.rt:96:18
+-- src/lib.rt:94:18
 rests-s-both-requires-6 : (t : ℕ) → rests-s-lts.Need-both-requires-6 (rests-s-calls t) (rests-s-at t) rests-s.Post
 rests-s-both-requires-6 t c κs = search needs
 
--- src/lib.rt:96:13
+-- src/lib.rt:94:13
 rests-s-both-requires-7 : (t : ℕ) → rests-s-lts.Need-both-requires-7 (rests-s-calls t) (rests-s-at t) rests-s.Post
 rests-s-both-requires-7 t c κs = search needs
 
--- src/lib.rt:99:17
+-- src/lib.rt:96:19
 rests-s-rests-s-requires-8 : (t : ℕ) → rests-s-lts.Need-rests-s-requires-8 (rests-s-calls t) (rests-s-at t) rests-s.Post
-rests-s-rests-s-requires-8 t c κs = let k = read (c .before .fields .ensures .a-is) (until-kids (c .before .before .before .before .before .args .p .now) (c .before .before .before .before .before .args .i) (c .before .before .before .before .before .pre .1 .node) (sym (c .before .fields .ensures .kind-is) ∙ c .match .keys5) .0) in (omega (arith, k .less, c .before .before .before .before .before .pre .0), carried (c .before .before .before .before .before .pre .1) refl k)
+rests-s-rests-s-requires-8 t c κs = let k = read (c .before .fields .ensures .a-is) (until-kids (c .before .before .before .args .p .now .now) (c .before .before .before .args .i) (c .before .before .before .pre .1 .node) (sym (c .before .fields .ensures .kind-is) ∙ c .match .keys5) .0) in (omega (arith, k .less, c .before .before .before .pre .0), carried (c .before .before .before .pre .1) refl k)
 
--- src/lib.rt:100:17
+-- src/lib.rt:96:47
 rests-s-rests-c-requires : (t : ℕ) → rests-s-lts.Need-rests-c-requires (rests-s-calls t) (rests-s-at t) rests-s.Post
-rests-s-rests-c-requires t c κs = let k = read (c .before .before .fields .ensures .b-is) (until-kids (c .before .before .before .before .before .before .args .p .now) (c .before .before .before .before .before .before .args .i) (c .before .before .before .before .before .before .pre .1 .node) (sym (c .before .before .fields .ensures .kind-is) ∙ c .before .match .keys5) .1) in (omega (arith, k .less, c .before .before .before .before .before .before .pre .0), carried (c .before .before .before .before .before .before .pre .1) refl k)
+rests-s-rests-c-requires t c κs = let k = read (c .before .before .fields .ensures .b-is) (until-kids (c .before .before .before .before .args .p .now .now) (c .before .before .before .before .args .i) (c .before .before .before .before .pre .1 .node) (sym (c .before .before .fields .ensures .kind-is) ∙ c .before .match .keys5) .1) in (omega (arith, k .less, c .before .before .before .before .pre .0), carried (c .before .before .before .before .pre .1) refl k)
 
--- src/lib.rt:101:13
+-- src/lib.rt:96:14
 rests-s-both-requires-8 : (t : ℕ) → rests-s-lts.Need-both-requires-8 (rests-s-calls t) (rests-s-at t) rests-s.Post
 rests-s-both-requires-8 t c κs = search needs
 
--- src/lib.rt:68:1
+-- src/lib.rt:70:1
 rests-s-returns : (t : ℕ) → rests-s-lts.Need-returns (rests-s-calls t) (rests-s-at t) rests-s.Post
-rests-s-returns t c = cc (delay-rests (c .before .before .before .before .before .before .before .before .before .args .p .now) (c .before .before .before .before .before .before .before .before .before .args .index .now) _ (c .before .before .before .before .before .before .before .before .before .args .i) (c .before .before .before .before .before .before .before .before .before .pre .1) (c .before .before .before .before .before .before .before .before .before .args .st .now) (sym (c .before .before .before .before .before .fields .ensures .kind-is) ∙ c .before .before .before .before .match .keys1))
+rests-s-returns t c = cc (delay-rests (c .before .before .before .before .before .before .before .before .before .args .p .now .now) (c .before .before .before .before .before .before .before .before .before .args .index .now) _ (c .before .before .before .before .before .before .before .before .before .args .i) (c .before .before .before .before .before .before .before .before .before .pre .1) (c .before .before .before .before .before .before .before .before .before .args .st .now .now) (sym (c .before .before .before .before .before .before .before .fields .ensures .kind-is) ∙ c .before .before .before .before .before .before .match .keys1))
 
--- src/lib.rt:68:1
+-- src/lib.rt:70:1
 rests-s-returns-2 : (t : ℕ) → rests-s-lts.Need-returns-2 (rests-s-calls t) (rests-s-at t) rests-s.Post
-rests-s-returns-2 t c = cc (let-rests (c .before .before .before .before .before .before .before .before .args .p .now) (c .before .before .before .before .before .before .before .before .args .index .now) _ (c .before .before .before .before .before .before .before .before .args .i) (c .before .before .before .before .before .before .before .before .pre .1) (c .before .before .before .before .before .before .before .before .args .st .now) (sym (c .before .before .before .before .fields .ensures .kind-is) ∙ c .before .before .before .match .keys2))
+rests-s-returns-2 t c = cc (let-rests (c .before .before .before .before .before .before .args .p .now .now) (c .before .before .before .before .before .before .args .index .now) _ (c .before .before .before .before .before .before .args .i) (c .before .before .before .before .before .before .pre .1) (c .before .before .before .before .before .before .args .st .now .now) (sym (c .before .before .before .before .fields .ensures .kind-is) ∙ c .before .before .before .match .keys2))
 
--- src/lib.rt:68:1
+-- src/lib.rt:70:1
 rests-s-returns-3 : (t : ℕ) → rests-s-lts.Need-returns-3 (rests-s-calls t) (rests-s-at t) rests-s.Post
-rests-s-returns-3 t c = cc (switch-rests (c .before .before .before .before .before .before .before .before .before .before .before .before .args .p .now) (c .before .before .before .before .before .before .before .before .before .before .before .before .args .index .now) _ (c .before .before .before .before .before .before .before .before .before .before .before .before .args .i) (c .before .before .before .before .before .before .before .before .before .before .before .before .pre .1) (c .before .before .before .before .before .before .before .before .before .before .before .before .args .st .now) (sym (c .before .before .before .before .before .before .before .before .fields .ensures .kind-is) ∙ c .before .before .before .before .before .before .before .match .keys3))
+rests-s-returns-3 t c = cc (switch-rests (c .before .before .before .before .before .before .before .before .before .before .before .before .args .p .now .now) (c .before .before .before .before .before .before .before .before .before .before .before .before .args .index .now) _ (c .before .before .before .before .before .before .before .before .before .before .before .before .args .i) (c .before .before .before .before .before .before .before .before .before .before .before .before .pre .1) (c .before .before .before .before .before .before .before .before .before .before .before .before .args .st .now .now) (sym (c .before .before .before .before .before .before .before .before .before .before .fields .ensures .kind-is) ∙ c .before .before .before .before .before .before .before .before .before .match .keys3))
 
--- src/lib.rt:68:1
+-- src/lib.rt:70:1
 rests-s-returns-4 : (t : ℕ) → rests-s-lts.Need-returns-4 (rests-s-calls t) (rests-s-at t) rests-s.Post
-rests-s-returns-4 t c = cc (group-rests (c .before .before .before .before .before .before .before .before .before .before .args .p .now) (c .before .before .before .before .before .before .before .before .before .before .args .index .now) _ (c .before .before .before .before .before .before .before .before .before .before .args .i) (c .before .before .before .before .before .before .before .before .before .before .pre .1) (c .before .before .before .before .before .before .before .before .before .before .args .st .now) (sym (c .before .before .before .before .before .before .fields .ensures .kind-is) ∙ c .before .before .before .before .before .match .keys4))
+rests-s-returns-4 t c = cc (group-rests (c .before .before .before .before .before .before .before .before .before .before .args .p .now .now) (c .before .before .before .before .before .before .before .before .before .before .args .index .now) _ (c .before .before .before .before .before .before .before .before .before .before .args .i) (c .before .before .before .before .before .before .before .before .before .before .pre .1) (c .before .before .before .before .before .before .before .before .before .before .args .st .now .now) (sym (c .before .before .before .before .before .before .before .before .fields .ensures .kind-is) ∙ c .before .before .before .before .before .before .before .match .keys4))
 
--- src/lib.rt:68:1
+-- src/lib.rt:70:1
 rests-s-returns-5 : (t : ℕ) → rests-s-lts.Need-returns-5 (rests-s-calls t) (rests-s-at t) rests-s.Post
-rests-s-returns-5 t c = cc (until-rests (c .before .before .before .before .before .before .before .before .args .p .now) (c .before .before .before .before .before .before .before .before .args .index .now) _ (c .before .before .before .before .before .before .before .before .args .i) (c .before .before .before .before .before .before .before .before .pre .1) (c .before .before .before .before .before .before .before .before .args .st .now) (sym (c .before .before .before .before .fields .ensures .kind-is) ∙ c .before .before .before .match .keys5))
+rests-s-returns-5 t c = cc (until-rests (c .before .before .before .before .before .before .args .p .now .now) (c .before .before .before .before .before .before .args .index .now) _ (c .before .before .before .before .before .before .args .i) (c .before .before .before .before .before .before .pre .1) (c .before .before .before .before .before .before .args .st .now .now) (sym (c .before .before .before .before .fields .ensures .kind-is) ∙ c .before .before .before .match .keys5))
 
--- src/lib.rt:68:1
+-- src/lib.rt:70:1
 rests-s-returns-6 : (t : ℕ) → rests-s-lts.Need-returns-6 (rests-s-calls t) (rests-s-at t) rests-s.Post
-rests-s-returns-6 t c = quiet-rests (c .before .before .before .before .before .args .p .now) (c .before .before .before .before .before .args .index .now) _ (c .before .before .before .before .before .args .i) (c .before .before .before .before .before .pre .1) (c .before .before .before .before .before .args .st .now) (c .before .fields .ensures .kind-is) (c .match .rest)
+rests-s-returns-6 t c = quiet-rests (c .before .before .before .args .p .now .now) (c .before .before .before .args .index .now) _ (c .before .before .before .args .i) (c .before .before .before .pre .1) (c .before .before .before .args .st .now .now) (c .before .fields .ensures .kind-is) (c .match .rest)
 
 pub +rests-b+rests-c+rests-s-spec : {M : Type 1} → statement M
 +rests-b+rests-c+rests-s-spec = close μ-rests-b μ-rests-c μ-rests-s (λ t. rests-b-lts.spec (rests-b-calls t) (rests-b-at t)

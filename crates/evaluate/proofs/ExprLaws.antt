@@ -1,9 +1,6 @@
 -- An expression of each kind: its children are ready, and what it evaluates to by theirs.
 -- Assumes nothing.
 use mathlib.Core.Path.{_≡_, refl, sym, ap, _∙_, subst}
-use mathlib.Core.List.{List}
-use lib.ListN.{getD, set}
-use lib.Seq.{set-set, set-getD}
 use Prim.Native.Nat.{ℕ, _+_, _≤_, _<_, max}
 use native.Mathlib.Omega.{arith}
 use Rattle.rules.specs.Bytes.{Bytes}
@@ -172,7 +169,3 @@ module _ (p : Bytes) (n : ℕ) (w : NodeOf isExpression p n) (env : Env) where
       → partsOf r ≡ Wrong → evalE env (exprAt p n) ≡ Stuck
   unfolding rule after
   taking-stuck e {a} {r} ea er g = taking-eval e ∙ rw (← ea, ← er) (ap rule (take-wrong _ _ r g))
-
--- A slot that was set is put back.
-pub put-back : (l : List ℕ) (i v : ℕ) → set (set l i v) i (getD l i 0) ≡ l
-put-back l i v = set-set l i v (getD l i 0) ∙ set-getD l i 0

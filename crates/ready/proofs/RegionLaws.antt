@@ -18,11 +18,6 @@ use Rattle.ready.specs.Found.{Lets, noLet, adding, foundS}
 use Rattle.ready.specs.Regions.{markedIn, Entered}
 use Rattle.ready.proofs.Added.{none-s}
 
-pub put-back : (l : List ℕ) (i v : ℕ) → set (set l i v) i (getD l i 0) ≡ l
-put-back [] i v = refl
-put-back (x ∷ l) zero v = refl
-put-back (x ∷ l) (suc i) v = ap (λ (t : List ℕ). x ∷ t) (put-back l i v)
-
 -- Past the marks there is none.
 pub unmarked-past : (marks : List ℕ) (region x : ℕ) → 0 < region → length marks ≤ x → markedIn marks region x ≡ false
 unfolding markedIn

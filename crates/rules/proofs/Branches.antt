@@ -17,6 +17,7 @@ use Rattle.rules.specs.Scope.{hasBranch}
 use Rattle.rules.specs.Evaluate.{Env, bind, evalS, evalB}
 use Rattle.rules.specs.Update.{updS, updB}
 use Rattle.rules.specs.Bound.{boundS, boundSB, boundU, boundUB}
+use Rattle.rules.specs.Size.{sizeS, sizeB}
 use Rattle.rules.specs.Shaped.{NodeOf}
 use Rattle.rules.specs.declared.Value.{Value}
 use Rattle.rules.specs.declared.Evaluated.the-variants.{Stuck}
@@ -48,10 +49,11 @@ pub record Found (p : Bytes) (n k : ℕ) : Type 0 where
       → updB rec env k v (branchesAt p n) st ≡ updS rec (bind env k v) (signalAt p (aAt p k)) st
   pub evaluation : boundS (signalAt p (aAt p k)) ≤ boundSB (branchesAt p n)
   pub update : boundU (signalAt p (aAt p k)) ≤ boundUB (branchesAt p n)
+  pub size : sizeS (signalAt p (aAt p k)) ≤ sizeB (branchesAt p n)
 
 module _ (p : Bytes) (n : ℕ) (w : NodeOf isBranch p n) where
   found-here : Found p n n
-  unfolding evalB updB boundSB boundUB
+  unfolding evalB updB boundSB boundUB sizeB
   found-here =
       let e = branch-law p n w refl in
       record {
@@ -61,10 +63,11 @@ module _ (p : Bytes) (n : ℕ) (w : NodeOf isBranch p n) where
         updates = λ rec st env v. ap (λ (brs : Branches). updB rec env n v brs st) e ∙ simp (eq-eqb n n refl);
         evaluation = omega (arith, ap boundSB e);
         update = omega (arith, ap boundUB e);
+        size = omega (arith, ap sizeB e);
       }
 
   found-next : (k : ℕ) → (n ≡ k → ⊥) → (bAt p n ≡ 65535 → ⊥) → Found p (bAt p n) k → Found p n k
-  unfolding evalB updB boundSB boundUB
+  unfolding evalB updB boundSB boundUB sizeB
   found-next k d m f =
       let e = branch-on p n w m in
       record {
@@ -74,6 +77,7 @@ module _ (p : Bytes) (n : ℕ) (w : NodeOf isBranch p n) where
         updates = λ rec st env v. ap (λ (brs : Branches). updB rec env k v brs st) e ∙ simp (ne-eqb n k d) (f .updates rec st env v);
         evaluation = omega (arith, ap boundSB e, f .evaluation);
         update = omega (arith, ap boundUB e, f .update);
+        size = omega (arith, ap sizeB e, f .size);
       }
 
 found-in : (f : ℕ) (p : Bytes) (n k : ℕ) → n < f → NodeOf isBranch p n → hasBranch k (branchesAt p n) ≡ true → Found p n k

@@ -21,5 +21,6 @@ pub mod Once
 pub mod Rooted
 pub mod CellNumbers
 pub mod CellsOnce
+pub mod PutBack
 pub mod Recorded
 pub mod Branches

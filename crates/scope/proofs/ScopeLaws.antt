@@ -17,11 +17,6 @@ use Rattle.rules.proofs.Nodes.{expr-variable, expr-constant, expr-negation, exp
 use Rattle.rules.specs.Shaped.{NodeOf}
 use Rattle.rules.proofs.Expressions.{IsOperation, negation-kid, just-kid, choice-kids, taking-kids, operation-kids}
 
-pub put-back : (l : List ℕ) (i v : ℕ) → set (set l i v) i (getD l i 0) ≡ l
-put-back [] i v = refl
-put-back (x ∷ l) zero v = refl
-put-back (x ∷ l) (suc i) v = ap (λ (t : List ℕ). x ∷ t) (put-back l i v)
-
 pub unmarked-past : (marks : Marks) (n : ℕ) → length marks ≤ n → isMarked marks n ≡ false
 unfolding isMarked
 unmarked-past marks n h = rw (List·getD-eq-default marks 0 h)

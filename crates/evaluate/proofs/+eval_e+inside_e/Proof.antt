@@ -1,4 +1,5 @@
-use Rattle.evaluate.proofs.ExprLaws.{read, part-work, negation-part, just-part, choice-parts, taking-parts, operation-parts, chosen-part, pair-work, operation-pair, choice-pair, taking-pairs, variable-eval, constant-eval, negation-eval, just-eval, operation-eval, choice-goes, choice-stuck, taking-present, taking-absent, taking-stuck, put-back}
+use Rattle.rules.proofs.PutBack.{put-back}
+use Rattle.evaluate.proofs.ExprLaws.{read, part-work, negation-part, just-part, choice-parts, taking-parts, operation-parts, chosen-part, pair-work, operation-pair, choice-pair, taking-pairs, variable-eval, constant-eval, negation-eval, just-eval, operation-eval, choice-goes, choice-stuck, taking-present, taking-absent, taking-stuck}
 use Rattle.outcomes.proofs.Counted.{gives-stuck}
 use Rattle.outcomes.specs.Outcome.{outcomeIn, Slots}
 use Rattle.outcomes.proofs.Outcomes.{arm-work, take-work, take-value, slots-set, bind-value}

@@ -1,5 +1,6 @@
+use Rattle.rules.proofs.PutBack.{put-back}
 use Rattle.evaluate.proofs.SignalLaws.{read-s, part-work-s, let-work, let-pair, ext-part, let-parts, switch-parts, group-part, branch-part, until-part, cell-in, delay-cell, switch-cell, group-cell, input-eval, time-eval, ext-eval, until-eval, let-goes, let-stuck, bound-goes, delay-eval, switch-first, switch-second, group-body, group-branch, group-stuck}
-use Rattle.evaluate.proofs.ExprLaws.{read as read-e, part-work, put-back}
+use Rattle.evaluate.proofs.ExprLaws.{read as read-e, part-work}
 use Rattle.outcomes.specs.Outcome.{IsValue, IsProper, Slots}
 use Rattle.outcomes.proofs.Outcomes.{shown-value, shown-exact, shown-work, shown-stuck, slots-set, bind-value, exact-value, exact-same, proper-channel, proper-int}
 use Rattle.outcomes.proofs.Counted.{gives-stuck}

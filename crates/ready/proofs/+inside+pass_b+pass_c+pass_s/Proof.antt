@@ -1,3 +1,4 @@
+use Rattle.rules.proofs.PutBack.{put-back}
 use Rattle.rules.specs.Layout.{aAt, bAt}
 use mathlib.Core.Path.{refl, sym, ap, _∙_}
 use native.Mathlib.Omega.{arith}
@@ -10,7 +11,7 @@ use Rattle.rules.proofs.Signals.{time-left, ext-kid, delay-kid, let-kids, switc
 use Rattle.rules.specs.Tree.{signalAt}
 use Rattle.ready.specs.Regions.{markedIn}
 use Rattle.ready.specs.Found.{Lets, foundS}
-use Rattle.ready.proofs.RegionLaws.{put-back, entered, apart, marked, marked-entered}
+use Rattle.ready.proofs.RegionLaws.{entered, apart, marked, marked-entered}
 use Rattle.ready.proofs.ReadyLaws.{case-last-ready, case-more-ready}
 use Rattle.ready.proofs.FoundLaws.{input-found, time-found, ext-found, delay-found, let-found, switch-found, group-found, until-found, branch-last-found, branch-more-found}
 use Prim.Native.Nat.{ℕ, _<_}

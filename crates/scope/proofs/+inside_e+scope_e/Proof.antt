@@ -1,5 +1,6 @@
+use Rattle.rules.proofs.PutBack.{put-back}
 use lib.ListN.{set, getD}
-use Rattle.scope.proofs.ScopeLaws.{put-back, variable-scope, constant-scope, negation-scope, just-scope, choice-scope, taking-scope, operation-scope}
+use Rattle.scope.proofs.ScopeLaws.{variable-scope, constant-scope, negation-scope, just-scope, choice-scope, taking-scope, operation-scope}
 use Rattle.rules.proofs.Expressions.{left, negation-kid, just-kid, choice-kids, taking-kids, operation-kids}
 use Rattle.rules.proofs.Kids.{Child, read}
 use Rattle.rules.specs.Scope.{mark}

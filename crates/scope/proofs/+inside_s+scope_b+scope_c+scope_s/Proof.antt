@@ -1,5 +1,5 @@
+use Rattle.rules.proofs.PutBack.{put-back}
 use Rattle.scope.proofs.SignalScope.{no-offer, ext-scope, delay-scope, let-scope, switch-scope, group-scope, until-scope, leaf-scope, branch-last-scope, branch-more-scope, case-last-scope, case-more-scope}
-use Rattle.scope.proofs.ScopeLaws.{put-back}
 use Rattle.scope.specs.Offers.{offersAt}
 use Rattle.rules.proofs.Signals.{ext-kid, delay-kid, let-kids, switch-kids, group-kids, until-kids, branch-kid, branch-next, case-kid, case-next}
 use Rattle.rules.proofs.Kids.{Child, read}

@@ -1,7 +1,7 @@
+use Rattle.rules.proofs.PutBack.{put-back}
 use Rattle.moves.proofs.SmallLaws.{done-small, parts-small, moved-small, still-small, switch-small, group-small}
 use Rattle.moves.proofs.ReadyLaws.{ready-again, as-again, walk-again, delay-part, let-parts, switch-parts, group-part, branch-node, branch-part, until-parts, case-part, case-rest, placed, celled, cell-number}
 use Rattle.evaluate.proofs.SignalLaws.{delay-cell, switch-cell, group-cell}
-use Rattle.evaluate.proofs.ExprLaws.{put-back}
 use Rattle.update.proofs.Evaluable.{evaluable}
 use Rattle.moves.proofs.WalkLaws.{walk-wrong, walk-took, walk-quiet, rest-work, last-on, took-on, lost-on, goes-on, until-took, until-stuck, until-quiet, walk-count}
 use Rattle.moves.proofs.KindLaws.{delay-stuck, delay-broken, delay-done, let-stuck, let-broken, let-done, switch-wrong, switch-broken, switch-caught, switch-quiet, group-done, switch-first, switch-second, group-first, group-branch, group-missing, leaf-updates}

@@ -30,10 +30,11 @@ use Rattle.rules.specs.declared.Evaluated.the-variants.{Done, Stuck}
 use Rattle.rules.proofs.Nodes.{signal-input, signal-time}
 use Rattle.rules.proofs.Signals.{less, ext-tree, delay-tree, let-tree, switch-tree, group-tree, group-kids}
 use Rattle.rules.proofs.Branches.{found, missing-updates}
-use Rattle.values.specs.Combine.{partsBy, partsOf}
-use Rattle.values.specs.declared.Event.{Event}
-use Rattle.values.specs.declared.Event.the-variants.{Occurs, Quiet}
-use Rattle.values.specs.declared.Parts.the-variants.{Maybe, Wrong}
+use Rattle.outcomes.specs.Combine.{partsBy, partsOf}
+use Rattle.outcomes.specs.declared.Event.{Event}
+use Rattle.outcomes.specs.declared.Event.the-variants.{Occurs, Quiet}
+use Rattle.outcomes.specs.declared.Parts.the-variants.{Maybe, Wrong}
+use Rattle.outcomes.proofs.Outcomes.{parts-here}
 use Rattle.moves.specs.Outcomes.{calmOf}
 use Rattle.moves.specs.Parts.{inSwitch, switched, inGroup}
 use Rattle.moves.specs.declared.Calm.the-variants.{Still, Broken}
@@ -62,10 +63,10 @@ wrong-maybe e = let z : _≡_ {A = ℕ} 0 1 = cc in omega arith
 pub maybe-wrong : {e : Event} {w : Tally} → Maybe e w ≡ Wrong → ⊥
 maybe-wrong e = let z : _≡_ {A = ℕ} 0 1 = cc in omega arith
 
-pub quiet-occurs : {v : Value} {w u : Tally} → Maybe Quiet w ≡ Maybe (Occurs v) u → ⊥
+pub quiet-occurs : {v : ℕ} {w u : Tally} → Maybe Quiet w ≡ Maybe (Occurs v) u → ⊥
 quiet-occurs e = let z : _≡_ {A = ℕ} 0 1 = cc in omega arith
 
-pub occurs-quiet : {v : Value} {w u : Tally} → Maybe (Occurs v) u ≡ Maybe Quiet w → ⊥
+pub occurs-quiet : {v : ℕ} {w u : Tally} → Maybe (Occurs v) u ≡ Maybe Quiet w → ⊥
 occurs-quiet e = let z : _≡_ {A = ℕ} 0 1 = cc in omega arith
 
 -- A switch's event: no maybe, present, or absent.
@@ -90,18 +91,10 @@ module _ (X : Updated) (C : Bytes → Value → Updated) (Q : Bytes → Updated)
   event-wrong (Done v u) e = wrong-by (opened v) u e
   event-wrong Stuck e = refl
 
-  here-by : (o : Opened) (u₀ : Tally) {v : Value} {u : Tally} → partsBy o u₀ ≡ Maybe (Occurs v) u → afterᵘ u₀ (X thenᵘ on o) ≡ afterᵘ u (X thenᵘ λ st. C st v)
-  unfolding partsBy on onEvent
-  here-by (Here v₀) u₀ {v} {u} e =
-      let a : v₀ ≡ v = cc in
-      let b : u₀ ≡ u = cc in
-      λ i. afterᵘ (b i) (X thenᵘ λ st. C st (a i))
-  here-by Gone u₀ e = absurd (quiet-occurs e)
-  here-by Amiss u₀ e = absurd (wrong-maybe e)
-
-  event-here : (r : Evaluated) {v : Value} {u : Tally} → partsOf r ≡ Maybe (Occurs v) u → (r with λ a. X thenᵘ on (opened a)) ≡ afterᵘ u (X thenᵘ λ st. C st v)
-  unfolding partsOf _with_
-  event-here (Done v u) e = here-by (opened v) u e
+  event-here : (r : Evaluated) {v : ℕ} {u : Tally} → partsOf r ≡ Maybe (Occurs v) u
+      → (r with λ a. X thenᵘ on (opened a)) ≡ afterᵘ u (X thenᵘ λ st. C st (unpacked v))
+  unfolding partsOf _with_ on onEvent
+  event-here (Done a u₀) e = let k = parts-here a u₀ e in rw (k .0, k .1)
   event-here Stuck e = absurd (wrong-maybe e)
 
   gone-by : (o : Opened) (u₀ : Tally) {u : Tally} → partsBy o u₀ ≡ Maybe Quiet u → afterᵘ u₀ (X thenᵘ on o) ≡ afterᵘ u (X thenᵘ λ st. Q st)
@@ -239,12 +232,12 @@ module _ (p : Bytes) (i : ℕ) (w : NodeOf isSignal p i) {n : Node} (f : IsNode 
       after-event : {w : Tally} → calmOf m ≡ Still w → (g : Bytes → Updated) → (E thenᵘ g) ≡ afterᵘ w (g st₁)
       after-event c g = ap (λ (y : Updated). y thenᵘ g) (sym event-is) ∙ then-still m st₁ g c
 
-      pub switch-caught : {v : Value} {u : Tally} → partsOf r ≡ Maybe (Occurs v) u → {w : Tally} → calmOf m ≡ Still w → {st₂ : Bytes} → st₂ ≡ switched p i st₁ v
+      pub switch-caught : {v : ℕ} {u : Tally} → partsOf r ≡ Maybe (Occurs v) u → {w : Tally} → calmOf m ≡ Still w → {st₂ : Bytes} → st₂ ≡ switched p i st₁ (unpacked v)
           → {t : Updated} → t ≡ ruleᵘ (afterᵘ u (afterᵘ w (moved (Stay (record { work = 0 })) st₂))) → t ≡ updS rec env (signalAt p i) st
       unfolding moved leave nothing C
       switch-caught {v} {u} d {w} c s z =
           z ∙ ap (λ (b : Bytes). ruleᵘ (afterᵘ u (afterᵘ w (leave b)))) s
-          ∙ sym (by-event ∙ ap ruleᵘ (event-here E C Q r d ∙ ap (afterᵘ u) (after-event c λ b. C b v)))
+          ∙ sym (by-event ∙ ap ruleᵘ (event-here E C Q r d ∙ ap (afterᵘ u) (after-event c λ b. C b (unpacked v))))
 
       pub switch-quiet : {u : Tally} → partsOf r ≡ Maybe Quiet u → {w : Tally} → calmOf m ≡ Still w → {env₂ : Env} → env₂ ≡ env
           → {o : Updated} → o ≡ inSwitch p i rec env₂ st₁ → {y : Updated} → y ≡ stays o → {t : Updated} → t ≡ ruleᵘ (afterᵘ u (afterᵘ w y))

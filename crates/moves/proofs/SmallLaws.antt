@@ -23,10 +23,10 @@ use Rattle.rules.specs.declared.Evaluated.{Evaluated}
 use Rattle.rules.specs.declared.Evaluated.the-variants.{Done}
 use Rattle.rules.proofs.Signals.{switch-tree, group-tree}
 use Rattle.rules.proofs.Within.{Withinᵘ, evalS-within, updS-within, updB-within}
-use Rattle.values.specs.Combine.{workOf as evalWork, partsOf}
-use Rattle.values.specs.declared.Event.{Event}
-use Rattle.values.specs.declared.Parts.the-variants.{Maybe}
-use Rattle.values.proofs.Outcomes.{work-within, take-work}
+use Rattle.outcomes.specs.Combine.{workOf as evalWork, partsOf}
+use Rattle.outcomes.specs.declared.Event.{Event}
+use Rattle.outcomes.specs.declared.Parts.the-variants.{Maybe}
+use Rattle.outcomes.proofs.Outcomes.{work-within, take-work}
 use Rattle.moves.specs.Outcomes.{workOf, calmOf}
 use Rattle.moves.specs.declared.Calm.the-variants.{Still}
 use Rattle.moves.specs.Parts.{inSwitch, inGroup}
@@ -34,8 +34,8 @@ use Rattle.moves.specs.Lent.{ReadyAs}
 use Rattle.moves.proofs.OutcomeLaws.{still-work, moved-within}
 
 -- Of an evaluation.
-module _ (rec st : Bytes) (env : Env) (s : Signal) (b : boundS s < 4294967296) {r : Evaluated} (q : r ≡ evalS rec st env s) where
-  eval-small : evalWork r < 4294967296
+module _ (rec st : Bytes) (env : Env) (s : Signal) (b : boundS s < 65535) {r : Evaluated} (q : r ≡ evalS rec st env s) where
+  eval-small : evalWork r < 65535
   eval-small = rw q (omega (arith, work-within _ (evalS-within rec st env s)))
 
   pub done-small : {v : Value} {u : Tally} → r ≡ Done v u → u .work < 4294967296
@@ -58,7 +58,7 @@ pick-small : (t : Bool) (A B : Updated) {x y : ℕ} → Withinᵘ A x → Within
 pick-small true A B h g x y m st q = omega (arith, moved-within m st q h)
 pick-small false A B h g x y m st q = omega (arith, moved-within m st q g)
 
-module _ {p : Bytes} {index : List ℕ} {s e i : ℕ} {n : Node} where
+module _ {p : Bytes} {index : List ℕ} {s i : ℕ} {e : Env} {n : Node} where
   pub switch-small : ReadyAs 6 p index s e i n → (rec : Bytes) (env : Env) (st : Bytes) (m : Moved) (st₁ : Bytes) → moved m st₁ ≡ inSwitch p i rec env st
       → workOf m < 4294967296
   unfolding boundU

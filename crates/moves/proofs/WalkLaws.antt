@@ -4,6 +4,7 @@ use mathlib.Core.Path.{_≡_, refl, sym, ap, _∙_}
 use Prim.Native.Nat.{ℕ, _+_, _≤_}
 use native.Mathlib.Omega.{arith}
 use Rattle.rules.specs.Bytes.{Bytes}
+use Rattle.rules.specs.Values.{unpacked}
 use Rattle.rules.specs.Layout.{kindAt, aAt, bAt, cAt}
 use Rattle.rules.specs.Kinds.{isSignal, isCase}
 use Rattle.rules.specs.Node.{IsNode}
@@ -26,10 +27,11 @@ use Rattle.rules.specs.declared.Occurrence.the-variants.{Took, Quiet}
 use Rattle.rules.proofs.Nodes.{below-lt, below-ge}
 use Rattle.rules.proofs.Signals.{until-tree, case-law, case-next}
 use Rattle.rules.proofs.Within.{Withinᵘ, updS-within}
-use Rattle.values.specs.Combine.{partsBy, partsOf}
-use Rattle.values.specs.declared.Event.{Event}
-use Rattle.values.specs.declared.Event.the-variants.{Occurs}
-use Rattle.values.specs.declared.Parts.the-variants.{Maybe, Wrong}
+use Rattle.outcomes.specs.Combine.{partsBy, partsOf}
+use Rattle.outcomes.specs.declared.Event.{Event}
+use Rattle.outcomes.specs.declared.Event.the-variants.{Occurs}
+use Rattle.outcomes.specs.declared.Parts.the-variants.{Maybe, Wrong}
+use Rattle.outcomes.proofs.Outcomes.{parts-here}
 use Rattle.moves.specs.Outcomes.{countOf, occurred, walked, walkedOn, nextCases}
 use Rattle.moves.proofs.KindLaws.{wrong-maybe, maybe-wrong, quiet-occurs, occurs-quiet}
 
@@ -95,18 +97,9 @@ module _ (target : ℕ) (F : Occurrence) (st : Bytes) (X : Updated) where
   case-wrong (Done v u) e = wrong-by (opened v) u e
   case-wrong Stuck e = refl
 
-  here-by : (o : Opened) (u₀ : Tally) {v : Value} {u : Tally} → partsBy o u₀ ≡ Maybe (Occurs v) u → onOccurrence (occursIf o u₀ target F) st X ≡ Jump target v st u
-  unfolding partsBy occursIf onOccurrence
-  here-by (Here v₀) u₀ {v} {u} e =
-      let a : v₀ ≡ v = cc in
-      let b : u₀ ≡ u = cc in
-      λ i. Jump target (a i) st (b i)
-  here-by Gone u₀ e = absurd (quiet-occurs e)
-  here-by Amiss u₀ e = absurd (wrong-maybe e)
-
-  case-here : (r : Evaluated) {v : Value} {u : Tally} → partsOf r ≡ Maybe (Occurs v) u → onOccurrence (occurs r target F) st X ≡ Jump target v st u
-  unfolding partsOf occurs
-  case-here (Done v u) e = here-by (opened v) u e
+  case-here : (r : Evaluated) {v : ℕ} {u : Tally} → partsOf r ≡ Maybe (Occurs v) u → onOccurrence (occurs r target F) st X ≡ Jump target (unpacked v) st u
+  unfolding partsOf occurs occursIf onOccurrence
+  case-here (Done a u₀) e = let k = parts-here a u₀ e in rw (k .0, k .1)
   case-here Stuck e = absurd (wrong-maybe e)
 
   gone-by : (o : Opened) (u₀ : Tally) {u : Tally} → partsBy o u₀ ≡ Maybe Event.Quiet u → onOccurrence (occursIf o u₀ target F) st X ≡ afterᵘ u (onOccurrence F st X)
@@ -187,9 +180,10 @@ module _ (p : Bytes) (j : ℕ) (k : NodeOf isCase p j) {n : Node} (f : IsNode p 
     pub walk-wrong : partsOf r ≡ Wrong → Halted ≡ walked rec env (casesAt p j) st
     walk-wrong d = sym (by-event ∙ case-wrong (cAt p j) F st X r d)
 
-    pub walk-took : {v : Value} {u : Tally} → partsOf r ≡ Maybe (Occurs v) u → {t : ℕ} → t ≡ cAt p j → occurred (Took t v u) st ≡ walked rec env (casesAt p j) st
+    pub walk-took : {v : ℕ} {a : Value} {u : Tally} → partsOf r ≡ Maybe (Occurs v) u → a ≡ unpacked v → {t : ℕ} → t ≡ cAt p j
+        → occurred (Took t a u) st ≡ walked rec env (casesAt p j) st
     unfolding occurred
-    walk-took {v} {u} d e = ap (λ (t : ℕ). Jump t v st u) e ∙ sym (by-event ∙ case-here (cAt p j) F st X r d)
+    walk-took {v} {a} {u} d q e = (λ i. Jump (e i) (q i) st u) ∙ sym (by-event ∙ case-here (cAt p j) F st X r d)
 
     walk-gone : {u : Tally} → partsOf r ≡ Maybe Event.Quiet u
         → walked rec env (casesAt p j) st

@@ -3,9 +3,10 @@ ghost use mathlib.Core.Path.{_≡_};
 ghost use Prim.Native.Nat.{_+_, _*_, _≤_, _<_};
 ghost use lib.ListN.{length, getD};
 ghost use Rattle.rules.specs.Bytes.{Bytes};
-ghost use Rattle.rules.specs.Values.{packed};
+ghost use Rattle.rules.specs.Values.{packed, unpacked};
 ghost use Rattle.rules.specs.Layout.{records, cAt, hold as holdIn, holdBranch};
 ghost use Rattle.rules.specs.Work.{moved, stays, afterᵘ, ruleᵘ};
+ghost use Rattle.outcomes.specs.Outcome.{IsValue};
 ghost use Rattle.moves.specs.Outcomes.{workOf, calmOf, countOf, occurred};
 ghost use Rattle.moves.specs.Lent.{Celled};
 use cells::number_of;
@@ -14,8 +15,7 @@ use rules::Moved;
 use rules::Occurrence;
 use rules::Tally;
 use rules::Value;
-use table::record_at;
-use values::pack;
+use table::node_at;
 use values::plus;
 
 // Whether an update stays, with what it has counted; a jump that leaves it breaks it as being stuck does.
@@ -105,19 +105,19 @@ fn wide(x: u8) -> u32
 
 // The target of case j.
 pub fn target_of(p: &[u8], j: usize) -> u32
-    requires { ⌜ j < records (now p) ⌝ }
+    requires { ⌜ (j < records (now p)) × (j < 1008) ⌝ }
     ensures { λ k. ⌜ k ≡ cAt (now (p .entry)) j ⌝ }
 {
-    let at = record_at(p, j) + 6;
+    let at = node_at(p, j) + 6;
     wide(p[at]) + 256 * wide(p[at + 1])
 }
 
-// A value stored in the cell of node i.
-pub fn hold(index: &[u16], st: &mut [u8], i: usize, v: Value)
-    requires { ⌜ Celled (now index) (length (now st)) i ⌝ }
-    ensures { λ _. ⌜ now (st .exit) ≡ holdIn (now (st .entry)) (getD (now (index .entry)) i 0) v ⌝ }
+// The value of 8 bytes stored in the cell of node i.
+pub fn hold(index: &[u16], st: &mut [u8], i: usize, v: u64)
+    requires { ⌜ Celled (now index) (length (now st)) i × IsValue v ⌝ }
+    ensures { λ _. ⌜ now (st .exit) ≡ holdIn (now (st .entry)) (getD (now (index .entry)) i 0) (unpacked v) ⌝ }
 {
-    set_cell(st, number_of(index, i), pack(v));
+    set_cell(st, number_of(index, i), v);
 }
 
 // A type code as a 64-bit number.

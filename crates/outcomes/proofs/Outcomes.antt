@@ -151,6 +151,10 @@ parts-value (Here v) w h {m} e =
 parts-value Gone w h e = absurd (quiet-occurs e)
 parts-value Amiss w h e = absurd (parts-apart e)
 
+-- a present one: what it holds, and the count
+pub parts-here : (v : Value) (w : Tally) {m : ℕ} {u : Tally} → partsBy (opened v) w ≡ Maybe (Occurs m) u → (opened v ≡ Here (unpacked m)) × (w ≡ u)
+parts-here v w e = (parts-value (opened v) w (open-proper v) e .0, sym (taken-by (opened v) w e))
+
 pub take-value : (r : Evaluated) {q : Event} {u : Tally} {m : ℕ} → partsOf r ≡ Maybe q u → q ≡ Occurs m → IsValue m
 unfolding partsOf
 take-value (Done v w) e h = parts-value (opened v) w (open-proper v) (rw h at e) .1

@@ -6,8 +6,8 @@ use Rattle.moves.proofs.target_of.Statement.{statement}
 use Rattle.moves.proofs.target_of.Tie as tie
 
 -- src/lib.rt:87:14
-record-at-requires : tie.Need-record-at-requires
-record-at-requires c κs = search needs
+node-at-requires : tie.Need-node-at-requires
+node-at-requires c κs = search needs
 
 -- src/lib.rt:87:14
 add-at : tie.Need-add-at
@@ -44,13 +44,13 @@ add-result c = search needs
 -- src/lib.rt:83:1
 returns : tie.Need-returns
 unfolding cAt u16At byteAt
-returns c = rw (← c .before .before .before .before .record-at .ensures .0) (omega (arith, c .before .before .wide .ensures, c .wide2 .ensures))
+returns c = rw (← c .before .before .before .before .node-at .ensures .0) (omega (arith, c .before .before .wide .ensures, c .wide2 .ensures))
 
 pub target-of-spec : {M : Type 1} → statement M
 target-of-spec =
     tie.close
     (tie.spec
-    record-at-requires
+    node-at-requires
     add-at
     shared-slice-read-wide
     wide-requires

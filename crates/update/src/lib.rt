@@ -2,6 +2,7 @@
 ghost use mathlib.Core.Path.{_≡_};
 ghost use Prim.Native.Nat.{_<_};
 ghost use lib.ListN.{length};
+ghost use Rattle.rules.specs.Values.{unpacked};
 ghost use Rattle.rules.specs.Kinds.{isBranch};
 ghost use Rattle.rules.specs.Shaped.{NodeOf};
 ghost use Rattle.rules.specs.Layout.{aAt, bAt, cellsBefore};
@@ -9,13 +10,14 @@ ghost use Rattle.rules.specs.Tree.{signalAt, branchesAt, casesAt};
 ghost use Rattle.rules.specs.Work.{moved, stays, ruleᵘ};
 ghost use Rattle.rules.specs.Evaluate.{bind};
 ghost use Rattle.rules.specs.Update.{caught, updS};
+ghost use Rattle.outcomes.specs.Outcome.{IsValue};
 ghost use Rattle.moves.specs.Outcomes.{workOf, occurred, walked, walkedOn, nextCases};
 ghost use Rattle.moves.specs.Parts.{inSwitch, switched, inGroup, entered};
 ghost use Rattle.moves.specs.Lent.{Ready, ReadyAs, Placed, ReadyC, CaseAs};
 use branches::has_branch;
 use evaluate::branch_in;
 use evaluate::content;
-use evaluate::eval_s;
+use evaluate::evaluated;
 use moves::Calm;
 use moves::after;
 use moves::hold;
@@ -27,7 +29,12 @@ use moves::settled;
 use moves::stay;
 use moves::target_of;
 use moves::walk_after;
-use rules::Evaluated;
+use outcomes::Event;
+use outcomes::Parts;
+use outcomes::Shown;
+use outcomes::apart;
+use outcomes::exactly;
+use outcomes::show;
 use rules::Moved;
 use rules::Node;
 use rules::Occurrence;
@@ -35,17 +42,13 @@ use rules::Tally;
 use rules::Value;
 use state::reset_b;
 use state::reset_s;
-use table::fields;
-use values::Event;
-use values::Parts;
-use values::apart;
-use values::pack;
+use table::node;
 use values::unpack;
 
 // Switch i catches the value v: all cells of first and second go to start.
-fn switches(p: &[u8], index: &[u16], st: &mut [u8], i: usize, n: Node, v: Value)
-    requires { ⌜ Placed 6 (now p) (now index) (length (now st)) i n ⌝ }
-    ensures { λ _. ⌜ now (st .exit) ≡ switched (now (p .entry)) i (now (st .entry)) v ⌝ }
+fn switches(p: &&[u8], index: &[u16; 1008], st: &mut [u8], i: usize, n: Node, v: u64)
+    requires { ⌜ Placed 6 (now (now p)) (now index) (length (now st)) i n × IsValue v ⌝ }
+    ensures { λ _. ⌜ now (st .exit) ≡ switched (now (now (p .entry))) i (now (st .entry)) (unpacked v) ⌝ }
 {
     hold(index, st, i, v);
     reset_s(p, index, st, n.a);
@@ -53,9 +56,9 @@ fn switches(p: &[u8], index: &[u16], st: &mut [u8], i: usize, n: Node, v: Value)
 }
 
 // Group i takes the branch and the value v: all cells below it go to start.
-fn enters(p: &[u8], index: &[u16], st: &mut [u8], i: usize, n: Node, which: usize, v: Value)
-    requires { ⌜ Placed 7 (now p) (now index) (length (now st)) i n × NodeOf isBranch (now p) which ⌝ }
-    ensures { λ _. ⌜ now (st .exit) ≡ entered (now (p .entry)) i (now (st .entry)) which v ⌝ }
+fn enters(p: &&[u8], index: &[u16; 1008], st: &mut [u8], i: usize, n: Node, which: usize, v: Value)
+    requires { ⌜ Placed 7 (now (now p)) (now index) (length (now st)) i n × NodeOf isBranch (now (now p)) which ⌝ }
+    ensures { λ _. ⌜ now (st .exit) ≡ entered (now (now (p .entry))) i (now (st .entry)) which v ⌝ }
 {
     hold_branch(index, st, i, which, v);
     reset_s(p, index, st, n.a);
@@ -63,15 +66,15 @@ fn enters(p: &[u8], index: &[u16], st: &mut [u8], i: usize, n: Node, which: usiz
 }
 
 // The outcome of group i, by one rule: a jump to one of its branches is caught, another goes on up.
-fn catches(p: &[u8], index: &[u16], st: &mut [u8], i: usize, n: Node, r: Moved) -> Moved
-    requires { ⌜ Placed 7 (now p) (now index) (length (now st)) i n × (workOf r < 4294967296) ⌝ }
-    ensures { λ s. ⌜ moved s (now (st .exit)) ≡ ruleᵘ (caught (cellsBefore (now (p .entry)) i) (signalAt (now (p .entry)) (aAt (now (p .entry)) i)) (branchesAt (now (p .entry)) (bAt (now (p .entry)) i)) (moved r (now (st .entry)))) ⌝ }
+fn catches(p: &&[u8], index: &[u16; 1008], st: &mut [u8], i: usize, n: Node, r: Moved) -> Moved
+    requires { ⌜ Placed 7 (now (now p)) (now index) (length (now st)) i n × (workOf r < 4294967296) ⌝ }
+    ensures { λ s. ⌜ moved s (now (st .exit)) ≡ ruleᵘ (caught (cellsBefore (now (now (p .entry))) i) (signalAt (now (now (p .entry))) (aAt (now (now (p .entry))) i)) (branchesAt (now (now (p .entry))) (bAt (now (now (p .entry))) i)) (moved r (now (st .entry)))) ⌝ }
 {
     match r {
         Moved::Stay(_) => ruled(r),
         Moved::Jump(target, v, w) => {
             let which = target as usize;
-            if has_branch(p, index, n.b, which) {
+            if has_branch(*p, index, n.b, which) {
                 enters(p, index, st, i, n, which, v);
                 return ruled(Moved::Stay(w));
             }
@@ -83,17 +86,17 @@ fn catches(p: &[u8], index: &[u16], st: &mut [u8], i: usize, n: Node, r: Moved) 
 
 // Signal i goes one step on. Input, time and ext do nothing.
 pub fn update_s(
-    p: &[u8],
-    index: &[u16],
-    rec: &[u8],
+    p: &&[u8],
+    index: &[u16; 1008],
+    rec: &&[u8],
     st: &mut [u8],
-    env: &mut [u64],
+    env: &mut [u64; 1008],
     i: usize,
 ) -> Moved
-    requires { ⌜ Ready (now p) (now index) (length (now st)) (length (now env)) i ⌝ }
-    ensures { λ r. ⌜ (moved r (now (st .exit)) ≡ updS (now (rec .entry)) (now (env .entry)) (signalAt (now (p .entry)) i) (now (st .entry))) × (now (env .exit) ≡ now (env .entry)) ⌝ }
+    requires { ⌜ Ready (now (now p)) (now index) (length (now st)) (now env) i ⌝ }
+    ensures { λ r. ⌜ (moved r (now (st .exit)) ≡ updS (now (now (rec .entry))) (now (env .entry)) (signalAt (now (now (p .entry))) i) (now (st .entry))) × (now (env .exit) ≡ now (env .entry)) ⌝ }
 {
-    let n = fields(p, i);
+    let n = node(*p, i);
     let k = n.kind;
     match k {
         4 => update_delay(p, index, rec, st, env, i, n),
@@ -107,20 +110,20 @@ pub fn update_s(
 
 // Signal k with the value v in slot i, which is then put back.
 fn inside(
-    p: &[u8],
-    index: &[u16],
-    rec: &[u8],
+    p: &&[u8],
+    index: &[u16; 1008],
+    rec: &&[u8],
     st: &mut [u8],
-    env: &mut [u64],
+    env: &mut [u64; 1008],
     i: usize,
-    v: Value,
+    v: u64,
     k: usize,
 ) -> Moved
-    requires { ⌜ Ready (now p) (now index) (length (now st)) (length (now env)) k × (i < length (now env)) ⌝ }
-    ensures { λ r. ⌜ (moved r (now (st .exit)) ≡ updS (now (rec .entry)) (bind (now (env .entry)) i v) (signalAt (now (p .entry)) k) (now (st .entry))) × (now (env .exit) ≡ now (env .entry)) ⌝ }
+    requires { ⌜ Ready (now (now p)) (now index) (length (now st)) (now env) k × (i < 1008) × IsValue v ⌝ }
+    ensures { λ r. ⌜ (moved r (now (st .exit)) ≡ updS (now (now (rec .entry))) (bind (now (env .entry)) i (unpacked v)) (signalAt (now (now (p .entry))) k) (now (st .entry))) × (now (env .exit) ≡ now (env .entry)) ⌝ }
 {
     let old = env[i];
-    env[i] = pack(v);
+    env[i] = v;
     let r = update_s(p, index, rec, st, env, k);
     env[i] = old;
     r
@@ -128,19 +131,19 @@ fn inside(
 
 // A delay evaluates its signal, updates it, then holds that value.
 fn update_delay(
-    p: &[u8],
-    index: &[u16],
-    rec: &[u8],
+    p: &&[u8],
+    index: &[u16; 1008],
+    rec: &&[u8],
     st: &mut [u8],
-    env: &mut [u64],
+    env: &mut [u64; 1008],
     i: usize,
     n: Node,
 ) -> Moved
-    requires { ⌜ ReadyAs 4 (now p) (now index) (length (now st)) (length (now env)) i n ⌝ }
-    ensures { λ r. ⌜ (moved r (now (st .exit)) ≡ updS (now (rec .entry)) (now (env .entry)) (signalAt (now (p .entry)) i) (now (st .entry))) × (now (env .exit) ≡ now (env .entry)) ⌝ }
+    requires { ⌜ ReadyAs 4 (now (now p)) (now index) (length (now st)) (now env) i n ⌝ }
+    ensures { λ r. ⌜ (moved r (now (st .exit)) ≡ updS (now (now (rec .entry))) (now (env .entry)) (signalAt (now (now (p .entry))) i) (now (st .entry))) × (now (env .exit) ≡ now (env .entry)) ⌝ }
 {
-    let e = eval_s(p, index, rec, st, env, n.a);
-    let Evaluated::Done(v, u) = e else {
+    let e = evaluated(p, index, rec, st, env, n.a);
+    let Shown::Value(v, u) = show(e) else {
         return Moved::Stuck;
     };
     let r = update_s(p, index, rec, st, env, n.a);
@@ -153,19 +156,19 @@ fn update_delay(
 
 // A let evaluates its definition, binds, updates the definition, then the body.
 fn update_let(
-    p: &[u8],
-    index: &[u16],
-    rec: &[u8],
+    p: &&[u8],
+    index: &[u16; 1008],
+    rec: &&[u8],
     st: &mut [u8],
-    env: &mut [u64],
+    env: &mut [u64; 1008],
     i: usize,
     n: Node,
 ) -> Moved
-    requires { ⌜ ReadyAs 5 (now p) (now index) (length (now st)) (length (now env)) i n ⌝ }
-    ensures { λ r. ⌜ (moved r (now (st .exit)) ≡ updS (now (rec .entry)) (now (env .entry)) (signalAt (now (p .entry)) i) (now (st .entry))) × (now (env .exit) ≡ now (env .entry)) ⌝ }
+    requires { ⌜ ReadyAs 5 (now (now p)) (now index) (length (now st)) (now env) i n ⌝ }
+    ensures { λ r. ⌜ (moved r (now (st .exit)) ≡ updS (now (now (rec .entry))) (now (env .entry)) (signalAt (now (now (p .entry))) i) (now (st .entry))) × (now (env .exit) ≡ now (env .entry)) ⌝ }
 {
-    let e = eval_s(p, index, rec, st, env, n.a);
-    let Evaluated::Done(v, u) = e else {
+    let e = evaluated(p, index, rec, st, env, n.a);
+    let Shown::Value(v, u) = show(e) else {
         return Moved::Stuck;
     };
     let d = inside(p, index, rec, st, env, i, v, n.a);
@@ -178,18 +181,18 @@ fn update_let(
 
 // A switch evaluates and updates its event; if it is present, the switch catches the value, else it updates the current part.
 fn update_switch(
-    p: &[u8],
-    index: &[u16],
-    rec: &[u8],
+    p: &&[u8],
+    index: &[u16; 1008],
+    rec: &&[u8],
     st: &mut [u8],
-    env: &mut [u64],
+    env: &mut [u64; 1008],
     i: usize,
     n: Node,
 ) -> Moved
-    requires { ⌜ ReadyAs 6 (now p) (now index) (length (now st)) (length (now env)) i n ⌝ }
-    ensures { λ r. ⌜ (moved r (now (st .exit)) ≡ updS (now (rec .entry)) (now (env .entry)) (signalAt (now (p .entry)) i) (now (st .entry))) × (now (env .exit) ≡ now (env .entry)) ⌝ }
+    requires { ⌜ ReadyAs 6 (now (now p)) (now index) (length (now st)) (now env) i n ⌝ }
+    ensures { λ r. ⌜ (moved r (now (st .exit)) ≡ updS (now (now (rec .entry))) (now (env .entry)) (signalAt (now (now (p .entry))) i) (now (st .entry))) × (now (env .exit) ≡ now (env .entry)) ⌝ }
 {
-    let e = eval_s(p, index, rec, st, env, n.b);
+    let e = evaluated(p, index, rec, st, env, n.b);
     let Parts::Maybe(event, u) = apart(e) else {
         return Moved::Stuck;
     };
@@ -207,37 +210,37 @@ fn update_switch(
 
 // The current part of a switch: first until it has switched, then second, its variable bound.
 fn in_switch(
-    p: &[u8],
-    index: &[u16],
-    rec: &[u8],
+    p: &&[u8],
+    index: &[u16; 1008],
+    rec: &&[u8],
     st: &mut [u8],
-    env: &mut [u64],
+    env: &mut [u64; 1008],
     i: usize,
     n: Node,
 ) -> Moved
-    requires { ⌜ ReadyAs 6 (now p) (now index) (length (now st)) (length (now env)) i n ⌝ }
-    ensures { λ r. ⌜ (moved r (now (st .exit)) ≡ inSwitch (now (p .entry)) i (now (rec .entry)) (now (env .entry)) (now (st .entry))) × (now (env .exit) ≡ now (env .entry)) ⌝ }
+    requires { ⌜ ReadyAs 6 (now (now p)) (now index) (length (now st)) (now env) i n ⌝ }
+    ensures { λ r. ⌜ (moved r (now (st .exit)) ≡ inSwitch (now (now (p .entry))) i (now (now (rec .entry))) (now (env .entry)) (now (st .entry))) × (now (env .exit) ≡ now (env .entry)) ⌝ }
 {
     let m = content(index, st, i);
     if m == 0 {
         let first = n.a;
         return update_s(p, index, rec, st, env, first);
     }
-    inside(p, index, rec, st, env, i, unpack(m), n.c)
+    inside(p, index, rec, st, env, i, exactly(m), n.c)
 }
 
 // A let continue updates its current part; a jump to one of its branches is caught.
 fn update_group(
-    p: &[u8],
-    index: &[u16],
-    rec: &[u8],
+    p: &&[u8],
+    index: &[u16; 1008],
+    rec: &&[u8],
     st: &mut [u8],
-    env: &mut [u64],
+    env: &mut [u64; 1008],
     i: usize,
     n: Node,
 ) -> Moved
-    requires { ⌜ ReadyAs 7 (now p) (now index) (length (now st)) (length (now env)) i n ⌝ }
-    ensures { λ r. ⌜ (moved r (now (st .exit)) ≡ updS (now (rec .entry)) (now (env .entry)) (signalAt (now (p .entry)) i) (now (st .entry))) × (now (env .exit) ≡ now (env .entry)) ⌝ }
+    requires { ⌜ ReadyAs 7 (now (now p)) (now index) (length (now st)) (now env) i n ⌝ }
+    ensures { λ r. ⌜ (moved r (now (st .exit)) ≡ updS (now (now (rec .entry))) (now (env .entry)) (signalAt (now (now (p .entry))) i) (now (st .entry))) × (now (env .exit) ≡ now (env .entry)) ⌝ }
 {
     let r = in_group(p, index, rec, st, env, i, n);
     catches(p, index, st, i, n, r)
@@ -245,41 +248,41 @@ fn update_group(
 
 // The current part of a group: its body, or the branch that its cell names, the argument bound.
 fn in_group(
-    p: &[u8],
-    index: &[u16],
-    rec: &[u8],
+    p: &&[u8],
+    index: &[u16; 1008],
+    rec: &&[u8],
     st: &mut [u8],
-    env: &mut [u64],
+    env: &mut [u64; 1008],
     i: usize,
     n: Node,
 ) -> Moved
-    requires { ⌜ ReadyAs 7 (now p) (now index) (length (now st)) (length (now env)) i n ⌝ }
-    ensures { λ r. ⌜ (moved r (now (st .exit)) ≡ inGroup (now (p .entry)) i (now (rec .entry)) (now (env .entry)) (now (st .entry))) × (now (env .exit) ≡ now (env .entry)) ⌝ }
+    requires { ⌜ ReadyAs 7 (now (now p)) (now index) (length (now st)) (now env) i n ⌝ }
+    ensures { λ r. ⌜ (moved r (now (st .exit)) ≡ inGroup (now (now (p .entry))) i (now (now (rec .entry))) (now (env .entry)) (now (st .entry))) × (now (env .exit) ≡ now (env .entry)) ⌝ }
 {
     let m = content(index, st, i);
     if m == 0 {
         return update_s(p, index, rec, st, env, n.a);
     }
     let which = branch_in(m);
-    if has_branch(p, index, n.b, which) {
-        let branch = fields(p, which);
-        return inside(p, index, rec, st, env, which, unpack(m), branch.a);
+    if has_branch(*p, index, n.b, which) {
+        let branch = node(*p, which);
+        return inside(p, index, rec, st, env, which, exactly(m), branch.a);
     }
     Moved::Stuck
 }
 
 // An until jumps by the first present event; if none is present, events and signal are updated.
 fn update_until(
-    p: &[u8],
-    index: &[u16],
-    rec: &[u8],
+    p: &&[u8],
+    index: &[u16; 1008],
+    rec: &&[u8],
     st: &mut [u8],
-    env: &mut [u64],
+    env: &mut [u64; 1008],
     i: usize,
     n: Node,
 ) -> Moved
-    requires { ⌜ ReadyAs 8 (now p) (now index) (length (now st)) (length (now env)) i n ⌝ }
-    ensures { λ r. ⌜ (moved r (now (st .exit)) ≡ updS (now (rec .entry)) (now (env .entry)) (signalAt (now (p .entry)) i) (now (st .entry))) × (now (env .exit) ≡ now (env .entry)) ⌝ }
+    requires { ⌜ ReadyAs 8 (now (now p)) (now index) (length (now st)) (now env) i n ⌝ }
+    ensures { λ r. ⌜ (moved r (now (st .exit)) ≡ updS (now (now (rec .entry))) (now (env .entry)) (signalAt (now (now (p .entry))) i) (now (st .entry))) × (now (env .exit) ≡ now (env .entry)) ⌝ }
 {
     let o = walk(p, index, rec, st, env, n.b);
     match o {
@@ -293,12 +296,19 @@ fn update_until(
 }
 
 // The cases from case j on: events in list order up to the first present one.
-fn walk(p: &[u8], index: &[u16], rec: &[u8], st: &mut [u8], env: &mut [u64], j: usize) -> Occurrence
-    requires { ⌜ ReadyC (now p) (now index) (length (now st)) (length (now env)) j ⌝ }
-    ensures { λ r. ⌜ (occurred r (now (st .exit)) ≡ walked (now (rec .entry)) (now (env .entry)) (casesAt (now (p .entry)) j) (now (st .entry))) × (now (env .exit) ≡ now (env .entry)) ⌝ }
+fn walk(
+    p: &&[u8],
+    index: &[u16; 1008],
+    rec: &&[u8],
+    st: &mut [u8],
+    env: &mut [u64; 1008],
+    j: usize,
+) -> Occurrence
+    requires { ⌜ ReadyC (now (now p)) (now index) (length (now st)) (now env) j ⌝ }
+    ensures { λ r. ⌜ (occurred r (now (st .exit)) ≡ walked (now (now (rec .entry))) (now (env .entry)) (casesAt (now (now (p .entry))) j) (now (st .entry))) × (now (env .exit) ≡ now (env .entry)) ⌝ }
 {
-    let n = fields(p, j);
-    let e = eval_s(p, index, rec, st, env, n.a);
+    let n = node(*p, j);
+    let e = evaluated(p, index, rec, st, env, n.a);
     let Parts::Maybe(event, u) = apart(e) else {
         return Occurrence::Stuck;
     };
@@ -306,21 +316,21 @@ fn walk(p: &[u8], index: &[u16], rec: &[u8], st: &mut [u8], env: &mut [u64], j: 
         let rest = walk_on(p, index, rec, st, env, j, n);
         return walk_after(u, rest);
     };
-    Occurrence::Took(target_of(p, j), v, u)
+    Occurrence::Took(target_of(*p, j), unpack(v), u)
 }
 
 // The cases after case j, whose event is absent; where none is present, the event is updated on the way back.
 fn walk_on(
-    p: &[u8],
-    index: &[u16],
-    rec: &[u8],
+    p: &&[u8],
+    index: &[u16; 1008],
+    rec: &&[u8],
     st: &mut [u8],
-    env: &mut [u64],
+    env: &mut [u64; 1008],
     j: usize,
     n: Node,
 ) -> Occurrence
-    requires { ⌜ CaseAs (now p) (now index) (length (now st)) (length (now env)) j n ⌝ }
-    ensures { λ r. ⌜ (occurred r (now (st .exit)) ≡ walkedOn (walked (now (rec .entry)) (now (env .entry)) (nextCases (now (p .entry)) j) (now (st .entry))) (λ s. stays (updS (now (rec .entry)) (now (env .entry)) (signalAt (now (p .entry)) (aAt (now (p .entry)) j)) s))) × (now (env .exit) ≡ now (env .entry)) ⌝ }
+    requires { ⌜ CaseAs (now (now p)) (now index) (length (now st)) (now env) j n ⌝ }
+    ensures { λ r. ⌜ (occurred r (now (st .exit)) ≡ walkedOn (walked (now (now (rec .entry))) (now (env .entry)) (nextCases (now (now (p .entry))) j) (now (st .entry))) (λ s. stays (updS (now (now (rec .entry))) (now (env .entry)) (signalAt (now (now (p .entry))) (aAt (now (now (p .entry))) j)) s))) × (now (env .exit) ≡ now (env .entry)) ⌝ }
 {
     if n.b == 65535 {
         let last = update_s(p, index, rec, st, env, n.a);

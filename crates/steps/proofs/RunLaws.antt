@@ -107,15 +107,15 @@ pub one-length : (p st st₁ : Bytes) → wellFormed p st ≡ true → wellForme
 one-length p st st₁ e f = well-parts p st e .long ∙ sym (well-parts p st₁ f .long)
 
 -- a run on its way, at its next record: it goes on, stops, or has come to its end
-module _ {p : Bytes} {index : List ℕ} {recs st₀ : Bytes} {env₀ : Env} {out₀ st : Bytes} {env : Env} {out : Bytes} {count left done work : ℕ}
-    (w : OnTheWay p index recs st₀ env₀ out₀ st env out count left done work) where
+module _ {p : Bytes} {index : List ℕ} {recs st₀ out₀ st : Bytes} {env : Env} {out : Bytes} {count left done work : ℕ}
+    (w : OnTheWay p index recs st₀ out₀ st env out count left done work) where
   module _ (h : done < left) {v : Verdict} (e : v ≡ recordVerdict p done work st (take (40 * done + 40 - 40 * done) (drop (40 * done) recs))) where
     judged : v ≡ recordVerdict p done work st (inputAt recs done)
     judged = e ∙ ap (recordVerdict p done work st) (slice-is recs done)
 
     pub goes-on : v ≡ Fine → {st₁ out₁ : Bytes} {n : ℕ}
         → Taken p (take (40 * done + 40 - 40 * done) (drop (40 * done) recs)) st st₁ out out₁ (8 * done) n → {env₁ : Env} → env₁ ≡ env
-        → OnTheWay p index recs st₀ env₀ out₀ st₁ env₁ out₁ count left (done + 1) (work + n)
+        → OnTheWay p index recs st₀ out₀ st₁ env₁ out₁ count left (done + 1) (work + n)
     goes-on f {st₁} {out₁} {n} t q =
         let fine : recordVerdict p done work st (inputAt recs done) ≡ Fine = sym judged ∙ f in
         let well = t .well (record-in-time p done work st _ (sym e ∙ f)) in
@@ -126,7 +126,6 @@ module _ {p : Bytes} {index : List ℕ} {recs st₀ : Bytes} {env₀ : Env} {out
           within = omega arith;
           fits = omega (arith, total-fits p done work st (inputAt recs done) fine, t .within);
           cells = one-length p st₁ st well (w .going .well) ∙ w .cells;
-          slots = ap length q ∙ w .slots;
           room = ap length (t .shown) ∙ length-writeAt (valueBytes (t .output)) out (8 * done) ∙ w .room;
           same = sym (run-next p recs left done work n st st₁ out out₁ h fine t₁) ∙ w .same;
         }
@@ -143,7 +142,7 @@ module _ {p : Bytes} {index : List ℕ} {recs st₀ : Bytes} {env₀ : Env} {out
 
 -- at its beginning
 pub begun : (p : Bytes) (index : List ℕ) (recs st : Bytes) (env : Env) (out : Bytes) (count : ℕ) → Going p index st env count
-    → OnTheWay p index recs st env out st env out count (length recs / 40) 0 0
+    → OnTheWay p index recs st out st env out count (length recs / 40) 0 0
 begun p index recs st env out count g =
     let e : length recs / 40 - 0 ≡ length recs / 40 = omega arith in
     record {
@@ -152,7 +151,6 @@ begun p index recs st env out count g =
       within = omega arith;
       fits = omega arith;
       cells = refl;
-      slots = refl;
       room = refl;
       same = ap (λ (k : ℕ). runFrom p recs k 0 0 st out) e;
     }

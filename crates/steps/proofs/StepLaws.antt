@@ -1,11 +1,11 @@
 -- What a step of an accepted program needs, and what it comes to.
 -- Assumes nothing.
-use mathlib.Core.Path.{_≡_, refl, sym, ap, _∙_}
+use mathlib.Core.Path.{_≡_, refl, sym, ap, _∙_, subst}
 use mathlib.Core.Bool.{Bool, true, false}
 use mathlib.Core.List.{List}
 use Prim.Native.Nat.{ℕ, _+_, _-_, _*_, _<_, _≤_}
 use native.Mathlib.Omega.{arith}
-use lib.ListN.{length, length-replicate}
+use lib.ListN.{length}
 use Rattle.rules.specs.Bytes.{Bytes, writeAt, bytesOf}
 use Rattle.rules.specs.Values.{packed, valueBytes}
 use Rattle.rules.specs.Layout.{nodes, mostNodes, cellAt, stateLength, timeIn, setTime}
@@ -24,7 +24,10 @@ use Rattle.rules.specs.declared.Evaluated.{Evaluated}
 use Rattle.rules.specs.declared.Evaluated.the-variants.{Done, Stuck}
 use Rattle.rules.specs.declared.Moved.{Moved}
 use Rattle.rules.proofs.Rooted.{some-node, root-of, shaped-of}
-use Rattle.rules.proofs.Once.{bound-small}
+use Rattle.rules.proofs.Once.{bound-small, tree-small}
+use Rattle.rules.proofs.Bounds.{boundS≤}
+use Rattle.rules.specs.Size.{sizeS}
+use Rattle.outcomes.specs.Outcome.{Slots}
 use Rattle.cells.specs.Indexed.{Indexed}
 use Rattle.evaluate.specs.Ready.{ReadyS}
 use Rattle.moves.specs.Lent.{Ready}
@@ -32,13 +35,13 @@ use native.Mathlib.Nat.{mul-le-mul}
 use lib.Dec.{ltb}
 use borrow.Author.Tests.{ltb-true, ltb-false, lt-ltb, le-ltb}
 use Rattle.rules.specs.Calls.{totalWrong}
-use Rattle.values.specs.Combine.{workOf}
-use Rattle.values.proofs.Outcomes.{work-within}
+use Rattle.outcomes.specs.Combine.{workOf}
+use Rattle.outcomes.proofs.Outcomes.{work-within, slots-none}
 use Rattle.rules.proofs.Within.{evalS-within}
 use Rattle.promises.specs.Small.{Small}
 use Rattle.promises.proofs.FromTable.{seated}
 use Rattle.promises.proofs.Steps.{StepGoes, step-goes, well-parts}
-use Rattle.steps.specs.Going.{Going, Held, Taken, Shown, Advanced, shownIn, mostWork}
+use Rattle.steps.specs.Going.{Going, Held, Taken, Displayed, Advanced, displayedIn, mostWork}
 
 -- a program of at most 1,008 nodes has a small bound
 few : (n : ℕ) → n ≤ 1008 → n * (n + 1) ≤ mostWork
@@ -56,17 +59,19 @@ root-at p count e = rw e
 rooted : (p : Bytes) (count : ℕ) → Accepted p → count ≡ nodes p → NodeOf isSignal p (count - 1)
 rooted p count a e = rw e (root-of p a)
 
-room : (env : Env) → env ≡ unbound mostNodes → length env ≡ 1008
+-- nothing is bound in the scratch
+empty : (env : Env) → env ≡ unbound mostNodes → Slots env
 unfolding unbound
-room env e = ap length e ∙ length-replicate {A = ℕ} 1008 0
+empty env e = subst Slots (sym e) (slots-none mostNodes)
 
 bound-parts : (p : Bytes) → (boundS (root p) ≤ bound p) × (boundU (root p) ≤ bound p)
 unfolding bound
 bound-parts p = (omega arith, omega arith)
 
 module _ {p : Bytes} {index : List ℕ} {size : ℕ} {env : Env} {count : ℕ} (g : Held p index size env count) where
-  roomy : nodes p ≤ length env
-  roomy = omega (arith, room env (g .blank), shaped-of p (g .accepted) .small)
+  -- its tree has no more nodes than its table
+  sized : sizeS (signalAt p (count - 1)) ≤ 1008
+  sized = rw (root-at p count (g .counted)) (tree-small p (g .accepted .formed .length-right) (g .accepted .shape-right) (some-node p (g .accepted .formed)))
 
   -- what the root's evaluation and its update ask
   pub eval-ready : (st : Bytes) → size ≡ length st → ReadyS p index st env (count - 1)
@@ -74,15 +79,16 @@ module _ {p : Bytes} {index : List ℕ} {size : ℕ} {env : Env} {count : ℕ} (
     node = rooted p count (g .accepted) (g .counted);
     indexed = g .indexed;
     state = omega (arith, g .cells);
-    room = roomy;
-    small = rw (root-at p count (g .counted)) (omega (arith, bound-parts p .0, small-bound p (g .accepted)));
+    slots = empty env (g .blank);
+    small = omega (arith, boundS≤ (signalAt p (count - 1)), sized);
   }
 
-  pub update-ready : (s e : ℕ) → s ≡ size → e ≡ length env → Ready p index s e (count - 1)
-  update-ready s e hs he = record {
+  pub update-ready : (s : ℕ) → s ≡ size → Ready p index s env (count - 1)
+  update-ready s hs = record {
     node = rooted p count (g .accepted) (g .counted);
-    lent = record { table = g .indexed; cells = rw hs (g .cells); room = rw he roomy };
+    lent = record { table = g .indexed; cells = rw hs (g .cells); slots = empty env (g .blank) };
     small = rw (root-at p count (g .counted)) (omega (arith, bound-parts p .1, small-bound p (g .accepted)));
+    few = sized;
   }
 
   pub some : 0 < count
@@ -158,8 +164,8 @@ module _ {p : Bytes} {index : List ℕ} {size : ℕ} {env : Env} {count : ℕ} (
     evaluated-at = e ∙ (λ i. evalS rec st (g .blank i) (root-at p count (g .counted) i))
 
     -- what is shown of it
-    pub shows-none : r ≡ Stuck → (out : Bytes) (place : ℕ) → Shown (evalS rec st (unbound mostNodes) (root p)) out out place 0
-    unfolding shownIn
+    pub shows-none : r ≡ Stuck → (out : Bytes) (place : ℕ) → Displayed (evalS rec st (unbound mostNodes) (root p)) out out place 0
+    unfolding displayedIn
     shows-none f out place = rw (sym evaluated-at ∙ f) (record { written = refl; counted = refl; below = omega arith })
 
     pub evaluation-small : {v : Value} {u : Tally} → r ≡ Done v u → u .work ≤ mostWork
@@ -167,8 +173,8 @@ module _ {p : Bytes} {index : List ℕ} {size : ℕ} {env : Env} {count : ℕ} (
         omega (arith, bound-parts p .0, small-bound p (g .accepted), work-within _ (evalS-within rec st (unbound mostNodes) (root p)), ap workOf (sym evaluated-at ∙ f))
 
     pub shows : {v : Value} {u : Tally} → r ≡ Done v u → {out out₁ : Bytes} {place m : ℕ} → out₁ ≡ writeAt out place (bytesOf 8 m) → m ≡ packed v
-        → Shown (evalS rec st (unbound mostNodes) (root p)) out out₁ place (u .work)
-    unfolding shownIn valueBytes
+        → Displayed (evalS rec st (unbound mostNodes) (root p)) out out₁ place (u .work)
+    unfolding displayedIn valueBytes
     shows f {out} {out₁} {place} a b =
         rw (sym evaluated-at ∙ f) (record { written = a ∙ ap (λ (n : ℕ). writeAt out place (bytesOf 8 n)) b; counted = refl; below = evaluation-small f })
 
@@ -217,16 +223,16 @@ module _ {p st : Bytes} {index : List ℕ} {env : Env} {count : ℕ} (g : Going 
       update-small k = advances k {st₂ = setTime st₁ (timeIn rec)} {moment = timeIn rec} refl refl .below
 
 -- shown and advanced, a step is taken
-pub step-taken : {p rec st st₁ out out₁ : Bytes} {place a b : ℕ} → Shown (evalS rec st (unbound mostNodes) (root p)) out out₁ place a
+pub step-taken : {p rec st st₁ out out₁ : Bytes} {place a b : ℕ} → Displayed (evalS rec st (unbound mostNodes) (root p)) out out₁ place a
     → Advanced p rec st st₁ b → Taken p rec st st₁ out out₁ place (a + b)
-unfolding _plus_ shownIn
+unfolding _plus_ displayedIn
 step-taken {out = out} {place = place} {a = a} s m =
     let w : a ≡ m .seen .work = s .counted ∙ ap workOf (m .evaluates) in
     record {
       output = m .output;
       tally = m .seen plus m .tally;
       made = m .made;
-      shown = s .written ∙ ap (λ (e : Evaluated). shownIn e out place) (m .evaluates);
+      shown = s .written ∙ ap (λ (e : Evaluated). displayedIn e out place) (m .evaluates);
       worked = omega (arith, m .worked);
       well = m .well;
       within = omega (arith, m .within);

@@ -21,7 +21,7 @@ use Rattle.rules.specs.declared.Tally.{Tally}
 use Rattle.rules.specs.declared.Ran.{Ran}
 use Rattle.rules.specs.declared.Evaluated.{Evaluated}
 use Rattle.rules.specs.declared.Evaluated.the-variants.{Done, Stuck}
-use Rattle.values.specs.Combine.{workOf}
+use Rattle.outcomes.specs.Combine.{workOf}
 use Rattle.cells.specs.Indexed.{Indexed}
 
 -- An accepted program of so many nodes with its table of cells, a well-formed state, and a scratch in which nothing is bound.
@@ -41,16 +41,16 @@ pub record Held (p : Bytes) (index : List ℕ) (size : ℕ) (env : Env) (count :
   pub blank : env ≡ unbound mostNodes
 
 -- What is shown of an evaluation at a place of the output room: its value, where there is one.
-unfoldable pub shownIn : Evaluated → Bytes → ℕ → Bytes
-shownIn (Done v u) out place = writeAt out place (valueBytes v)
-shownIn Stuck out place = out
+unfoldable pub displayedIn : Evaluated → Bytes → ℕ → Bytes
+displayedIn (Done v u) out place = writeAt out place (valueBytes v)
+displayedIn Stuck out place = out
 
 -- No bound is larger: 1,008 nodes, by `bound-small` 1,008 * 1,009.
 abbrev pub mostWork : ℕ
 mostWork = 1017072
 
-pub record Shown (e : Evaluated) (out out₁ : Bytes) (place work : ℕ) : Type 0 where
-  pub written : out₁ ≡ shownIn e out place
+pub record Displayed (e : Evaluated) (out out₁ : Bytes) (place work : ℕ) : Type 0 where
+  pub written : out₁ ≡ displayedIn e out place
   pub counted : work ≡ workOf e
   pub below : work ≤ mostWork
 
@@ -83,12 +83,11 @@ pub record Leaves (o : RunOutcome) (answer : Ran) (st out : Bytes) : Type 0 wher
   pub output-is : out ≡ o .output
 
 -- A run on its way: so many of its records are done, with so much work, and what is left to do from here is what the run began with.
-pub record OnTheWay (p : Bytes) (index : List ℕ) (recs st₀ : Bytes) (env₀ : Env) (out₀ st : Bytes) (env : Env) (out : Bytes) (count left done work : ℕ) : Type 0 where
+pub record OnTheWay (p : Bytes) (index : List ℕ) (recs st₀ out₀ st : Bytes) (env : Env) (out : Bytes) (count left done work : ℕ) : Type 0 where
   pub going : Going p index st env count
   pub all : left ≡ length recs / inputLength
   pub within : done ≤ left
   pub fits : work ≤ 4294967295
   pub cells : length st ≡ length st₀
-  pub slots : length env ≡ length env₀
   pub room : length out ≡ length out₀
   pub same : runFrom p recs (left - done) done work st out ≡ runFrom p recs left 0 0 st₀ out₀

@@ -8,22 +8,21 @@ ghost use Rattle.rules.specs.Evaluate.{unbound, evalS};
 ghost use Rattle.rules.specs.Bound.{bound};
 ghost use Rattle.rules.specs.Update.{stepOf};
 ghost use Rattle.rules.specs.Calls.{recordVerdict, stepVerdict, stepOutcome, totalWrong, runFrom};
-ghost use Rattle.steps.specs.Going.{Going, Held, Shown, Advanced, Taken, Leaves};
+ghost use Rattle.steps.specs.Going.{Going, Held, Displayed, Advanced, Taken, Leaves};
 use answers::otherwise;
 use answers::refuse_if;
 use cells::put64;
 use cells::set_time;
-use evaluate::eval_s;
+use evaluate::evaluated;
+use outcomes::Shown;
 use record::input_wrong;
 use record::time_of;
 use record::time_wrong;
-use rules::Evaluated;
 use rules::Moved;
 use rules::Ran;
 use rules::Refusal;
 use rules::Verdict;
 use update::update_s;
-use values::pack;
 
 // Code 14: the total so far plus the bound is above 4,294,967,295.
 fn total_wrong(work: u32, most: u32) -> bool
@@ -56,22 +55,23 @@ fn step_verdict(st: &[u8], rec: &[u8]) -> Verdict
 // The output of a step: the root is evaluated, and its value goes to the output room. The answer is the work.
 fn show(
     p: &[u8],
-    index: &[u16],
+    index: &[u16; 1008],
     rec: &[u8],
     st: &[u8],
-    env: &mut [u64],
+    env: &mut [u64; 1008],
     out: &mut [u8],
     at: usize,
     count: usize,
 ) -> u32
     requires { ⌜ Held (now p) (now index) (length (now st)) (now env) count × (at + 8 ≤ length (now out)) ⌝ }
-    ensures { λ w. ⌜ Shown (evalS (now (rec .entry)) (now (st .entry)) (unbound mostNodes) (root (now (p .entry)))) (now (out .entry)) (now (out .exit)) at w × (now (env .exit) ≡ now (env .entry)) ⌝ }
+    ensures { λ w. ⌜ Displayed (evalS (now (rec .entry)) (now (st .entry)) (unbound mostNodes) (root (now (p .entry)))) (now (out .entry)) (now (out .exit)) at w × (now (env .exit) ≡ now (env .entry)) ⌝ }
 {
-    let shown = eval_s(p, index, rec, st, env, count - 1);
+    let outcome = evaluated(&p, index, &rec, st, env, count - 1);
+    let shown = outcomes::show(outcome);
     match shown {
-        Evaluated::Stuck => 0,
-        Evaluated::Done(v, u) => {
-            put64(out, at, pack(v));
+        Shown::Stuck => 0,
+        Shown::Value(v, u) => {
+            put64(out, at, v);
             u.work as u32
         }
     }
@@ -79,11 +79,18 @@ fn show(
 
 // The state after a step: the root is updated, and the time becomes the record's. The answer is the work. (No accepted program halts in a
 // well-formed state, nor jumps out of its root: those arms are never taken.)
-fn advance(p: &[u8], index: &[u16], rec: &[u8], st: &mut [u8], env: &mut [u64], count: usize) -> u32
+fn advance(
+    p: &[u8],
+    index: &[u16; 1008],
+    rec: &[u8],
+    st: &mut [u8],
+    env: &mut [u64; 1008],
+    count: usize,
+) -> u32
     requires { ⌜ Going (now p) (now index) (now st) (now env) count × (inputLength ≤ length (now rec)) ⌝ }
     ensures { λ w. ⌜ Advanced (now (p .entry)) (now (rec .entry)) (now (st .entry)) (now (st .exit)) w × Held (now (p .entry)) (now (index .entry)) (length (now (st .exit))) (now (env .exit)) count ⌝ }
 {
-    let moved = update_s(p, index, rec, st, env, count - 1);
+    let moved = update_s(&p, index, &rec, st, env, count - 1);
     match moved {
         Moved::Stuck => 0,
         Moved::Jump(_, _, _) => 0,
@@ -97,10 +104,10 @@ fn advance(p: &[u8], index: &[u16], rec: &[u8], st: &mut [u8], env: &mut [u64], 
 // A step: its value is that of the state before the update. The answer is the work.
 fn make_step(
     p: &[u8],
-    index: &[u16],
+    index: &[u16; 1008],
     rec: &[u8],
     st: &mut [u8],
-    env: &mut [u64],
+    env: &mut [u64; 1008],
     out: &mut [u8],
     at: usize,
     count: usize,
@@ -116,10 +123,10 @@ fn make_step(
 // The records of a run, one after the other, until one is refused.
 pub fn run_records(
     p: &[u8],
-    index: &[u16],
+    index: &[u16; 1008],
     recs: &[u8],
     st: &mut [u8],
-    env: &mut [u64],
+    env: &mut [u64; 1008],
     out: &mut [u8],
     count: usize,
     most: u32,
@@ -148,10 +155,10 @@ pub fn run_records(
 // The one record of a step.
 pub fn step_record(
     p: &[u8],
-    index: &[u16],
+    index: &[u16; 1008],
     rec: &[u8],
     st: &mut [u8],
-    env: &mut [u64],
+    env: &mut [u64; 1008],
     out: &mut [u8],
     count: usize,
 ) -> Ran

@@ -28,21 +28,10 @@ same-length-2 : tie.Need-same-length-2
 same-length-2 c = search needs
 
 -- src/lib.rt:98:1
-same-length-3 : tie.Need-same-length-3
-same-length-3 c = search needs
-
--- src/lib.rt:98:1
 returns : tie.Need-returns
 returns c = (search step-taken, cc)
 
 pub make-step-spec : {M : Type 1} → statement M
 make-step-spec =
     tie.close
-    (tie.spec
-    show-requires
-    advance-requires
-    add-result
-    same-length
-    same-length-2
-    same-length-3
-    returns)
+    (tie.spec show-requires advance-requires add-result same-length same-length-2 returns)

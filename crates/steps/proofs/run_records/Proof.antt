@@ -15,22 +15,22 @@ use Rattle.steps.proofs.record_verdict.Reads as record-verdict-reads
 
 abbrev Inv-loop : tie.InvT-loop
 Inv-loop p index recs st₀ env₀ out₀ count most left done₀ work₀ st env out done work =
-    OnTheWay p index recs st₀ env₀ out₀ st env out count left done work
+    OnTheWay p index recs st₀ out₀ st env out count left done work
 
 abbrev μ-loop : tie.MeasureT-loop
 μ-loop p index recs st₀ env₀ out₀ count most left done₀ work₀ st env out done work = left - done
 
 -- src/lib.rt:133:5
 loop-holds : tie.Need-loop-holds Inv-loop μ-loop
-loop-holds c = begun _ _ _ _ _ _ _ (c .before .before .before .before .before .before .pre .0)
+loop-holds c = begun _ _ _ _ _ _ _ (c .before .before .before .before .pre .0)
 
 -- src/lib.rt:134:20
 mul-from : tie.Need-mul-from Inv-loop μ-loop
-mul-from c = omega (arith, c .before .loop .inv .within, c .before .loop .inv .all, c .before .before .before .before .before .before .before .before .pre .2, c .loop-test .taken)
+mul-from c = omega (arith, c .before .loop .inv .within, c .before .loop .inv .all, c .before .before .before .before .before .before .pre .2, c .loop-test .taken)
 
 -- src/lib.rt:135:18
 add-to : tie.Need-add-to Inv-loop μ-loop
-add-to c = omega (arith, c .before .loop .inv .within, c .before .loop .inv .all, c .before .before .before .before .before .before .before .before .pre .2, c .loop-test .taken)
+add-to c = omega (arith, c .before .loop .inv .within, c .before .loop .inv .all, c .before .before .before .before .before .before .pre .2, c .loop-test .taken)
 
 -- src/lib.rt:136:19
 sub-rec : tie.Need-sub-rec Inv-loop μ-loop
@@ -38,19 +38,19 @@ sub-rec c = omega arith
 
 -- src/lib.rt:136:19
 part-rec-start : tie.Need-part-rec-start Inv-loop μ-loop
-part-rec-start c = omega (arith, c .before .loop .inv .within, c .before .loop .inv .all, c .before .before .before .before .before .before .before .before .pre .2, c .loop-test .taken)
+part-rec-start c = omega (arith, c .before .loop .inv .within, c .before .loop .inv .all, c .before .before .before .before .before .before .pre .2, c .loop-test .taken)
 
 -- src/lib.rt:136:19
 part-rec-end : tie.Need-part-rec-end Inv-loop μ-loop
-part-rec-end c = omega (arith, c .before .loop .inv .within, c .before .loop .inv .all, c .before .before .before .before .before .before .before .before .pre .2, c .loop-test .taken)
+part-rec-end c = omega (arith, c .before .loop .inv .within, c .before .loop .inv .all, c .before .before .before .before .before .before .pre .2, c .loop-test .taken)
 
 -- src/lib.rt:137:48
 cast-record-verdict : tie.Need-cast-record-verdict Inv-loop μ-loop
-cast-record-verdict c = omega (arith, c .before .before .before .loop .inv .within, c .before .before .before .loop .inv .all, c .before .before .before .before .before .before .before .before .before .before .pre .2, c .before .before .loop-test .taken)
+cast-record-verdict c = omega (arith, c .before .before .before .loop .inv .within, c .before .before .before .loop .inv .all, c .before .before .before .before .before .before .before .before .pre .2, c .before .before .loop-test .taken)
 
 -- src/lib.rt:137:13
 record-verdict-requires : tie.Need-record-verdict-requires Inv-loop μ-loop
-record-verdict-requires c κs = (headed (c .before .before .before .loop .inv .going), simp (length-take, length-drop) (omega (arith, c .before .before .before .loop .inv .all, c .before .before .loop-test .taken)), c .before .before .before .before .before .before .before .before .before .before .pre .1)
+record-verdict-requires c κs = (headed (c .before .before .before .loop .inv .going), simp (length-take, length-drop) (omega (arith, c .before .before .before .loop .inv .all, c .before .before .loop-test .taken)), c .before .before .before .before .before .before .before .before .pre .1)
 
 -- src/lib.rt:138:32
 enum-known-found : tie.Need-enum-known-found Inv-loop μ-loop
@@ -63,10 +63,6 @@ same-length c = omega (arith, c .before .before .before .before)
 -- src/lib.rt:139:13
 same-length-2 : tie.Need-same-length-2 Inv-loop μ-loop
 same-length-2 c = omega (arith, c .before .before .before .before)
-
--- src/lib.rt:139:13
-same-length-3 : tie.Need-same-length-3 Inv-loop μ-loop
-same-length-3 c = omega (arith, c .before .before .before .before)
 
 -- src/lib.rt:139:13
 returns : tie.Need-returns Inv-loop μ-loop
@@ -85,35 +81,31 @@ make-step-requires c κs = (search needs, simp (length-take, length-drop) (omega
 
 -- src/lib.rt:142:9
 add-work : tie.Need-add-work Inv-loop μ-loop
-add-work c = omega (arith, total-fits _ _ _ _ _ (sym (c .before .before .before .before .before .before .before .before .before .before .before .before .record-verdict .ensures) ∙ c .before .before .before .before .before .before .before .before .before .before .enum-told .given .1), c .before .before .before .before .before .before .make-step .ensures .0 .within)
+add-work c = omega (arith, total-fits _ _ _ _ _ (sym (c .before .before .before .before .before .before .before .before .before .before .record-verdict .ensures) ∙ c .before .before .before .before .before .before .before .before .enum-told .given .1), c .before .before .before .before .make-step .ensures .0 .within)
 
 -- src/lib.rt:143:9
 add-done : tie.Need-add-done Inv-loop μ-loop
-add-done c = omega (arith, c .before .before .before .before .before .before .before .before .before .before .before .before .before .before .before .before .loop .inv .within, c .before .before .before .before .before .before .before .before .before .before .before .before .before .before .before .before .loop .inv .all, c .before .before .before .before .before .before .before .before .before .before .before .before .before .before .before .before .before .before .before .before .before .before .before .pre .2, c .before .before .before .before .before .before .before .before .before .before .before .before .before .before .before .loop-test .taken)
+add-done c = omega (arith, c .before .before .before .before .before .before .before .before .before .before .before .before .before .before .loop .inv .within, c .before .before .before .before .before .before .before .before .before .before .before .before .before .before .loop .inv .all, c .before .before .before .before .before .before .before .before .before .before .before .before .before .before .before .before .before .before .before .pre .2, c .before .before .before .before .before .before .before .before .before .before .before .before .before .loop-test .taken)
 
 -- src/lib.rt:133:5
 loop-less : tie.Need-loop-less Inv-loop μ-loop
-loop-less c = omega (arith, c .before .before .before .before .before .before .before .before .before .before .before .before .before .before .before .loop-test .taken)
+loop-less c = omega (arith, c .before .before .before .before .before .before .before .before .before .before .before .before .before .loop-test .taken)
 
 -- src/lib.rt:133:5
 loop-again : tie.Need-loop-again Inv-loop μ-loop
-loop-again c = goes-on (c .before .before .before .before .before .before .before .before .before .before .before .before .before .before .before .before .loop .inv) (c .before .before .before .before .before .before .before .before .before .before .before .before .before .before .before .loop-test .taken) (c .before .before .before .before .before .before .before .before .before .before .before .before .record-verdict .ensures) (c .before .before .before .before .before .before .before .before .before .before .enum-told .given .1) (c .before .before .before .before .before .before .make-step .ensures .0) (c .before .before .before .before .before .before .make-step .ensures .1)
+loop-again c = goes-on (c .before .before .before .before .before .before .before .before .before .before .before .before .before .before .loop .inv) (c .before .before .before .before .before .before .before .before .before .before .before .before .before .loop-test .taken) (c .before .before .before .before .before .before .before .before .before .before .record-verdict .ensures) (c .before .before .before .before .before .before .before .before .enum-told .given .1) (c .before .before .before .before .make-step .ensures .0) (c .before .before .before .before .make-step .ensures .1)
 
 -- src/lib.rt:145:19
-cast-t32 : tie.Need-cast-t32 Inv-loop μ-loop
-cast-t32 c = omega (arith, c .before .loop .inv .within, c .before .loop .inv .all, c .before .before .before .before .before .before .before .before .pre .2)
+cast-t31 : tie.Need-cast-t31 Inv-loop μ-loop
+cast-t31 c = omega (arith, c .before .loop .inv .within, c .before .loop .inv .all, c .before .before .before .before .before .before .pre .2)
+
+-- src/lib.rt:117:1
+same-length-3 : tie.Need-same-length-3 Inv-loop μ-loop
+same-length-3 c = c .before .loop .inv .cells
 
 -- src/lib.rt:117:1
 same-length-4 : tie.Need-same-length-4 Inv-loop μ-loop
-same-length-4 c = c .before .loop .inv .cells
-
--- src/lib.rt:117:1
-same-length-5 : tie.Need-same-length-5 Inv-loop μ-loop
-same-length-5 c = c .before .loop .inv .slots
-
--- src/lib.rt:117:1
-same-length-6 : tie.Need-same-length-6 Inv-loop μ-loop
-same-length-6 c = c .before .loop .inv .room
+same-length-4 c = c .before .loop .inv .room
 
 -- src/lib.rt:117:1
 returns-2 : tie.Need-returns-2 Inv-loop μ-loop
@@ -136,7 +128,6 @@ run-records-spec =
     enum-known-found
     same-length
     same-length-2
-    same-length-3
     returns
     enum-told
     mul-make-step
@@ -145,8 +136,7 @@ run-records-spec =
     add-done
     loop-less
     loop-again
-    cast-t32
+    cast-t31
+    same-length-3
     same-length-4
-    same-length-5
-    same-length-6
     returns-2)

@@ -11,7 +11,7 @@ use Rattle.steps.proofs.step_verdict.Reads as step-verdict-reads
 
 -- src/lib.rt:161:9
 step-verdict-requires : tie.Need-step-verdict-requires
-step-verdict-requires c κs = (headed (c .before .before .before .before .before .before .before .pre .0), c .before .before .before .before .before .before .before .pre .1)
+step-verdict-requires c κs = (headed (c .before .before .before .before .before .pre .0), c .before .before .before .before .before .pre .1)
 
 -- src/lib.rt:163:25
 enum-known-found : tie.Need-enum-known-found
@@ -42,12 +42,8 @@ same-length-3 : tie.Need-same-length-3
 same-length-3 c = search needs
 
 -- src/lib.rt:149:1
-same-length-4 : tie.Need-same-length-4
-same-length-4 c = search needs
-
--- src/lib.rt:149:1
 returns-2 : tie.Need-returns-2
-returns-2 c = step-finished _ _ _ _ _ _ _ (sym (c .before .before .before .before .before .before .before .before .before .before .before .before .step-verdict .ensures) ∙ c .before .before .before .before .before .before .before .before .before .before .enum-told .given .1) (c .before .before .before .before .before .before .make-step .ensures .0)
+returns-2 c = step-finished _ _ _ _ _ _ _ (sym (c .before .before .before .before .before .before .before .before .before .before .step-verdict .ensures) ∙ c .before .before .before .before .before .before .before .before .enum-told .given .1) (c .before .before .before .before .make-step .ensures .0)
 
 pub step-record-spec : {M : Type 1} → statement M
 step-record-spec =
@@ -61,5 +57,4 @@ step-record-spec =
     returns
     same-length-2
     same-length-3
-    same-length-4
     returns-2)

@@ -8,7 +8,7 @@ ghost use Rattle.rules.specs.Size.{sizeS};
 ghost use Rattle.rules.specs.Bound.{boundE, boundS, boundSB, boundSC, boundU, boundUB, boundUC, bound};
 ghost use Rattle.rules.specs.Shaped.{NodeOf};
 ghost use Rattle.bound.specs.Small.{nodesE, nodesS, nodesB, nodesC, Small, Most, BoundsOf};
-use table::fields;
+use table::node;
 
 // The bounds of a signal's evaluation and of its update.
 pub struct Bounds {
@@ -139,7 +139,7 @@ pub fn bound_e(p: &&[u8], i: usize) -> u32
     requires { ⌜ Small isExpression nodesE (now (now p)) i ⌝ }
     ensures { λ r. ⌜ (r ≡ boundE (exprAt (now (now (p .entry))) i)) × (r ≤ 1008) ⌝ }
 {
-    let n = fields(*p, i);
+    let n = node(*p, i);
     let k = n.kind;
     match k {
         16 => 1,
@@ -171,7 +171,7 @@ pub fn bound_s(p: &&[u8], i: usize) -> Bounds
     requires { ⌜ Small isSignal nodesS (now (now p)) i ⌝ }
     ensures { λ r. ⌜ BoundsOf (boundS (signalAt (now (now (p .entry))) i)) (boundU (signalAt (now (now (p .entry))) i)) r ⌝ }
 {
-    let n = fields(*p, i);
+    let n = node(*p, i);
     let k = n.kind;
     match k {
         1 => Bounds { eval: 1, update: 1 },
@@ -207,7 +207,7 @@ pub fn bound_b(p: &&[u8], j: usize) -> Bounds
     requires { ⌜ Small isBranch nodesB (now (now p)) j ⌝ }
     ensures { λ r. ⌜ BoundsOf (boundSB (branchesAt (now (now (p .entry))) j)) (boundUB (branchesAt (now (now (p .entry))) j)) r ⌝ }
 {
-    let n = fields(*p, j);
+    let n = node(*p, j);
     let body = bound_s(p, n.a);
     if n.b == 65535 {
         return largest(body, Bounds { eval: 0, update: 0 });
@@ -221,7 +221,7 @@ pub fn bound_c(p: &&[u8], j: usize) -> Bounds
     requires { ⌜ Small isCase nodesC (now (now p)) j ⌝ }
     ensures { λ r. ⌜ BoundsOf (boundSC (casesAt (now (now (p .entry))) j)) (boundUC (casesAt (now (now (p .entry))) j)) r ⌝ }
 {
-    let n = fields(*p, j);
+    let n = node(*p, j);
     let event = bound_s(p, n.a);
     if n.b == 65535 {
         return sum(event, Bounds { eval: 0, update: 0 });

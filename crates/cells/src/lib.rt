@@ -6,8 +6,8 @@ ghost use Rattle.rules.specs.Bytes.{u64At, bytesOf, writeAt};
 ghost use Rattle.rules.specs.Layout.{nodes, records, kindAt, hasCell, cellsBefore, cellAt, cell as cellIn, setCell, headerLength, lastTime, setTime};
 ghost use Rattle.rules.specs.Shaped.{Shaped};
 ghost use Rattle.cells.specs.Indexed.{ListedOnce, Numbers, ListedFrom, Indexed};
-use table::fields;
-use table::record_at;
+use table::node;
+use table::node_at;
 use table::u32_at;
 
 // A 32-bit number as a 64-bit one.
@@ -97,12 +97,12 @@ pub fn set_time(st: &mut [u8], t: u32)
     put32(st, 0, t);
 }
 
-// The kind of record i.
+// The kind of node i.
 pub fn kind_of(p: &[u8], i: usize) -> u8
-    requires { ⌜ i < records (now p) ⌝ }
+    requires { ⌜ (i < records (now p)) × (i < 1008) ⌝ }
     ensures { λ k. ⌜ k ≡ kindAt (now (p .entry)) i ⌝ }
 {
-    let at = record_at(p, i);
+    let at = node_at(p, i);
     p[at]
 }
 
@@ -134,7 +134,7 @@ fn name_branch(p: &[u8], index: &mut [u16], i: usize)
 {
     let kind = kind_of(p, i);
     if kind == 7 {
-        let group = fields(p, i);
+        let group = node(p, i);
         let first = group.b;
         index[first] = first as u16;
         return;
@@ -142,7 +142,7 @@ fn name_branch(p: &[u8], index: &mut [u16], i: usize)
     if kind != 9 {
         return;
     }
-    let branch = fields(p, i);
+    let branch = node(p, i);
     let next = branch.b;
     if next == 65535 {
         return;

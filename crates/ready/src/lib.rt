@@ -14,7 +14,7 @@ ghost use Rattle.ready.specs.Found.{adding, foundE, foundS, foundB};
 ghost use Rattle.ready.specs.Regions.{markedIn, Entered};
 use places::sooner;
 use rules::Place;
-use table::fields;
+use table::node;
 
 // A place, if its rule is broken.
 fn wrong_if(wrong: bool, n: usize) -> Place
@@ -46,7 +46,7 @@ fn pass_e(p: &&[u8], marks: &[u16; 1008], region: usize, i: usize) -> Place
     requires { ⌜ Entered isExpression (now (now p)) (now marks) region i ⌝ }
     ensures { λ r. ⌜ r ≡ foundE (markedIn (now (marks .entry)) region) (exprAt (now (now (p .entry))) i) ⌝ }
 {
-    let n = fields(*p, i);
+    let n = node(*p, i);
     let k = n.kind;
     match k {
         16 => needed(marks, region, n.a),
@@ -78,7 +78,7 @@ fn pass_s(p: &&[u8], marks: &mut [u16; 1008], region: usize, i: usize) -> Place
     requires { ⌜ Entered isSignal (now (now p)) (now marks) region i ⌝ }
     ensures { λ r. ⌜ (r ≡ foundS (markedIn (now (marks .entry)) region) (signalAt (now (now (p .entry))) i)) × (now (marks .exit) ≡ now (marks .entry)) ⌝ }
 {
-    let n = fields(*p, i);
+    let n = node(*p, i);
     let k = n.kind;
     match k {
         1 => Place::Nowhere,
@@ -129,7 +129,7 @@ fn pass_b(p: &&[u8], marks: &mut [u16; 1008], region: usize, j: usize) -> Place
     requires { ⌜ Entered isBranch (now (now p)) (now marks) region j ⌝ }
     ensures { λ r. ⌜ (r ≡ foundB (markedIn (now (marks .entry)) region) (branchesAt (now (now (p .entry))) j)) × (now (marks .exit) ≡ now (marks .entry)) ⌝ }
 {
-    let n = fields(*p, j);
+    let n = node(*p, j);
     let body = pass_s(p, marks, region, n.a);
     if n.b == 65535 {
         return sooner(body, Place::Nowhere);
@@ -143,7 +143,7 @@ fn pass_c(p: &&[u8], marks: &mut [u16; 1008], j: usize) -> Place
     requires { ⌜ Entered isCase (now (now p)) (now marks) (j + 1) j ⌝ }
     ensures { λ r. ⌜ (r ≡ readyC (casesAt (now (now (p .entry))) j)) × (now (marks .exit) ≡ now (marks .entry)) ⌝ }
 {
-    let n = fields(*p, j);
+    let n = node(*p, j);
     let event = pass_s(p, marks, n.a + 1, n.a);
     if n.b == 65535 {
         return sooner(event, Place::Nowhere);

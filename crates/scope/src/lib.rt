@@ -12,7 +12,7 @@ ghost use Rattle.scope.specs.Offers.{offersAt, Offered};
 use places::sooner;
 use places::wrong_unless;
 use rules::Place;
-use table::fields;
+use table::node;
 
 // Whether binder n is marked; by the whole array as a slice, whose length is told in the proof.
 fn marked(marks: &[u8; 1008], n: usize) -> bool
@@ -29,7 +29,7 @@ pub fn scope_e(p: &&[u8], marks: &mut [u8; 1008], i: usize) -> Place
     requires { ⌜ NodeOf isExpression (now (now p)) i ⌝ }
     ensures { λ r. ⌜ (r ≡ scopeE (now (marks .entry)) (exprAt (now (now (p .entry))) i)) × (now (marks .exit) ≡ now (marks .entry)) ⌝ }
 {
-    let n = fields(*p, i);
+    let n = node(*p, i);
     let k = n.kind;
     match k {
         16 => wrong_unless(marked(marks, n.a), i),
@@ -76,7 +76,7 @@ pub fn has_branch(p: &&[u8], j: usize, k: usize) -> bool
     if j == k {
         return true;
     }
-    let n = fields(*p, j);
+    let n = node(*p, j);
     if n.b == 65535 {
         return false;
     }
@@ -98,7 +98,7 @@ pub fn scope_s(p: &&[u8], marks: &mut [u8; 1008], i: usize, group: usize) -> Pla
     requires { ⌜ NodeOf isSignal (now (now p)) i × Offered (now (now p)) group ⌝ }
     ensures { λ r. ⌜ (r ≡ scopeS (now (marks .entry)) (offersAt (now (now (p .entry))) group) (signalAt (now (now (p .entry))) i)) × (now (marks .exit) ≡ now (marks .entry)) ⌝ }
 {
-    let n = fields(*p, i);
+    let n = node(*p, i);
     let k = n.kind;
     match k {
         3 => scope_e(p, marks, n.a),
@@ -144,7 +144,7 @@ fn scope_b(p: &&[u8], marks: &mut [u8; 1008], j: usize, group: usize) -> Place
     requires { ⌜ NodeOf isBranch (now (now p)) j × Offered (now (now p)) group ⌝ }
     ensures { λ r. ⌜ (r ≡ scopeB (now (marks .entry)) (offersAt (now (now (p .entry))) group) (branchesAt (now (now (p .entry))) j)) × (now (marks .exit) ≡ now (marks .entry)) ⌝ }
 {
-    let n = fields(*p, j);
+    let n = node(*p, j);
     let body = inside_s(p, marks, j, n.a, group);
     if n.b == 65535 {
         return sooner(body, Place::Nowhere);
@@ -157,7 +157,7 @@ fn scope_c(p: &&[u8], marks: &mut [u8; 1008], j: usize, group: usize) -> Place
     requires { ⌜ NodeOf isCase (now (now p)) j × Offered (now (now p)) group ⌝ }
     ensures { λ r. ⌜ (r ≡ scopeC (now (marks .entry)) (offersAt (now (now (p .entry))) group) (casesAt (now (now (p .entry))) j)) × (now (marks .exit) ≡ now (marks .entry)) ⌝ }
 {
-    let n = fields(*p, j);
+    let n = node(*p, j);
     let here = wrong_unless(offered(p, group, n.c), j);
     let event = scope_s(p, marks, n.a, 65535);
     if n.b == 65535 {

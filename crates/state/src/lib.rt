@@ -16,7 +16,7 @@ use cells::number_of;
 use cells::put32;
 use cells::set_cell;
 use rules::Node;
-use table::fields;
+use table::node;
 use values::pack;
 use values::value_from;
 
@@ -50,7 +50,7 @@ pub fn reset_s(p: &&[u8], index: &[u16; 1008], st: &mut [u8], i: usize)
     requires { ⌜ Stated isSignal (now (now p)) (now index) (length (now st)) i ⌝ }
     ensures { λ _. ⌜ now (st .exit) ≡ resetS (signalAt (now (now (p .entry))) i) (now (st .entry)) ⌝ }
 {
-    let n = fields(*p, i);
+    let n = node(*p, i);
     let k = n.kind;
     match k {
         4 => {
@@ -85,7 +85,7 @@ pub fn reset_b(p: &&[u8], index: &[u16; 1008], st: &mut [u8], j: usize)
     requires { ⌜ Stated isBranch (now (now p)) (now index) (length (now st)) j ⌝ }
     ensures { λ _. ⌜ now (st .exit) ≡ resetB (branchesAt (now (now (p .entry))) j) (now (st .entry)) ⌝ }
 {
-    let n = fields(*p, j);
+    let n = node(*p, j);
     reset_s(p, index, st, n.a);
     if n.b != 65535 {
         reset_b(p, index, st, n.b);
@@ -97,7 +97,7 @@ pub fn reset_c(p: &&[u8], index: &[u16; 1008], st: &mut [u8], j: usize)
     requires { ⌜ Stated isCase (now (now p)) (now index) (length (now st)) j ⌝ }
     ensures { λ _. ⌜ now (st .exit) ≡ resetC (casesAt (now (now (p .entry))) j) (now (st .entry)) ⌝ }
 {
-    let n = fields(*p, j);
+    let n = node(*p, j);
     reset_s(p, index, st, n.a);
     if n.b != 65535 {
         reset_c(p, index, st, n.b);

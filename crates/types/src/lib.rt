@@ -16,7 +16,7 @@ use places::sooner;
 use places::wrong_unless;
 use rules::Place;
 use table::declared;
-use table::fields;
+use table::node;
 
 // The type of a node, and the smallest wrong place below it.
 pub struct Typed {
@@ -216,7 +216,7 @@ pub fn type_e(p: &&[u8], i: usize) -> Typed
     requires { ⌜ NodeOf isExpression (now (now p)) i ⌝ }
     ensures { λ r. ⌜ (r .ty ≡ typeE (exprAt (now (now (p .entry))) i)) × (r .place ≡ typesE (exprAt (now (now (p .entry))) i)) ⌝ }
 {
-    let n = fields(*p, i);
+    let n = node(*p, i);
     let k = n.kind;
     match k {
         16 => Typed {
@@ -253,7 +253,7 @@ pub fn type_s(p: &&[u8], i: usize) -> Typed
     requires { ⌜ NodeOf isSignal (now (now p)) i ⌝ }
     ensures { λ r. ⌜ (r .ty ≡ typeS (signalAt (now (now (p .entry))) i)) × (r .place ≡ typesS (signalAt (now (now (p .entry))) i)) ⌝ }
 {
-    let n = fields(*p, i);
+    let n = node(*p, i);
     let k = n.kind;
     match k {
         1 => Typed {
@@ -299,7 +299,7 @@ pub fn type_b(p: &&[u8], j: usize, t: u8) -> Bodies
     requires { ⌜ NodeOf isBranch (now (now p)) j ⌝ }
     ensures { λ r. ⌜ (r .same ≡ bodiesHave t (branchesAt (now (now (p .entry))) j)) × (r .place ≡ typesB (branchesAt (now (now (p .entry))) j)) ⌝ }
 {
-    let n = fields(*p, j);
+    let n = node(*p, j);
     let body = type_s(p, n.a);
     let body_at = body.place;
     if n.b == 65535 {
@@ -321,7 +321,7 @@ pub fn type_c(p: &&[u8], j: usize) -> Place
     requires { ⌜ NodeOf isCase (now (now p)) j ⌝ }
     ensures { λ r. ⌜ r ≡ typesC (casesAt (now (now (p .entry))) j) ⌝ }
 {
-    let n = fields(*p, j);
+    let n = node(*p, j);
     let event = type_s(p, n.a);
     let right = is_maybe(event.ty, declared(*p, n.c));
     let event_at = event.place;

@@ -16,7 +16,7 @@ use cells::cell_at;
 use cells::last_time;
 use state::first_value;
 use state::own_cell;
-use table::fields;
+use table::node;
 use values::is_maybe;
 
 // Both, as the rules have it.
@@ -71,7 +71,7 @@ fn rests_s(p: &&[u8], index: &[u16; 1008], st: &&[u8], i: usize) -> bool
     requires { ⌜ Stated isSignal (now (now p)) (now index) (length (now (now st))) i ⌝ }
     ensures { λ r. ⌜ r ≡ restsS (now (now (st .entry))) (signalAt (now (now (p .entry))) i) ⌝ }
 {
-    let n = fields(*p, i);
+    let n = node(*p, i);
     let k = n.kind;
     match k {
         4 => {
@@ -103,7 +103,7 @@ fn rests_b(p: &&[u8], index: &[u16; 1008], st: &&[u8], j: usize) -> bool
     requires { ⌜ Stated isBranch (now (now p)) (now index) (length (now (now st))) j ⌝ }
     ensures { λ r. ⌜ r ≡ restsB (now (now (st .entry))) (branchesAt (now (now (p .entry))) j) ⌝ }
 {
-    let n = fields(*p, j);
+    let n = node(*p, j);
     let body = rests_s(p, index, st, n.a);
     if n.b == 65535 {
         return both(body, true);
@@ -117,7 +117,7 @@ fn rests_c(p: &&[u8], index: &[u16; 1008], st: &&[u8], j: usize) -> bool
     requires { ⌜ Stated isCase (now (now p)) (now index) (length (now (now st))) j ⌝ }
     ensures { λ r. ⌜ r ≡ restsC (now (now (st .entry))) (casesAt (now (now (p .entry))) j) ⌝ }
 {
-    let n = fields(*p, j);
+    let n = node(*p, j);
     let event = rests_s(p, index, st, n.a);
     if n.b == 65535 {
         return both(event, true);
@@ -131,7 +131,7 @@ fn well_s(p: &&[u8], index: &[u16; 1008], st: &&[u8], i: usize) -> bool
     requires { ⌜ Stated isSignal (now (now p)) (now index) (length (now (now st))) i ⌝ }
     ensures { λ r. ⌜ r ≡ wellS (now (now (st .entry))) (signalAt (now (now (p .entry))) i) ⌝ }
 {
-    let n = fields(*p, i);
+    let n = node(*p, i);
     let k = n.kind;
     match k {
         4 => {
@@ -173,7 +173,7 @@ fn well_b(p: &&[u8], index: &[u16; 1008], st: &&[u8], j: usize, m: u64) -> bool
     requires { ⌜ Stated isBranch (now (now p)) (now index) (length (now (now st))) j ⌝ }
     ensures { λ r. ⌜ r ≡ wellB (now (now (st .entry))) m (branchesAt (now (now (p .entry))) j) ⌝ }
 {
-    let n = fields(*p, j);
+    let n = node(*p, j);
     if j == middle_in(m) {
         let body = well_s(p, index, st, n.a);
         let here = both(content_fits(n.ty, j, m), body);
@@ -196,7 +196,7 @@ fn well_c(p: &&[u8], index: &[u16; 1008], st: &&[u8], j: usize) -> bool
     requires { ⌜ Stated isCase (now (now p)) (now index) (length (now (now st))) j ⌝ }
     ensures { λ r. ⌜ r ≡ wellC (now (now (st .entry))) (casesAt (now (now (p .entry))) j) ⌝ }
 {
-    let n = fields(*p, j);
+    let n = node(*p, j);
     let event = well_s(p, index, st, n.a);
     if n.b == 65535 {
         return both(event, true);

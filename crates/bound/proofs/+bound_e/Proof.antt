@@ -13,7 +13,7 @@ use Rattle.bound.proofs.+bound_e.Lts-bound_e as bound-e-lts
 use Rattle.bound.proofs.over.Reads as over-reads
 use Rattle.bound.proofs.over_arms.Reads as over-arms-reads
 use Rattle.bound.proofs.over_both.Reads as over-both-reads
-use Rattle.table.proofs.fields.Reads as fields-reads
+use Rattle.table.proofs.node.Reads as node-reads
 use Rattle.bound.proofs.+bound_e.{statement}
 use Rattle.bound.proofs.+bound_e.Tie.{close}
 
@@ -27,15 +27,15 @@ abbrev bound-e-below : ℕ → In 2 bound-e-kinds.ps
 bound-e-below t = and 2 bound-e-kinds.ps (falls 2 bound-e-kinds.ps _<_ μ-bound-e t) bound-e.Pre
 
 abbrev bound-e-calls : ℕ → bound-e-lts.Claims
-bound-e-calls t = (fields-reads.Asked, fields-reads.Learnt, bound-e-below t, bound-e.Post, over-reads.Asked, over-reads.Learnt, over-arms-reads.Asked, over-arms-reads.Learnt, over-both-reads.Asked, over-both-reads.Learnt)
+bound-e-calls t = (node-reads.Asked, node-reads.Learnt, bound-e-below t, bound-e.Post, over-reads.Asked, over-reads.Learnt, over-arms-reads.Asked, over-arms-reads.Learnt, over-both-reads.Asked, over-both-reads.Learnt)
 
 -- src/lib.rt:142:9
-bound-e-fields-requires : (t : ℕ) → bound-e-lts.Need-fields-requires (bound-e-calls t) (bound-e-at t) bound-e.Post
-bound-e-fields-requires t c κs = omega (arith, c .before .pre .1 .node .inside, c .before .pre .1 .node .shaped .within)
+bound-e-node-requires : (t : ℕ) → bound-e-lts.Need-node-requires (bound-e-calls t) (bound-e-at t) bound-e.Post
+bound-e-node-requires t c κs = let w = c .before .pre .1 .node in (omega (arith, w .inside, w .shaped .within), omega (arith, w .inside, w .shaped .small))
 
 -- src/lib.rt:147:20
 bound-e-bound-e-requires : (t : ℕ) → bound-e-lts.Need-bound-e-requires (bound-e-calls t) (bound-e-at t) bound-e.Post
-bound-e-bound-e-requires t c κs = let k = read (c .before .fields .ensures .a-is) (negation-part (c .before .before .before .args .p .now .now) (c .before .before .before .args .i) (c .before .before .before .pre .1) (sym (c .before .fields .ensures .kind-is) ∙ c .match .keys3)) in (omega (arith, k .less, c .before .before .before .pre .0), k .node)
+bound-e-bound-e-requires t c κs = let k = read (c .before .node .ensures .a-is) (negation-part (c .before .before .before .args .p .now .now) (c .before .before .before .args .i) (c .before .before .before .pre .1) (sym (c .before .node .ensures .kind-is) ∙ c .match .keys3)) in (omega (arith, k .less, c .before .before .before .pre .0), k .node)
 
 -- src/lib.rt:147:15
 bound-e-over-requires : (t : ℕ) → bound-e-lts.Need-over-requires (bound-e-calls t) (bound-e-at t) bound-e.Post
@@ -43,15 +43,15 @@ bound-e-over-requires t c κs = search needs
 
 -- src/lib.rt:149:17
 bound-e-bound-e-requires-2 : (t : ℕ) → bound-e-lts.Need-bound-e-requires-2 (bound-e-calls t) (bound-e-at t) bound-e.Post
-bound-e-bound-e-requires-2 t c κs = let k = read (c .before .fields .ensures .a-is) (choice-parts (c .before .before .before .args .p .now .now) (c .before .before .before .args .i) (c .before .before .before .pre .1) (sym (c .before .fields .ensures .kind-is) ∙ c .match .keys4) .0) in (omega (arith, k .less, c .before .before .before .pre .0), k .node)
+bound-e-bound-e-requires-2 t c κs = let k = read (c .before .node .ensures .a-is) (choice-parts (c .before .before .before .args .p .now .now) (c .before .before .before .args .i) (c .before .before .before .pre .1) (sym (c .before .node .ensures .kind-is) ∙ c .match .keys4) .0) in (omega (arith, k .less, c .before .before .before .pre .0), k .node)
 
 -- src/lib.rt:150:17
 bound-e-bound-e-requires-3 : (t : ℕ) → bound-e-lts.Need-bound-e-requires-3 (bound-e-calls t) (bound-e-at t) bound-e.Post
-bound-e-bound-e-requires-3 t c κs = let k = read (c .before .before .fields .ensures .b-is) (choice-parts (c .before .before .before .before .args .p .now .now) (c .before .before .before .before .args .i) (c .before .before .before .before .pre .1) (sym (c .before .before .fields .ensures .kind-is) ∙ c .before .match .keys4) .1) in (omega (arith, k .less, c .before .before .before .before .pre .0), k .node)
+bound-e-bound-e-requires-3 t c κs = let k = read (c .before .before .node .ensures .b-is) (choice-parts (c .before .before .before .before .args .p .now .now) (c .before .before .before .before .args .i) (c .before .before .before .before .pre .1) (sym (c .before .before .node .ensures .kind-is) ∙ c .before .match .keys4) .1) in (omega (arith, k .less, c .before .before .before .before .pre .0), k .node)
 
 -- src/lib.rt:151:17
 bound-e-bound-e-requires-4 : (t : ℕ) → bound-e-lts.Need-bound-e-requires-4 (bound-e-calls t) (bound-e-at t) bound-e.Post
-bound-e-bound-e-requires-4 t c κs = let k = read (c .before .before .before .fields .ensures .c-is) (choice-parts (c .before .before .before .before .before .args .p .now .now) (c .before .before .before .before .before .args .i) (c .before .before .before .before .before .pre .1) (sym (c .before .before .before .fields .ensures .kind-is) ∙ c .before .before .match .keys4) .2) in (omega (arith, k .less, c .before .before .before .before .before .pre .0), k .node)
+bound-e-bound-e-requires-4 t c κs = let k = read (c .before .before .before .node .ensures .c-is) (choice-parts (c .before .before .before .before .before .args .p .now .now) (c .before .before .before .before .before .args .i) (c .before .before .before .before .before .pre .1) (sym (c .before .before .before .node .ensures .kind-is) ∙ c .before .before .match .keys4) .2) in (omega (arith, k .less, c .before .before .before .before .before .pre .0), k .node)
 
 -- src/lib.rt:152:13
 bound-e-over-arms-requires : (t : ℕ) → bound-e-lts.Need-over-arms-requires (bound-e-calls t) (bound-e-at t) bound-e.Post
@@ -59,7 +59,7 @@ bound-e-over-arms-requires t c κs = search needs
 
 -- src/lib.rt:154:20
 bound-e-bound-e-requires-5 : (t : ℕ) → bound-e-lts.Need-bound-e-requires-5 (bound-e-calls t) (bound-e-at t) bound-e.Post
-bound-e-bound-e-requires-5 t c κs = let k = read (c .before .fields .ensures .a-is) (just-part (c .before .before .before .args .p .now .now) (c .before .before .before .args .i) (c .before .before .before .pre .1) (sym (c .before .fields .ensures .kind-is) ∙ c .match .keys5)) in (omega (arith, k .less, c .before .before .before .pre .0), k .node)
+bound-e-bound-e-requires-5 t c κs = let k = read (c .before .node .ensures .a-is) (just-part (c .before .before .before .args .p .now .now) (c .before .before .before .args .i) (c .before .before .before .pre .1) (sym (c .before .node .ensures .kind-is) ∙ c .match .keys5)) in (omega (arith, k .less, c .before .before .before .pre .0), k .node)
 
 -- src/lib.rt:154:15
 bound-e-over-requires-2 : (t : ℕ) → bound-e-lts.Need-over-requires-2 (bound-e-calls t) (bound-e-at t) bound-e.Post
@@ -67,15 +67,15 @@ bound-e-over-requires-2 t c κs = search needs
 
 -- src/lib.rt:156:17
 bound-e-bound-e-requires-6 : (t : ℕ) → bound-e-lts.Need-bound-e-requires-6 (bound-e-calls t) (bound-e-at t) bound-e.Post
-bound-e-bound-e-requires-6 t c κs = let k = read (c .before .fields .ensures .a-is) (taking-parts (c .before .before .before .args .p .now .now) (c .before .before .before .args .i) (c .before .before .before .pre .1) (sym (c .before .fields .ensures .kind-is) ∙ c .match .keys6) .0) in (omega (arith, k .less, c .before .before .before .pre .0), k .node)
+bound-e-bound-e-requires-6 t c κs = let k = read (c .before .node .ensures .a-is) (taking-parts (c .before .before .before .args .p .now .now) (c .before .before .before .args .i) (c .before .before .before .pre .1) (sym (c .before .node .ensures .kind-is) ∙ c .match .keys6) .0) in (omega (arith, k .less, c .before .before .before .pre .0), k .node)
 
 -- src/lib.rt:157:17
 bound-e-bound-e-requires-7 : (t : ℕ) → bound-e-lts.Need-bound-e-requires-7 (bound-e-calls t) (bound-e-at t) bound-e.Post
-bound-e-bound-e-requires-7 t c κs = let k = read (c .before .before .fields .ensures .b-is) (taking-parts (c .before .before .before .before .args .p .now .now) (c .before .before .before .before .args .i) (c .before .before .before .before .pre .1) (sym (c .before .before .fields .ensures .kind-is) ∙ c .before .match .keys6) .1) in (omega (arith, k .less, c .before .before .before .before .pre .0), k .node)
+bound-e-bound-e-requires-7 t c κs = let k = read (c .before .before .node .ensures .b-is) (taking-parts (c .before .before .before .before .args .p .now .now) (c .before .before .before .before .args .i) (c .before .before .before .before .pre .1) (sym (c .before .before .node .ensures .kind-is) ∙ c .before .match .keys6) .1) in (omega (arith, k .less, c .before .before .before .before .pre .0), k .node)
 
 -- src/lib.rt:158:17
 bound-e-bound-e-requires-8 : (t : ℕ) → bound-e-lts.Need-bound-e-requires-8 (bound-e-calls t) (bound-e-at t) bound-e.Post
-bound-e-bound-e-requires-8 t c κs = let k = read (c .before .before .before .fields .ensures .c-is) (taking-parts (c .before .before .before .before .before .args .p .now .now) (c .before .before .before .before .before .args .i) (c .before .before .before .before .before .pre .1) (sym (c .before .before .before .fields .ensures .kind-is) ∙ c .before .before .match .keys6) .2) in (omega (arith, k .less, c .before .before .before .before .before .pre .0), k .node)
+bound-e-bound-e-requires-8 t c κs = let k = read (c .before .before .before .node .ensures .c-is) (taking-parts (c .before .before .before .before .before .args .p .now .now) (c .before .before .before .before .before .args .i) (c .before .before .before .before .before .pre .1) (sym (c .before .before .before .node .ensures .kind-is) ∙ c .before .before .match .keys6) .2) in (omega (arith, k .less, c .before .before .before .before .before .pre .0), k .node)
 
 -- src/lib.rt:159:13
 bound-e-over-arms-requires-2 : (t : ℕ) → bound-e-lts.Need-over-arms-requires-2 (bound-e-calls t) (bound-e-at t) bound-e.Post
@@ -83,11 +83,11 @@ bound-e-over-arms-requires-2 t c κs = search needs
 
 -- src/lib.rt:162:17
 bound-e-bound-e-requires-9 : (t : ℕ) → bound-e-lts.Need-bound-e-requires-9 (bound-e-calls t) (bound-e-at t) bound-e.Post
-bound-e-bound-e-requires-9 t c κs = let k = read (c .before .fields .ensures .a-is) (operation-parts (c .before .before .before .args .p .now .now) (c .before .before .before .args .i) (c .before .before .before .pre .1) (left (c .before .fields .ensures .kind-is) (c .match .rest)) .0) in (omega (arith, k .less, c .before .before .before .pre .0), k .node)
+bound-e-bound-e-requires-9 t c κs = let k = read (c .before .node .ensures .a-is) (operation-parts (c .before .before .before .args .p .now .now) (c .before .before .before .args .i) (c .before .before .before .pre .1) (left (c .before .node .ensures .kind-is) (c .match .rest)) .0) in (omega (arith, k .less, c .before .before .before .pre .0), k .node)
 
 -- src/lib.rt:163:17
 bound-e-bound-e-requires-10 : (t : ℕ) → bound-e-lts.Need-bound-e-requires-10 (bound-e-calls t) (bound-e-at t) bound-e.Post
-bound-e-bound-e-requires-10 t c κs = let k = read (c .before .before .fields .ensures .b-is) (operation-parts (c .before .before .before .before .args .p .now .now) (c .before .before .before .before .args .i) (c .before .before .before .before .pre .1) (left (c .before .before .fields .ensures .kind-is) (c .before .match .rest)) .1) in (omega (arith, k .less, c .before .before .before .before .pre .0), k .node)
+bound-e-bound-e-requires-10 t c κs = let k = read (c .before .before .node .ensures .b-is) (operation-parts (c .before .before .before .before .args .p .now .now) (c .before .before .before .before .args .i) (c .before .before .before .before .pre .1) (left (c .before .before .node .ensures .kind-is) (c .before .match .rest)) .1) in (omega (arith, k .less, c .before .before .before .before .pre .0), k .node)
 
 -- src/lib.rt:164:13
 bound-e-over-both-requires : (t : ℕ) → bound-e-lts.Need-over-both-requires (bound-e-calls t) (bound-e-at t) bound-e.Post
@@ -95,36 +95,36 @@ bound-e-over-both-requires t c κs = search needs
 
 -- src/lib.rt:138:1
 bound-e-returns : (t : ℕ) → bound-e-lts.Need-returns (bound-e-calls t) (bound-e-at t) bound-e.Post
-bound-e-returns t c = bounded-e (c .before .before .before .args .p .now .now) (c .before .before .before .args .i) (c .before .before .before .pre .1) (cc (variable-bound (c .before .before .before .args .p .now .now) (c .before .before .before .args .i) (c .before .before .before .pre .1) (sym (c .before .fields .ensures .kind-is) ∙ c .match .keys1)))
+bound-e-returns t c = bounded-e (c .before .before .before .args .p .now .now) (c .before .before .before .args .i) (c .before .before .before .pre .1) (cc (variable-bound (c .before .before .before .args .p .now .now) (c .before .before .before .args .i) (c .before .before .before .pre .1) (sym (c .before .node .ensures .kind-is) ∙ c .match .keys1)))
 
 -- src/lib.rt:138:1
 bound-e-returns-2 : (t : ℕ) → bound-e-lts.Need-returns-2 (bound-e-calls t) (bound-e-at t) bound-e.Post
-bound-e-returns-2 t c = bounded-e (c .before .before .before .args .p .now .now) (c .before .before .before .args .i) (c .before .before .before .pre .1) (cc (constant-bound (c .before .before .before .args .p .now .now) (c .before .before .before .args .i) (c .before .before .before .pre .1) (sym (c .before .fields .ensures .kind-is) ∙ c .match .keys2)))
+bound-e-returns-2 t c = bounded-e (c .before .before .before .args .p .now .now) (c .before .before .before .args .i) (c .before .before .before .pre .1) (cc (constant-bound (c .before .before .before .args .p .now .now) (c .before .before .before .args .i) (c .before .before .before .pre .1) (sym (c .before .node .ensures .kind-is) ∙ c .match .keys2)))
 
 -- src/lib.rt:138:1
 bound-e-returns-3 : (t : ℕ) → bound-e-lts.Need-returns-3 (bound-e-calls t) (bound-e-at t) bound-e.Post
-bound-e-returns-3 t c = bounded-e (c .before .before .before .before .before .args .p .now .now) (c .before .before .before .before .before .args .i) (c .before .before .before .before .before .pre .1) (cc (negation-bound (c .before .before .before .before .before .args .p .now .now) (c .before .before .before .before .before .args .i) (c .before .before .before .before .before .pre .1) (sym (c .before .before .before .fields .ensures .kind-is) ∙ c .before .before .match .keys3)))
+bound-e-returns-3 t c = bounded-e (c .before .before .before .before .before .args .p .now .now) (c .before .before .before .before .before .args .i) (c .before .before .before .before .before .pre .1) (cc (negation-bound (c .before .before .before .before .before .args .p .now .now) (c .before .before .before .before .before .args .i) (c .before .before .before .before .before .pre .1) (sym (c .before .before .before .node .ensures .kind-is) ∙ c .before .before .match .keys3)))
 
 -- src/lib.rt:138:1
 bound-e-returns-4 : (t : ℕ) → bound-e-lts.Need-returns-4 (bound-e-calls t) (bound-e-at t) bound-e.Post
-bound-e-returns-4 t c = bounded-e (c .before .before .before .before .before .before .before .args .p .now .now) (c .before .before .before .before .before .before .before .args .i) (c .before .before .before .before .before .before .before .pre .1) (cc (choice-bound (c .before .before .before .before .before .before .before .args .p .now .now) (c .before .before .before .before .before .before .before .args .i) (c .before .before .before .before .before .before .before .pre .1) (sym (c .before .before .before .before .before .fields .ensures .kind-is) ∙ c .before .before .before .before .match .keys4)))
+bound-e-returns-4 t c = bounded-e (c .before .before .before .before .before .before .before .args .p .now .now) (c .before .before .before .before .before .before .before .args .i) (c .before .before .before .before .before .before .before .pre .1) (cc (choice-bound (c .before .before .before .before .before .before .before .args .p .now .now) (c .before .before .before .before .before .before .before .args .i) (c .before .before .before .before .before .before .before .pre .1) (sym (c .before .before .before .before .before .node .ensures .kind-is) ∙ c .before .before .before .before .match .keys4)))
 
 -- src/lib.rt:138:1
 bound-e-returns-5 : (t : ℕ) → bound-e-lts.Need-returns-5 (bound-e-calls t) (bound-e-at t) bound-e.Post
-bound-e-returns-5 t c = bounded-e (c .before .before .before .before .before .args .p .now .now) (c .before .before .before .before .before .args .i) (c .before .before .before .before .before .pre .1) (cc (just-bound (c .before .before .before .before .before .args .p .now .now) (c .before .before .before .before .before .args .i) (c .before .before .before .before .before .pre .1) (sym (c .before .before .before .fields .ensures .kind-is) ∙ c .before .before .match .keys5)))
+bound-e-returns-5 t c = bounded-e (c .before .before .before .before .before .args .p .now .now) (c .before .before .before .before .before .args .i) (c .before .before .before .before .before .pre .1) (cc (just-bound (c .before .before .before .before .before .args .p .now .now) (c .before .before .before .before .before .args .i) (c .before .before .before .before .before .pre .1) (sym (c .before .before .before .node .ensures .kind-is) ∙ c .before .before .match .keys5)))
 
 -- src/lib.rt:138:1
 bound-e-returns-6 : (t : ℕ) → bound-e-lts.Need-returns-6 (bound-e-calls t) (bound-e-at t) bound-e.Post
-bound-e-returns-6 t c = bounded-e (c .before .before .before .before .before .before .before .args .p .now .now) (c .before .before .before .before .before .before .before .args .i) (c .before .before .before .before .before .before .before .pre .1) (cc (taking-bound (c .before .before .before .before .before .before .before .args .p .now .now) (c .before .before .before .before .before .before .before .args .i) (c .before .before .before .before .before .before .before .pre .1) (sym (c .before .before .before .before .before .fields .ensures .kind-is) ∙ c .before .before .before .before .match .keys6)))
+bound-e-returns-6 t c = bounded-e (c .before .before .before .before .before .before .before .args .p .now .now) (c .before .before .before .before .before .before .before .args .i) (c .before .before .before .before .before .before .before .pre .1) (cc (taking-bound (c .before .before .before .before .before .before .before .args .p .now .now) (c .before .before .before .before .before .before .before .args .i) (c .before .before .before .before .before .before .before .pre .1) (sym (c .before .before .before .before .before .node .ensures .kind-is) ∙ c .before .before .before .before .match .keys6)))
 
 -- src/lib.rt:138:1
 bound-e-returns-7 : (t : ℕ) → bound-e-lts.Need-returns-7 (bound-e-calls t) (bound-e-at t) bound-e.Post
-bound-e-returns-7 t c = bounded-e (c .before .before .before .before .before .before .args .p .now .now) (c .before .before .before .before .before .before .args .i) (c .before .before .before .before .before .before .pre .1) (cc (operation-bound (c .before .before .before .before .before .before .args .p .now .now) (c .before .before .before .before .before .before .args .i) (c .before .before .before .before .before .before .pre .1) (left (c .before .before .before .before .fields .ensures .kind-is) (c .before .before .before .match .rest))))
+bound-e-returns-7 t c = bounded-e (c .before .before .before .before .before .before .args .p .now .now) (c .before .before .before .before .before .before .args .i) (c .before .before .before .before .before .before .pre .1) (cc (operation-bound (c .before .before .before .before .before .before .args .p .now .now) (c .before .before .before .before .before .before .args .i) (c .before .before .before .before .before .before .pre .1) (left (c .before .before .before .before .node .ensures .kind-is) (c .before .before .before .match .rest))))
 
 pub +bound-e-spec : {M : Type 1} → statement M
 +bound-e-spec = close μ-bound-e λ t. bound-e-lts.spec (bound-e-calls t) (bound-e-at t)
     bound-e.Post
-    (bound-e-fields-requires t)
+    (bound-e-node-requires t)
     (bound-e-bound-e-requires t)
     (bound-e-over-requires t)
     (bound-e-bound-e-requires-2 t)

@@ -16,7 +16,7 @@ returns c = too-large _ _ _ (c .before .before .before .pre .0) (c .if1 .taken)
 
 -- src/lib.rt:20:8
 kind-of-requires : tie.Need-kind-of-requires
-kind-of-requires c κs = omega (arith, c .before .before .before .pre .0 .inside, c .before .before .before .pre .0 .shaped .within)
+kind-of-requires c κs = let w = c .before .before .before .pre .0 in (omega (arith, w .inside, w .shaped .within), omega (arith, w .inside, w .shaped .small))
 
 -- src/lib.rt:21:9
 returns-2 : tie.Need-returns-2

@@ -41,7 +41,7 @@ slice-write-index c = omega arith
 
 -- src/lib.rt:174:21
 kind-of-requires : tie.Need-kind-of-requires Inv-loop μ-loop
-kind-of-requires c κs = omega (arith, c .before .before .before .before .pre .0 .within)
+kind-of-requires c κs = let s = c .before .before .before .before .pre .0 in (omega (arith, s .within), omega (arith, s .small))
 
 -- src/lib.rt:174:12
 has-cell-requires : tie.Need-has-cell-requires Inv-loop μ-loop

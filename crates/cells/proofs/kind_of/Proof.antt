@@ -6,11 +6,11 @@ use Rattle.cells.proofs.kind_of.Statement.{statement}
 use Rattle.cells.proofs.kind_of.Tie as tie
 use Rattle.cells.proofs.kind_of.Reads as reads
 use Rattle.cells.proofs.kind_of.Lts as lts
-use Rattle.table.proofs.record_at.Reads as record-at-reads
+use Rattle.table.proofs.node_at.Reads as node-at-reads
 
 -- src/lib.rt:103:9
-record-at-requires : tie.Need-record-at-requires
-record-at-requires c κs = search needs
+node-at-requires : tie.Need-node-at-requires
+node-at-requires c κs = search needs
 
 -- src/lib.rt:104:5
 shared-slice-read-result : tie.Need-shared-slice-read-result
@@ -19,7 +19,7 @@ shared-slice-read-result c = search needs
 -- src/lib.rt:99:1
 returns : tie.Need-returns
 unfolding kindAt byteAt
-returns c = rw (c .before .record-at .ensures .0) refl
+returns c = rw (c .before .node-at .ensures .0) refl
 
 pub kind-of-spec : {M : Type 1} → statement M
-kind-of-spec = tie.close (tie.spec record-at-requires shared-slice-read-result returns)
+kind-of-spec = tie.close (tie.spec node-at-requires shared-slice-read-result returns)

@@ -14,7 +14,7 @@ use Rattle.ready.proofs.pass_e.Kinds as pass-e-kinds
 use Rattle.ready.proofs.+pass_e.Lts-pass_e as pass-e-lts
 use Rattle.places.proofs.sooner.Reads as sooner-reads
 use Rattle.ready.proofs.needed.Reads as needed-reads
-use Rattle.table.proofs.fields.Reads as fields-reads
+use Rattle.table.proofs.node.Reads as node-reads
 use Rattle.ready.proofs.+pass_e.{statement}
 use Rattle.ready.proofs.+pass_e.Tie.{close}
 
@@ -28,11 +28,11 @@ abbrev pass-e-below : ℕ → In 3 pass-e-kinds.ps
 pass-e-below t = and 3 pass-e-kinds.ps (falls 3 pass-e-kinds.ps _<_ μ-pass-e t) pass-e.Pre
 
 abbrev pass-e-calls : ℕ → pass-e-lts.Claims
-pass-e-calls t = (fields-reads.Asked, fields-reads.Learnt, needed-reads.Asked, needed-reads.Learnt, pass-e-below t, pass-e.Post, sooner-reads.Asked, sooner-reads.Learnt)
+pass-e-calls t = (node-reads.Asked, node-reads.Learnt, needed-reads.Asked, needed-reads.Learnt, pass-e-below t, pass-e.Post, sooner-reads.Asked, sooner-reads.Learnt)
 
 -- src/lib.rt:49:9
-pass-e-fields-requires : (t : ℕ) → pass-e-lts.Need-fields-requires (pass-e-calls t) (pass-e-at t) pass-e.Post
-pass-e-fields-requires t c κs = omega (arith, c .before .pre .1 .node .inside, c .before .pre .1 .node .shaped .within)
+pass-e-node-requires : (t : ℕ) → pass-e-lts.Need-node-requires (pass-e-calls t) (pass-e-at t) pass-e.Post
+pass-e-node-requires t c κs = let w = c .before .pre .1 .node in (omega (arith, w .inside, w .shaped .within), omega (arith, w .inside, w .shaped .small))
 
 -- src/lib.rt:52:15
 pass-e-needed-requires : (t : ℕ) → pass-e-lts.Need-needed-requires (pass-e-calls t) (pass-e-at t) pass-e.Post
@@ -40,19 +40,19 @@ pass-e-needed-requires t c κs = omega (arith, c .before .before .before .pre .1
 
 -- src/lib.rt:54:15
 pass-e-pass-e-requires : (t : ℕ) → pass-e-lts.Need-pass-e-requires (pass-e-calls t) (pass-e-at t) pass-e.Post
-pass-e-pass-e-requires t c κs = let k = read (c .before .fields .ensures .a-is) (negation-kid (c .before .before .before .args .p .now .now) (c .before .before .before .args .i) (c .before .before .before .pre .1 .node) (sym (c .before .fields .ensures .kind-is) ∙ c .match .keys3)) in (omega (arith, k .less, c .before .before .before .pre .0), entered (c .before .before .before .pre .1) refl k (omega (arith, k .less, c .before .before .before .pre .1 .above)) (omega arith))
+pass-e-pass-e-requires t c κs = let k = read (c .before .node .ensures .a-is) (negation-kid (c .before .before .before .args .p .now .now) (c .before .before .before .args .i) (c .before .before .before .pre .1 .node) (sym (c .before .node .ensures .kind-is) ∙ c .match .keys3)) in (omega (arith, k .less, c .before .before .before .pre .0), entered (c .before .before .before .pre .1) refl k (omega (arith, k .less, c .before .before .before .pre .1 .above)) (omega arith))
 
 -- src/lib.rt:56:17
 pass-e-pass-e-requires-2 : (t : ℕ) → pass-e-lts.Need-pass-e-requires-2 (pass-e-calls t) (pass-e-at t) pass-e.Post
-pass-e-pass-e-requires-2 t c κs = let k = read (c .before .fields .ensures .a-is) (choice-kids (c .before .before .before .args .p .now .now) (c .before .before .before .args .i) (c .before .before .before .pre .1 .node) (sym (c .before .fields .ensures .kind-is) ∙ c .match .keys4) .0) in (omega (arith, k .less, c .before .before .before .pre .0), entered (c .before .before .before .pre .1) refl k (omega (arith, k .less, c .before .before .before .pre .1 .above)) (omega arith))
+pass-e-pass-e-requires-2 t c κs = let k = read (c .before .node .ensures .a-is) (choice-kids (c .before .before .before .args .p .now .now) (c .before .before .before .args .i) (c .before .before .before .pre .1 .node) (sym (c .before .node .ensures .kind-is) ∙ c .match .keys4) .0) in (omega (arith, k .less, c .before .before .before .pre .0), entered (c .before .before .before .pre .1) refl k (omega (arith, k .less, c .before .before .before .pre .1 .above)) (omega arith))
 
 -- src/lib.rt:57:17
 pass-e-pass-e-requires-3 : (t : ℕ) → pass-e-lts.Need-pass-e-requires-3 (pass-e-calls t) (pass-e-at t) pass-e.Post
-pass-e-pass-e-requires-3 t c κs = let k = read (c .before .before .fields .ensures .b-is) (choice-kids (c .before .before .before .before .args .p .now .now) (c .before .before .before .before .args .i) (c .before .before .before .before .pre .1 .node) (sym (c .before .before .fields .ensures .kind-is) ∙ c .before .match .keys4) .1) in (omega (arith, k .less, c .before .before .before .before .pre .0), entered (c .before .before .before .before .pre .1) refl k (omega (arith, k .less, c .before .before .before .before .pre .1 .above)) (omega arith))
+pass-e-pass-e-requires-3 t c κs = let k = read (c .before .before .node .ensures .b-is) (choice-kids (c .before .before .before .before .args .p .now .now) (c .before .before .before .before .args .i) (c .before .before .before .before .pre .1 .node) (sym (c .before .before .node .ensures .kind-is) ∙ c .before .match .keys4) .1) in (omega (arith, k .less, c .before .before .before .before .pre .0), entered (c .before .before .before .before .pre .1) refl k (omega (arith, k .less, c .before .before .before .before .pre .1 .above)) (omega arith))
 
 -- src/lib.rt:58:17
 pass-e-pass-e-requires-4 : (t : ℕ) → pass-e-lts.Need-pass-e-requires-4 (pass-e-calls t) (pass-e-at t) pass-e.Post
-pass-e-pass-e-requires-4 t c κs = let k = read (c .before .before .before .fields .ensures .c-is) (choice-kids (c .before .before .before .before .before .args .p .now .now) (c .before .before .before .before .before .args .i) (c .before .before .before .before .before .pre .1 .node) (sym (c .before .before .before .fields .ensures .kind-is) ∙ c .before .before .match .keys4) .2) in (omega (arith, k .less, c .before .before .before .before .before .pre .0), entered (c .before .before .before .before .before .pre .1) refl k (omega (arith, k .less, c .before .before .before .before .before .pre .1 .above)) (omega arith))
+pass-e-pass-e-requires-4 t c κs = let k = read (c .before .before .before .node .ensures .c-is) (choice-kids (c .before .before .before .before .before .args .p .now .now) (c .before .before .before .before .before .args .i) (c .before .before .before .before .before .pre .1 .node) (sym (c .before .before .before .node .ensures .kind-is) ∙ c .before .before .match .keys4) .2) in (omega (arith, k .less, c .before .before .before .before .before .pre .0), entered (c .before .before .before .before .before .pre .1) refl k (omega (arith, k .less, c .before .before .before .before .before .pre .1 .above)) (omega arith))
 
 -- src/lib.rt:59:26
 pass-e-sooner-requires : (t : ℕ) → pass-e-lts.Need-sooner-requires (pass-e-calls t) (pass-e-at t) pass-e.Post
@@ -64,19 +64,19 @@ pass-e-sooner-requires-2 t c κs = search needs
 
 -- src/lib.rt:61:15
 pass-e-pass-e-requires-5 : (t : ℕ) → pass-e-lts.Need-pass-e-requires-5 (pass-e-calls t) (pass-e-at t) pass-e.Post
-pass-e-pass-e-requires-5 t c κs = let k = read (c .before .fields .ensures .a-is) (just-kid (c .before .before .before .args .p .now .now) (c .before .before .before .args .i) (c .before .before .before .pre .1 .node) (sym (c .before .fields .ensures .kind-is) ∙ c .match .keys5)) in (omega (arith, k .less, c .before .before .before .pre .0), entered (c .before .before .before .pre .1) refl k (omega (arith, k .less, c .before .before .before .pre .1 .above)) (omega arith))
+pass-e-pass-e-requires-5 t c κs = let k = read (c .before .node .ensures .a-is) (just-kid (c .before .before .before .args .p .now .now) (c .before .before .before .args .i) (c .before .before .before .pre .1 .node) (sym (c .before .node .ensures .kind-is) ∙ c .match .keys5)) in (omega (arith, k .less, c .before .before .before .pre .0), entered (c .before .before .before .pre .1) refl k (omega (arith, k .less, c .before .before .before .pre .1 .above)) (omega arith))
 
 -- src/lib.rt:63:17
 pass-e-pass-e-requires-6 : (t : ℕ) → pass-e-lts.Need-pass-e-requires-6 (pass-e-calls t) (pass-e-at t) pass-e.Post
-pass-e-pass-e-requires-6 t c κs = let k = read (c .before .fields .ensures .a-is) (taking-kids (c .before .before .before .args .p .now .now) (c .before .before .before .args .i) (c .before .before .before .pre .1 .node) (sym (c .before .fields .ensures .kind-is) ∙ c .match .keys6) .0) in (omega (arith, k .less, c .before .before .before .pre .0), entered (c .before .before .before .pre .1) refl k (omega (arith, k .less, c .before .before .before .pre .1 .above)) (omega arith))
+pass-e-pass-e-requires-6 t c κs = let k = read (c .before .node .ensures .a-is) (taking-kids (c .before .before .before .args .p .now .now) (c .before .before .before .args .i) (c .before .before .before .pre .1 .node) (sym (c .before .node .ensures .kind-is) ∙ c .match .keys6) .0) in (omega (arith, k .less, c .before .before .before .pre .0), entered (c .before .before .before .pre .1) refl k (omega (arith, k .less, c .before .before .before .pre .1 .above)) (omega arith))
 
 -- src/lib.rt:64:17
 pass-e-pass-e-requires-7 : (t : ℕ) → pass-e-lts.Need-pass-e-requires-7 (pass-e-calls t) (pass-e-at t) pass-e.Post
-pass-e-pass-e-requires-7 t c κs = let k = read (c .before .before .fields .ensures .b-is) (taking-kids (c .before .before .before .before .args .p .now .now) (c .before .before .before .before .args .i) (c .before .before .before .before .pre .1 .node) (sym (c .before .before .fields .ensures .kind-is) ∙ c .before .match .keys6) .1) in (omega (arith, k .less, c .before .before .before .before .pre .0), entered (c .before .before .before .before .pre .1) refl k (omega (arith, k .less, c .before .before .before .before .pre .1 .above)) (omega arith))
+pass-e-pass-e-requires-7 t c κs = let k = read (c .before .before .node .ensures .b-is) (taking-kids (c .before .before .before .before .args .p .now .now) (c .before .before .before .before .args .i) (c .before .before .before .before .pre .1 .node) (sym (c .before .before .node .ensures .kind-is) ∙ c .before .match .keys6) .1) in (omega (arith, k .less, c .before .before .before .before .pre .0), entered (c .before .before .before .before .pre .1) refl k (omega (arith, k .less, c .before .before .before .before .pre .1 .above)) (omega arith))
 
 -- src/lib.rt:65:17
 pass-e-pass-e-requires-8 : (t : ℕ) → pass-e-lts.Need-pass-e-requires-8 (pass-e-calls t) (pass-e-at t) pass-e.Post
-pass-e-pass-e-requires-8 t c κs = let k = read (c .before .before .before .fields .ensures .c-is) (taking-kids (c .before .before .before .before .before .args .p .now .now) (c .before .before .before .before .before .args .i) (c .before .before .before .before .before .pre .1 .node) (sym (c .before .before .before .fields .ensures .kind-is) ∙ c .before .before .match .keys6) .2) in (omega (arith, k .less, c .before .before .before .before .before .pre .0), entered (c .before .before .before .before .before .pre .1) refl k (omega (arith, k .less, c .before .before .before .before .before .pre .1 .above)) (omega arith))
+pass-e-pass-e-requires-8 t c κs = let k = read (c .before .before .before .node .ensures .c-is) (taking-kids (c .before .before .before .before .before .args .p .now .now) (c .before .before .before .before .before .args .i) (c .before .before .before .before .before .pre .1 .node) (sym (c .before .before .before .node .ensures .kind-is) ∙ c .before .before .match .keys6) .2) in (omega (arith, k .less, c .before .before .before .before .before .pre .0), entered (c .before .before .before .before .before .pre .1) refl k (omega (arith, k .less, c .before .before .before .before .before .pre .1 .above)) (omega arith))
 
 -- src/lib.rt:66:23
 pass-e-sooner-requires-3 : (t : ℕ) → pass-e-lts.Need-sooner-requires-3 (pass-e-calls t) (pass-e-at t) pass-e.Post
@@ -88,11 +88,11 @@ pass-e-sooner-requires-4 t c κs = search needs
 
 -- src/lib.rt:69:17
 pass-e-pass-e-requires-9 : (t : ℕ) → pass-e-lts.Need-pass-e-requires-9 (pass-e-calls t) (pass-e-at t) pass-e.Post
-pass-e-pass-e-requires-9 t c κs = let k = read (c .before .fields .ensures .a-is) (operation-kids (c .before .before .before .args .p .now .now) (c .before .before .before .args .i) (c .before .before .before .pre .1 .node) (left (c .before .fields .ensures .kind-is) (c .match .rest)) .0) in (omega (arith, k .less, c .before .before .before .pre .0), entered (c .before .before .before .pre .1) refl k (omega (arith, k .less, c .before .before .before .pre .1 .above)) (omega arith))
+pass-e-pass-e-requires-9 t c κs = let k = read (c .before .node .ensures .a-is) (operation-kids (c .before .before .before .args .p .now .now) (c .before .before .before .args .i) (c .before .before .before .pre .1 .node) (left (c .before .node .ensures .kind-is) (c .match .rest)) .0) in (omega (arith, k .less, c .before .before .before .pre .0), entered (c .before .before .before .pre .1) refl k (omega (arith, k .less, c .before .before .before .pre .1 .above)) (omega arith))
 
 -- src/lib.rt:70:17
 pass-e-pass-e-requires-10 : (t : ℕ) → pass-e-lts.Need-pass-e-requires-10 (pass-e-calls t) (pass-e-at t) pass-e.Post
-pass-e-pass-e-requires-10 t c κs = let k = read (c .before .before .fields .ensures .b-is) (operation-kids (c .before .before .before .before .args .p .now .now) (c .before .before .before .before .args .i) (c .before .before .before .before .pre .1 .node) (left (c .before .before .fields .ensures .kind-is) (c .before .match .rest)) .1) in (omega (arith, k .less, c .before .before .before .before .pre .0), entered (c .before .before .before .before .pre .1) refl k (omega (arith, k .less, c .before .before .before .before .pre .1 .above)) (omega arith))
+pass-e-pass-e-requires-10 t c κs = let k = read (c .before .before .node .ensures .b-is) (operation-kids (c .before .before .before .before .args .p .now .now) (c .before .before .before .before .args .i) (c .before .before .before .before .pre .1 .node) (left (c .before .before .node .ensures .kind-is) (c .before .match .rest)) .1) in (omega (arith, k .less, c .before .before .before .before .pre .0), entered (c .before .before .before .before .pre .1) refl k (omega (arith, k .less, c .before .before .before .before .pre .1 .above)) (omega arith))
 
 -- src/lib.rt:71:13
 pass-e-sooner-requires-5 : (t : ℕ) → pass-e-lts.Need-sooner-requires-5 (pass-e-calls t) (pass-e-at t) pass-e.Post
@@ -100,36 +100,36 @@ pass-e-sooner-requires-5 t c κs = search needs
 
 -- src/lib.rt:45:1
 pass-e-returns : (t : ℕ) → pass-e-lts.Need-returns (pass-e-calls t) (pass-e-at t) pass-e.Post
-pass-e-returns t c = cc (variable-found (c .before .before .before .before .args .p .now .now) (c .before .before .before .before .args .i) (c .before .before .before .before .pre .1 .node) (markedIn (c .before .before .before .before .args .marks .now) (c .before .before .before .before .args .region)) (sym (c .before .before .fields .ensures .kind-is) ∙ c .before .match .keys1))
+pass-e-returns t c = cc (variable-found (c .before .before .before .before .args .p .now .now) (c .before .before .before .before .args .i) (c .before .before .before .before .pre .1 .node) (markedIn (c .before .before .before .before .args .marks .now) (c .before .before .before .before .args .region)) (sym (c .before .before .node .ensures .kind-is) ∙ c .before .match .keys1))
 
 -- src/lib.rt:45:1
 pass-e-returns-2 : (t : ℕ) → pass-e-lts.Need-returns-2 (pass-e-calls t) (pass-e-at t) pass-e.Post
-pass-e-returns-2 t c = cc (constant-found (c .before .before .before .args .p .now .now) (c .before .before .before .args .i) (c .before .before .before .pre .1 .node) (markedIn (c .before .before .before .args .marks .now) (c .before .before .before .args .region)) (sym (c .before .fields .ensures .kind-is) ∙ c .match .keys2))
+pass-e-returns-2 t c = cc (constant-found (c .before .before .before .args .p .now .now) (c .before .before .before .args .i) (c .before .before .before .pre .1 .node) (markedIn (c .before .before .before .args .marks .now) (c .before .before .before .args .region)) (sym (c .before .node .ensures .kind-is) ∙ c .match .keys2))
 
 -- src/lib.rt:45:1
 pass-e-returns-3 : (t : ℕ) → pass-e-lts.Need-returns-3 (pass-e-calls t) (pass-e-at t) pass-e.Post
-pass-e-returns-3 t c = cc (negation-found (c .before .before .before .before .args .p .now .now) (c .before .before .before .before .args .i) (c .before .before .before .before .pre .1 .node) (markedIn (c .before .before .before .before .args .marks .now) (c .before .before .before .before .args .region)) (sym (c .before .before .fields .ensures .kind-is) ∙ c .before .match .keys3))
+pass-e-returns-3 t c = cc (negation-found (c .before .before .before .before .args .p .now .now) (c .before .before .before .before .args .i) (c .before .before .before .before .pre .1 .node) (markedIn (c .before .before .before .before .args .marks .now) (c .before .before .before .before .args .region)) (sym (c .before .before .node .ensures .kind-is) ∙ c .before .match .keys3))
 
 -- src/lib.rt:45:1
 pass-e-returns-4 : (t : ℕ) → pass-e-lts.Need-returns-4 (pass-e-calls t) (pass-e-at t) pass-e.Post
-pass-e-returns-4 t c = cc (choice-found (c .before .before .before .before .before .before .before .before .args .p .now .now) (c .before .before .before .before .before .before .before .before .args .i) (c .before .before .before .before .before .before .before .before .pre .1 .node) (markedIn (c .before .before .before .before .before .before .before .before .args .marks .now) (c .before .before .before .before .before .before .before .before .args .region)) (sym (c .before .before .before .before .before .before .fields .ensures .kind-is) ∙ c .before .before .before .before .before .match .keys4))
+pass-e-returns-4 t c = cc (choice-found (c .before .before .before .before .before .before .before .before .args .p .now .now) (c .before .before .before .before .before .before .before .before .args .i) (c .before .before .before .before .before .before .before .before .pre .1 .node) (markedIn (c .before .before .before .before .before .before .before .before .args .marks .now) (c .before .before .before .before .before .before .before .before .args .region)) (sym (c .before .before .before .before .before .before .node .ensures .kind-is) ∙ c .before .before .before .before .before .match .keys4))
 
 -- src/lib.rt:45:1
 pass-e-returns-5 : (t : ℕ) → pass-e-lts.Need-returns-5 (pass-e-calls t) (pass-e-at t) pass-e.Post
-pass-e-returns-5 t c = cc (just-found (c .before .before .before .before .args .p .now .now) (c .before .before .before .before .args .i) (c .before .before .before .before .pre .1 .node) (markedIn (c .before .before .before .before .args .marks .now) (c .before .before .before .before .args .region)) (sym (c .before .before .fields .ensures .kind-is) ∙ c .before .match .keys5))
+pass-e-returns-5 t c = cc (just-found (c .before .before .before .before .args .p .now .now) (c .before .before .before .before .args .i) (c .before .before .before .before .pre .1 .node) (markedIn (c .before .before .before .before .args .marks .now) (c .before .before .before .before .args .region)) (sym (c .before .before .node .ensures .kind-is) ∙ c .before .match .keys5))
 
 -- src/lib.rt:45:1
 pass-e-returns-6 : (t : ℕ) → pass-e-lts.Need-returns-6 (pass-e-calls t) (pass-e-at t) pass-e.Post
-pass-e-returns-6 t c = cc (taking-found (c .before .before .before .before .before .before .before .before .args .p .now .now) (c .before .before .before .before .before .before .before .before .args .i) (c .before .before .before .before .before .before .before .before .pre .1 .node) (markedIn (c .before .before .before .before .before .before .before .before .args .marks .now) (c .before .before .before .before .before .before .before .before .args .region)) (sym (c .before .before .before .before .before .before .fields .ensures .kind-is) ∙ c .before .before .before .before .before .match .keys6))
+pass-e-returns-6 t c = cc (taking-found (c .before .before .before .before .before .before .before .before .args .p .now .now) (c .before .before .before .before .before .before .before .before .args .i) (c .before .before .before .before .before .before .before .before .pre .1 .node) (markedIn (c .before .before .before .before .before .before .before .before .args .marks .now) (c .before .before .before .before .before .before .before .before .args .region)) (sym (c .before .before .before .before .before .before .node .ensures .kind-is) ∙ c .before .before .before .before .before .match .keys6))
 
 -- src/lib.rt:45:1
 pass-e-returns-7 : (t : ℕ) → pass-e-lts.Need-returns-7 (pass-e-calls t) (pass-e-at t) pass-e.Post
-pass-e-returns-7 t c = cc (operation-found (c .before .before .before .before .before .before .args .p .now .now) (c .before .before .before .before .before .before .args .i) (c .before .before .before .before .before .before .pre .1 .node) (markedIn (c .before .before .before .before .before .before .args .marks .now) (c .before .before .before .before .before .before .args .region)) (left (c .before .before .before .before .fields .ensures .kind-is) (c .before .before .before .match .rest)))
+pass-e-returns-7 t c = cc (operation-found (c .before .before .before .before .before .before .args .p .now .now) (c .before .before .before .before .before .before .args .i) (c .before .before .before .before .before .before .pre .1 .node) (markedIn (c .before .before .before .before .before .before .args .marks .now) (c .before .before .before .before .before .before .args .region)) (left (c .before .before .before .before .node .ensures .kind-is) (c .before .before .before .match .rest)))
 
 pub +pass-e-spec : {M : Type 1} → statement M
 +pass-e-spec = close μ-pass-e λ t. pass-e-lts.spec (pass-e-calls t) (pass-e-at t)
     pass-e.Post
-    (pass-e-fields-requires t)
+    (pass-e-node-requires t)
     (pass-e-needed-requires t)
     (pass-e-pass-e-requires t)
     (pass-e-pass-e-requires-2 t)

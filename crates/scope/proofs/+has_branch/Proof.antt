@@ -10,7 +10,7 @@ use borrow.Fn.PlainCycle.{Measures, is, falls, and}
 use Rattle.scope.proofs.has_branch.Reads as has-branch
 use Rattle.scope.proofs.has_branch.Kinds as has-branch-kinds
 use Rattle.scope.proofs.+has_branch.Lts-has_branch as has-branch-lts
-use Rattle.table.proofs.fields.Reads as fields-reads
+use Rattle.table.proofs.node.Reads as node-reads
 use Rattle.scope.proofs.+has_branch.{statement}
 use Rattle.scope.proofs.+has_branch.Tie.{close}
 
@@ -26,33 +26,33 @@ has-branch-below t =
     and 2 has-branch-kinds.ps (falls 2 has-branch-kinds.ps _<_ μ-has-branch t) has-branch.Pre
 
 abbrev has-branch-calls : ℕ → has-branch-lts.Claims
-has-branch-calls t = (fields-reads.Asked, fields-reads.Learnt, has-branch-below t, has-branch.Post)
+has-branch-calls t = (node-reads.Asked, node-reads.Learnt, has-branch-below t, has-branch.Post)
 
 -- src/lib.rt:77:9
 has-branch-returns : (t : ℕ) → has-branch-lts.Need-returns (has-branch-calls t) (has-branch-at t) has-branch.Post
 has-branch-returns t c = sym (has-here (c .before .args .p .now .now) (c .before .args .j) (c .before .pre .1) (c .before .args .k) (c .if1 .taken))
 
 -- src/lib.rt:79:9
-has-branch-fields-requires : (t : ℕ) → has-branch-lts.Need-fields-requires (has-branch-calls t) (has-branch-at t) has-branch.Post
-has-branch-fields-requires t c κs = omega (arith, c .before .before .pre .1 .inside, c .before .before .pre .1 .shaped .within)
+has-branch-node-requires : (t : ℕ) → has-branch-lts.Need-node-requires (has-branch-calls t) (has-branch-at t) has-branch.Post
+has-branch-node-requires t c κs = let w = c .before .before .pre .1 in (omega (arith, w .inside, w .shaped .within), omega (arith, w .inside, w .shaped .small))
 
 -- src/lib.rt:81:9
 has-branch-returns-2 : (t : ℕ) → has-branch-lts.Need-returns-2 (has-branch-calls t) (has-branch-at t) has-branch.Post
-has-branch-returns-2 t c = sym (has-last (c .before .before .before .before .before .args .p .now .now) (c .before .before .before .before .before .args .j) (c .before .before .before .before .before .pre .1) (c .before .before .before .before .before .args .k) (c .before .before .before .before .if1 .left) (sym (c .before .before .fields .ensures .b-is) ∙ c .if2 .taken))
+has-branch-returns-2 t c = sym (has-last (c .before .before .before .before .before .args .p .now .now) (c .before .before .before .before .before .args .j) (c .before .before .before .before .before .pre .1) (c .before .before .before .before .before .args .k) (c .before .before .before .before .if1 .left) (sym (c .before .before .node .ensures .b-is) ∙ c .if2 .taken))
 
 -- src/lib.rt:83:5
 has-branch-has-branch-requires : (t : ℕ) → has-branch-lts.Need-has-branch-requires (has-branch-calls t) (has-branch-at t) has-branch.Post
-has-branch-has-branch-requires t c κs = let k = read (c .before .before .fields .ensures .b-is) (branch-next (c .before .before .before .before .before .args .p .now .now) (c .before .before .before .before .before .args .j) (c .before .before .before .before .before .pre .1) (λ h. c .if2 .left (c .before .before .fields .ensures .b-is ∙ h))) in (omega (arith, k .less, c .before .before .before .before .before .pre .0), k .node)
+has-branch-has-branch-requires t c κs = let k = read (c .before .before .node .ensures .b-is) (branch-next (c .before .before .before .before .before .args .p .now .now) (c .before .before .before .before .before .args .j) (c .before .before .before .before .before .pre .1) (λ h. c .if2 .left (c .before .before .node .ensures .b-is ∙ h))) in (omega (arith, k .less, c .before .before .before .before .before .pre .0), k .node)
 
 -- src/lib.rt:72:1
 has-branch-returns-3 : (t : ℕ) → has-branch-lts.Need-returns-3 (has-branch-calls t) (has-branch-at t) has-branch.Post
-has-branch-returns-3 t c = cc (has-more (c .before .before .before .before .before .before .args .p .now .now) (c .before .before .before .before .before .before .args .j) (c .before .before .before .before .before .before .pre .1) (c .before .before .before .before .before .before .args .k) (c .before .before .before .before .before .if1 .left) (λ h. c .before .if2 .left (c .before .before .before .fields .ensures .b-is ∙ h)))
+has-branch-returns-3 t c = cc (has-more (c .before .before .before .before .before .before .args .p .now .now) (c .before .before .before .before .before .before .args .j) (c .before .before .before .before .before .before .pre .1) (c .before .before .before .before .before .before .args .k) (c .before .before .before .before .before .if1 .left) (λ h. c .before .if2 .left (c .before .before .before .node .ensures .b-is ∙ h)))
 
 pub +has-branch-spec : {M : Type 1} → statement M
 +has-branch-spec = close μ-has-branch λ t. has-branch-lts.spec (has-branch-calls t) (has-branch-at t)
     has-branch.Post
     (has-branch-returns t)
-    (has-branch-fields-requires t)
+    (has-branch-node-requires t)
     (has-branch-returns-2 t)
     (has-branch-has-branch-requires t)
     (has-branch-returns-3 t)

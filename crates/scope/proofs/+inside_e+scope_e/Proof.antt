@@ -19,7 +19,7 @@ use Rattle.scope.proofs.scope_e.Reads as scope-e
 use Rattle.scope.proofs.scope_e.Kinds as scope-e-kinds
 use Rattle.scope.proofs.+inside_e+scope_e.Lts-scope_e as scope-e-lts
 use Rattle.scope.proofs.marked.Reads as marked-reads
-use Rattle.table.proofs.fields.Reads as fields-reads
+use Rattle.table.proofs.node.Reads as node-reads
 use Rattle.places.proofs.sooner.Reads as sooner-reads
 use Rattle.places.proofs.wrong_unless.Reads as wrong-unless-reads
 use Rattle.scope.proofs.+inside_e+scope_e.{statement}
@@ -48,7 +48,7 @@ abbrev inside-e-calls : ℕ → inside-e-lts.Claims
 inside-e-calls t = (scope-e-below t, scope-e.Post)
 
 abbrev scope-e-calls : ℕ → scope-e-lts.Claims
-scope-e-calls t = (fields-reads.Asked, fields-reads.Learnt, marked-reads.Asked, marked-reads.Learnt, wrong-unless-reads.Asked, wrong-unless-reads.Learnt, scope-e-below t, scope-e.Post, sooner-reads.Asked, sooner-reads.Learnt, inside-e-below t, inside-e.Post)
+scope-e-calls t = (node-reads.Asked, node-reads.Learnt, marked-reads.Asked, marked-reads.Learnt, wrong-unless-reads.Asked, wrong-unless-reads.Learnt, scope-e-below t, scope-e.Post, sooner-reads.Asked, sooner-reads.Learnt, inside-e-below t, inside-e.Post)
 
 -- src/lib.rt:64:15
 inside-e-element-copy-out-old : (t : ℕ) → inside-e-lts.Need-element-copy-out-old (inside-e-calls t) (inside-e-at t) inside-e.Post
@@ -74,8 +74,8 @@ unfolding mark
 inside-e-returns t c = (c .scope-e .ensures .0, ap (λ (l : List ℕ). set l (c .before .before .before .args .i) (getD (c .before .before .before .args .marks .now) (c .before .before .before .args .i) 0)) (c .scope-e .ensures .1) ∙ put-back _ _ 1)
 
 -- src/lib.rt:32:9
-scope-e-fields-requires : (t : ℕ) → scope-e-lts.Need-fields-requires (scope-e-calls t) (scope-e-at t) scope-e.Post
-scope-e-fields-requires t c κs = omega (arith, c .before .pre .1 .inside, c .before .pre .1 .shaped .within)
+scope-e-node-requires : (t : ℕ) → scope-e-lts.Need-node-requires (scope-e-calls t) (scope-e-at t) scope-e.Post
+scope-e-node-requires t c κs = let w = c .before .pre .1 in (omega (arith, w .inside, w .shaped .within), omega (arith, w .inside, w .shaped .small))
 
 -- src/lib.rt:35:28
 scope-e-marked-requires : (t : ℕ) → scope-e-lts.Need-marked-requires (scope-e-calls t) (scope-e-at t) scope-e.Post
@@ -87,19 +87,19 @@ scope-e-wrong-unless-requires t c κs = omega (arith, c .before .before .before 
 
 -- src/lib.rt:37:15
 scope-e-scope-e-requires : (t : ℕ) → scope-e-lts.Need-scope-e-requires (scope-e-calls t) (scope-e-at t) scope-e.Post
-scope-e-scope-e-requires t c κs = let k = read (c .before .before .fields .ensures .a-is) (negation-kid (c .before .before .before .before .args .p .now .now) (c .before .before .before .before .args .i) (c .before .before .before .before .pre .1) (sym (c .before .before .fields .ensures .kind-is) ∙ c .before .match .keys3)) in (omega (arith, k .less, c .before .before .before .before .pre .0), k .node)
+scope-e-scope-e-requires t c κs = let k = read (c .before .before .node .ensures .a-is) (negation-kid (c .before .before .before .before .args .p .now .now) (c .before .before .before .before .args .i) (c .before .before .before .before .pre .1) (sym (c .before .before .node .ensures .kind-is) ∙ c .before .match .keys3)) in (omega (arith, k .less, c .before .before .before .before .pre .0), k .node)
 
 -- src/lib.rt:39:17
 scope-e-scope-e-requires-2 : (t : ℕ) → scope-e-lts.Need-scope-e-requires-2 (scope-e-calls t) (scope-e-at t) scope-e.Post
-scope-e-scope-e-requires-2 t c κs = let k = read (c .before .before .fields .ensures .a-is) (choice-kids (c .before .before .before .before .args .p .now .now) (c .before .before .before .before .args .i) (c .before .before .before .before .pre .1) (sym (c .before .before .fields .ensures .kind-is) ∙ c .before .match .keys4) .0) in (omega (arith, k .less, c .before .before .before .before .pre .0), k .node)
+scope-e-scope-e-requires-2 t c κs = let k = read (c .before .before .node .ensures .a-is) (choice-kids (c .before .before .before .before .args .p .now .now) (c .before .before .before .before .args .i) (c .before .before .before .before .pre .1) (sym (c .before .before .node .ensures .kind-is) ∙ c .before .match .keys4) .0) in (omega (arith, k .less, c .before .before .before .before .pre .0), k .node)
 
 -- src/lib.rt:40:17
 scope-e-scope-e-requires-3 : (t : ℕ) → scope-e-lts.Need-scope-e-requires-3 (scope-e-calls t) (scope-e-at t) scope-e.Post
-scope-e-scope-e-requires-3 t c κs = let k = read (c .before .before .before .before .fields .ensures .b-is) (choice-kids (c .before .before .before .before .before .before .args .p .now .now) (c .before .before .before .before .before .before .args .i) (c .before .before .before .before .before .before .pre .1) (sym (c .before .before .before .before .fields .ensures .kind-is) ∙ c .before .before .before .match .keys4) .1) in (omega (arith, k .less, c .before .before .before .before .before .before .pre .0), k .node)
+scope-e-scope-e-requires-3 t c κs = let k = read (c .before .before .before .before .node .ensures .b-is) (choice-kids (c .before .before .before .before .before .before .args .p .now .now) (c .before .before .before .before .before .before .args .i) (c .before .before .before .before .before .before .pre .1) (sym (c .before .before .before .before .node .ensures .kind-is) ∙ c .before .before .before .match .keys4) .1) in (omega (arith, k .less, c .before .before .before .before .before .before .pre .0), k .node)
 
 -- src/lib.rt:41:17
 scope-e-scope-e-requires-4 : (t : ℕ) → scope-e-lts.Need-scope-e-requires-4 (scope-e-calls t) (scope-e-at t) scope-e.Post
-scope-e-scope-e-requires-4 t c κs = let k = read (c .before .before .before .before .before .before .fields .ensures .c-is) (choice-kids (c .before .before .before .before .before .before .before .before .args .p .now .now) (c .before .before .before .before .before .before .before .before .args .i) (c .before .before .before .before .before .before .before .before .pre .1) (sym (c .before .before .before .before .before .before .fields .ensures .kind-is) ∙ c .before .before .before .before .before .match .keys4) .2) in (omega (arith, k .less, c .before .before .before .before .before .before .before .before .pre .0), k .node)
+scope-e-scope-e-requires-4 t c κs = let k = read (c .before .before .before .before .before .before .node .ensures .c-is) (choice-kids (c .before .before .before .before .before .before .before .before .args .p .now .now) (c .before .before .before .before .before .before .before .before .args .i) (c .before .before .before .before .before .before .before .before .pre .1) (sym (c .before .before .before .before .before .before .node .ensures .kind-is) ∙ c .before .before .before .before .before .match .keys4) .2) in (omega (arith, k .less, c .before .before .before .before .before .before .before .before .pre .0), k .node)
 
 -- src/lib.rt:42:26
 scope-e-sooner-requires : (t : ℕ) → scope-e-lts.Need-sooner-requires (scope-e-calls t) (scope-e-at t) scope-e.Post
@@ -111,19 +111,19 @@ scope-e-sooner-requires-2 t c κs = search needs
 
 -- src/lib.rt:44:15
 scope-e-scope-e-requires-5 : (t : ℕ) → scope-e-lts.Need-scope-e-requires-5 (scope-e-calls t) (scope-e-at t) scope-e.Post
-scope-e-scope-e-requires-5 t c κs = let k = read (c .before .before .fields .ensures .a-is) (just-kid (c .before .before .before .before .args .p .now .now) (c .before .before .before .before .args .i) (c .before .before .before .before .pre .1) (sym (c .before .before .fields .ensures .kind-is) ∙ c .before .match .keys5)) in (omega (arith, k .less, c .before .before .before .before .pre .0), k .node)
+scope-e-scope-e-requires-5 t c κs = let k = read (c .before .before .node .ensures .a-is) (just-kid (c .before .before .before .before .args .p .now .now) (c .before .before .before .before .args .i) (c .before .before .before .before .pre .1) (sym (c .before .before .node .ensures .kind-is) ∙ c .before .match .keys5)) in (omega (arith, k .less, c .before .before .before .before .pre .0), k .node)
 
 -- src/lib.rt:46:17
 scope-e-scope-e-requires-6 : (t : ℕ) → scope-e-lts.Need-scope-e-requires-6 (scope-e-calls t) (scope-e-at t) scope-e.Post
-scope-e-scope-e-requires-6 t c κs = let k = read (c .before .before .fields .ensures .a-is) (taking-kids (c .before .before .before .before .args .p .now .now) (c .before .before .before .before .args .i) (c .before .before .before .before .pre .1) (sym (c .before .before .fields .ensures .kind-is) ∙ c .before .match .keys6) .0) in (omega (arith, k .less, c .before .before .before .before .pre .0), k .node)
+scope-e-scope-e-requires-6 t c κs = let k = read (c .before .before .node .ensures .a-is) (taking-kids (c .before .before .before .before .args .p .now .now) (c .before .before .before .before .args .i) (c .before .before .before .before .pre .1) (sym (c .before .before .node .ensures .kind-is) ∙ c .before .match .keys6) .0) in (omega (arith, k .less, c .before .before .before .before .pre .0), k .node)
 
 -- src/lib.rt:47:17
 scope-e-scope-e-requires-7 : (t : ℕ) → scope-e-lts.Need-scope-e-requires-7 (scope-e-calls t) (scope-e-at t) scope-e.Post
-scope-e-scope-e-requires-7 t c κs = let k = read (c .before .before .before .before .fields .ensures .b-is) (taking-kids (c .before .before .before .before .before .before .args .p .now .now) (c .before .before .before .before .before .before .args .i) (c .before .before .before .before .before .before .pre .1) (sym (c .before .before .before .before .fields .ensures .kind-is) ∙ c .before .before .before .match .keys6) .1) in (omega (arith, k .less, c .before .before .before .before .before .before .pre .0), k .node)
+scope-e-scope-e-requires-7 t c κs = let k = read (c .before .before .before .before .node .ensures .b-is) (taking-kids (c .before .before .before .before .before .before .args .p .now .now) (c .before .before .before .before .before .before .args .i) (c .before .before .before .before .before .before .pre .1) (sym (c .before .before .before .before .node .ensures .kind-is) ∙ c .before .before .before .match .keys6) .1) in (omega (arith, k .less, c .before .before .before .before .before .before .pre .0), k .node)
 
 -- src/lib.rt:48:17
 scope-e-inside-e-requires : (t : ℕ) → scope-e-lts.Need-inside-e-requires (scope-e-calls t) (scope-e-at t) scope-e.Post
-scope-e-inside-e-requires t c κs = let k = read (c .before .before .before .before .before .before .fields .ensures .c-is) (taking-kids (c .before .before .before .before .before .before .before .before .args .p .now .now) (c .before .before .before .before .before .before .before .before .args .i) (c .before .before .before .before .before .before .before .before .pre .1) (sym (c .before .before .before .before .before .before .fields .ensures .kind-is) ∙ c .before .before .before .before .before .match .keys6) .2) in (omega (arith, k .less, c .before .before .before .before .before .before .before .before .pre .0), (k .node, omega (arith, c .before .before .before .before .before .before .before .before .pre .1 .inside, c .before .before .before .before .before .before .before .before .pre .1 .shaped .small)))
+scope-e-inside-e-requires t c κs = let k = read (c .before .before .before .before .before .before .node .ensures .c-is) (taking-kids (c .before .before .before .before .before .before .before .before .args .p .now .now) (c .before .before .before .before .before .before .before .before .args .i) (c .before .before .before .before .before .before .before .before .pre .1) (sym (c .before .before .before .before .before .before .node .ensures .kind-is) ∙ c .before .before .before .before .before .match .keys6) .2) in (omega (arith, k .less, c .before .before .before .before .before .before .before .before .pre .0), (k .node, omega (arith, c .before .before .before .before .before .before .before .before .pre .1 .inside, c .before .before .before .before .before .before .before .before .pre .1 .shaped .small)))
 
 -- src/lib.rt:49:23
 scope-e-sooner-requires-3 : (t : ℕ) → scope-e-lts.Need-sooner-requires-3 (scope-e-calls t) (scope-e-at t) scope-e.Post
@@ -135,11 +135,11 @@ scope-e-sooner-requires-4 t c κs = search needs
 
 -- src/lib.rt:52:17
 scope-e-scope-e-requires-8 : (t : ℕ) → scope-e-lts.Need-scope-e-requires-8 (scope-e-calls t) (scope-e-at t) scope-e.Post
-scope-e-scope-e-requires-8 t c κs = let k = read (c .before .before .fields .ensures .a-is) (operation-kids (c .before .before .before .before .args .p .now .now) (c .before .before .before .before .args .i) (c .before .before .before .before .pre .1) (left (c .before .before .fields .ensures .kind-is) (c .before .match .rest)) .0) in (omega (arith, k .less, c .before .before .before .before .pre .0), k .node)
+scope-e-scope-e-requires-8 t c κs = let k = read (c .before .before .node .ensures .a-is) (operation-kids (c .before .before .before .before .args .p .now .now) (c .before .before .before .before .args .i) (c .before .before .before .before .pre .1) (left (c .before .before .node .ensures .kind-is) (c .before .match .rest)) .0) in (omega (arith, k .less, c .before .before .before .before .pre .0), k .node)
 
 -- src/lib.rt:53:17
 scope-e-scope-e-requires-9 : (t : ℕ) → scope-e-lts.Need-scope-e-requires-9 (scope-e-calls t) (scope-e-at t) scope-e.Post
-scope-e-scope-e-requires-9 t c κs = let k = read (c .before .before .before .before .fields .ensures .b-is) (operation-kids (c .before .before .before .before .before .before .args .p .now .now) (c .before .before .before .before .before .before .args .i) (c .before .before .before .before .before .before .pre .1) (left (c .before .before .before .before .fields .ensures .kind-is) (c .before .before .before .match .rest)) .1) in (omega (arith, k .less, c .before .before .before .before .before .before .pre .0), k .node)
+scope-e-scope-e-requires-9 t c κs = let k = read (c .before .before .before .before .node .ensures .b-is) (operation-kids (c .before .before .before .before .before .before .args .p .now .now) (c .before .before .before .before .before .before .args .i) (c .before .before .before .before .before .before .pre .1) (left (c .before .before .before .before .node .ensures .kind-is) (c .before .before .before .match .rest)) .1) in (omega (arith, k .less, c .before .before .before .before .before .before .pre .0), k .node)
 
 -- src/lib.rt:54:13
 scope-e-sooner-requires-5 : (t : ℕ) → scope-e-lts.Need-sooner-requires-5 (scope-e-calls t) (scope-e-at t) scope-e.Post
@@ -147,31 +147,31 @@ scope-e-sooner-requires-5 t c κs = search needs
 
 -- src/lib.rt:28:1
 scope-e-returns : (t : ℕ) → scope-e-lts.Need-returns (scope-e-calls t) (scope-e-at t) scope-e.Post
-scope-e-returns t c = (cc (variable-scope (c .before .before .before .before .before .before .args .p .now .now) (c .before .before .before .before .before .before .args .i) (c .before .before .before .before .before .before .pre .1) (c .before .before .before .before .before .before .args .marks .now) (sym (c .before .before .before .before .fields .ensures .kind-is) ∙ c .before .before .before .match .keys1)), refl)
+scope-e-returns t c = (cc (variable-scope (c .before .before .before .before .before .before .args .p .now .now) (c .before .before .before .before .before .before .args .i) (c .before .before .before .before .before .before .pre .1) (c .before .before .before .before .before .before .args .marks .now) (sym (c .before .before .before .before .node .ensures .kind-is) ∙ c .before .before .before .match .keys1)), refl)
 
 -- src/lib.rt:28:1
 scope-e-returns-2 : (t : ℕ) → scope-e-lts.Need-returns-2 (scope-e-calls t) (scope-e-at t) scope-e.Post
-scope-e-returns-2 t c = (cc (constant-scope (c .before .before .before .args .p .now .now) (c .before .before .before .args .i) (c .before .before .before .pre .1) (c .before .before .before .args .marks .now) (sym (c .before .fields .ensures .kind-is) ∙ c .match .keys2)), refl)
+scope-e-returns-2 t c = (cc (constant-scope (c .before .before .before .args .p .now .now) (c .before .before .before .args .i) (c .before .before .before .pre .1) (c .before .before .before .args .marks .now) (sym (c .before .node .ensures .kind-is) ∙ c .match .keys2)), refl)
 
 -- src/lib.rt:28:1
 scope-e-returns-3 : (t : ℕ) → scope-e-lts.Need-returns-3 (scope-e-calls t) (scope-e-at t) scope-e.Post
-scope-e-returns-3 t c = (cc (negation-scope (c .before .before .before .before .before .args .p .now .now) (c .before .before .before .before .before .args .i) (c .before .before .before .before .before .pre .1) (c .before .before .before .before .before .args .marks .now) (sym (c .before .before .before .fields .ensures .kind-is) ∙ c .before .before .match .keys3)), c .scope-e .ensures .1)
+scope-e-returns-3 t c = (cc (negation-scope (c .before .before .before .before .before .args .p .now .now) (c .before .before .before .before .before .args .i) (c .before .before .before .before .before .pre .1) (c .before .before .before .before .before .args .marks .now) (sym (c .before .before .before .node .ensures .kind-is) ∙ c .before .before .match .keys3)), c .scope-e .ensures .1)
 
 -- src/lib.rt:28:1
 scope-e-returns-4 : (t : ℕ) → scope-e-lts.Need-returns-4 (scope-e-calls t) (scope-e-at t) scope-e.Post
-scope-e-returns-4 t c = (cc (choice-scope (c .before .before .before .before .before .before .before .before .before .before .before .args .p .now .now) (c .before .before .before .before .before .before .before .before .before .before .before .args .i) (c .before .before .before .before .before .before .before .before .before .before .before .pre .1) (c .before .before .before .before .before .before .before .before .before .before .before .args .marks .now) (sym (c .before .before .before .before .before .before .before .before .before .fields .ensures .kind-is) ∙ c .before .before .before .before .before .before .before .before .match .keys4)), c .before .before .scope-e4 .ensures .1 ∙ c .before .before .before .before .scope-e3 .ensures .1 ∙ c .before .before .before .before .before .before .scope-e2 .ensures .1)
+scope-e-returns-4 t c = (cc (choice-scope (c .before .before .before .before .before .before .before .before .before .before .before .args .p .now .now) (c .before .before .before .before .before .before .before .before .before .before .before .args .i) (c .before .before .before .before .before .before .before .before .before .before .before .pre .1) (c .before .before .before .before .before .before .before .before .before .before .before .args .marks .now) (sym (c .before .before .before .before .before .before .before .before .before .node .ensures .kind-is) ∙ c .before .before .before .before .before .before .before .before .match .keys4)), c .before .before .scope-e4 .ensures .1 ∙ c .before .before .before .before .scope-e3 .ensures .1 ∙ c .before .before .before .before .before .before .scope-e2 .ensures .1)
 
 -- src/lib.rt:28:1
 scope-e-returns-5 : (t : ℕ) → scope-e-lts.Need-returns-5 (scope-e-calls t) (scope-e-at t) scope-e.Post
-scope-e-returns-5 t c = (cc (just-scope (c .before .before .before .before .before .args .p .now .now) (c .before .before .before .before .before .args .i) (c .before .before .before .before .before .pre .1) (c .before .before .before .before .before .args .marks .now) (sym (c .before .before .before .fields .ensures .kind-is) ∙ c .before .before .match .keys5)), c .scope-e5 .ensures .1)
+scope-e-returns-5 t c = (cc (just-scope (c .before .before .before .before .before .args .p .now .now) (c .before .before .before .before .before .args .i) (c .before .before .before .before .before .pre .1) (c .before .before .before .before .before .args .marks .now) (sym (c .before .before .before .node .ensures .kind-is) ∙ c .before .before .match .keys5)), c .scope-e5 .ensures .1)
 
 -- src/lib.rt:28:1
 scope-e-returns-6 : (t : ℕ) → scope-e-lts.Need-returns-6 (scope-e-calls t) (scope-e-at t) scope-e.Post
-scope-e-returns-6 t c = (cc (taking-scope (c .before .before .before .before .before .before .before .before .before .before .before .args .p .now .now) (c .before .before .before .before .before .before .before .before .before .before .before .args .i) (c .before .before .before .before .before .before .before .before .before .before .before .pre .1) (c .before .before .before .before .before .before .before .before .before .before .before .args .marks .now) (sym (c .before .before .before .before .before .before .before .before .before .fields .ensures .kind-is) ∙ c .before .before .before .before .before .before .before .before .match .keys6)), c .before .before .inside-e .ensures .1 ∙ c .before .before .before .before .scope-e7 .ensures .1 ∙ c .before .before .before .before .before .before .scope-e6 .ensures .1)
+scope-e-returns-6 t c = (cc (taking-scope (c .before .before .before .before .before .before .before .before .before .before .before .args .p .now .now) (c .before .before .before .before .before .before .before .before .before .before .before .args .i) (c .before .before .before .before .before .before .before .before .before .before .before .pre .1) (c .before .before .before .before .before .before .before .before .before .before .before .args .marks .now) (sym (c .before .before .before .before .before .before .before .before .before .node .ensures .kind-is) ∙ c .before .before .before .before .before .before .before .before .match .keys6)), c .before .before .inside-e .ensures .1 ∙ c .before .before .before .before .scope-e7 .ensures .1 ∙ c .before .before .before .before .before .before .scope-e6 .ensures .1)
 
 -- src/lib.rt:28:1
 scope-e-returns-7 : (t : ℕ) → scope-e-lts.Need-returns-7 (scope-e-calls t) (scope-e-at t) scope-e.Post
-scope-e-returns-7 t c = (cc (operation-scope (c .before .before .before .before .before .before .before .before .args .p .now .now) (c .before .before .before .before .before .before .before .before .args .i) (c .before .before .before .before .before .before .before .before .pre .1) (c .before .before .before .before .before .before .before .before .args .marks .now) (left (c .before .before .before .before .before .before .fields .ensures .kind-is) (c .before .before .before .before .before .match .rest))), c .before .scope-e9 .ensures .1 ∙ c .before .before .before .scope-e8 .ensures .1)
+scope-e-returns-7 t c = (cc (operation-scope (c .before .before .before .before .before .before .before .before .args .p .now .now) (c .before .before .before .before .before .before .before .before .args .i) (c .before .before .before .before .before .before .before .before .pre .1) (c .before .before .before .before .before .before .before .before .args .marks .now) (left (c .before .before .before .before .before .before .node .ensures .kind-is) (c .before .before .before .before .before .match .rest))), c .before .scope-e9 .ensures .1 ∙ c .before .before .before .scope-e8 .ensures .1)
 
 pub +inside-e+scope-e-spec : {M : Type 1} → statement M
 +inside-e+scope-e-spec = close μ-inside-e μ-scope-e (λ t. inside-e-lts.spec (inside-e-calls t) (inside-e-at t)
@@ -183,7 +183,7 @@ pub +inside-e+scope-e-spec : {M : Type 1} → statement M
     (inside-e-returns t))
     λ t. scope-e-lts.spec (scope-e-calls t) (scope-e-at t)
     scope-e.Post
-    (scope-e-fields-requires t)
+    (scope-e-node-requires t)
     (scope-e-marked-requires t)
     (scope-e-wrong-unless-requires t)
     (scope-e-scope-e-requires t)

@@ -28,7 +28,7 @@ use Rattle.scope.proofs.scope_s.Kinds as scope-s-kinds
 use Rattle.scope.proofs.+inside_s+scope_b+scope_c+scope_s.Lts-scope_s as scope-s-lts
 use Rattle.scope.proofs.offered.Reads as offered-reads
 use Rattle.scope.proofs.scope_e.Reads as scope-e-reads
-use Rattle.table.proofs.fields.Reads as fields-reads
+use Rattle.table.proofs.node.Reads as node-reads
 use Rattle.places.proofs.sooner.Reads as sooner-reads
 use Rattle.places.proofs.wrong_unless.Reads as wrong-unless-reads
 use Rattle.scope.proofs.+inside_s+scope_b+scope_c+scope_s.{statement}
@@ -75,13 +75,13 @@ abbrev inside-s-calls : ℕ → inside-s-lts.Claims
 inside-s-calls t = (scope-s-below t, scope-s.Post)
 
 abbrev scope-b-calls : ℕ → scope-b-lts.Claims
-scope-b-calls t = (fields-reads.Asked, fields-reads.Learnt, inside-s-below t, inside-s.Post, sooner-reads.Asked, sooner-reads.Learnt, scope-b-below t, scope-b.Post)
+scope-b-calls t = (node-reads.Asked, node-reads.Learnt, inside-s-below t, inside-s.Post, sooner-reads.Asked, sooner-reads.Learnt, scope-b-below t, scope-b.Post)
 
 abbrev scope-c-calls : ℕ → scope-c-lts.Claims
-scope-c-calls t = (fields-reads.Asked, fields-reads.Learnt, offered-reads.Asked, offered-reads.Learnt, wrong-unless-reads.Asked, wrong-unless-reads.Learnt, scope-s-below t, scope-s.Post, sooner-reads.Asked, sooner-reads.Learnt, scope-c-below t, scope-c.Post)
+scope-c-calls t = (node-reads.Asked, node-reads.Learnt, offered-reads.Asked, offered-reads.Learnt, wrong-unless-reads.Asked, wrong-unless-reads.Learnt, scope-s-below t, scope-s.Post, sooner-reads.Asked, sooner-reads.Learnt, scope-c-below t, scope-c.Post)
 
 abbrev scope-s-calls : ℕ → scope-s-lts.Claims
-scope-s-calls t = (fields-reads.Asked, fields-reads.Learnt, scope-e-reads.Asked, scope-e-reads.Learnt, scope-s-below t, scope-s.Post, inside-s-below t, inside-s.Post, sooner-reads.Asked, sooner-reads.Learnt, scope-b-below t, scope-b.Post, scope-c-below t, scope-c.Post)
+scope-s-calls t = (node-reads.Asked, node-reads.Learnt, scope-e-reads.Asked, scope-e-reads.Learnt, scope-s-below t, scope-s.Post, inside-s-below t, inside-s.Post, sooner-reads.Asked, sooner-reads.Learnt, scope-b-below t, scope-b.Post, scope-c-below t, scope-c.Post)
 
 -- src/lib.rt:136:15
 inside-s-element-copy-out-old : (t : ℕ) → inside-s-lts.Need-element-copy-out-old (inside-s-calls t) (inside-s-at t) inside-s.Post
@@ -107,12 +107,12 @@ unfolding mark
 inside-s-returns t c = (c .scope-s .ensures .0, ap (λ (l : List ℕ). set l (c .before .before .before .args .i) (getD (c .before .before .before .args .marks .now) (c .before .before .before .args .i) 0)) (c .scope-s .ensures .1) ∙ put-back _ _ 1)
 
 -- src/lib.rt:147:9
-scope-b-fields-requires : (t : ℕ) → scope-b-lts.Need-fields-requires (scope-b-calls t) (scope-b-at t) scope-b.Post
-scope-b-fields-requires t c κs = omega (arith, c .before .pre .1 .0 .inside, c .before .pre .1 .0 .shaped .within)
+scope-b-node-requires : (t : ℕ) → scope-b-lts.Need-node-requires (scope-b-calls t) (scope-b-at t) scope-b.Post
+scope-b-node-requires t c κs = let w = c .before .pre .1 .0 in (omega (arith, w .inside, w .shaped .within), omega (arith, w .inside, w .shaped .small))
 
 -- src/lib.rt:148:9
 scope-b-inside-s-requires : (t : ℕ) → scope-b-lts.Need-inside-s-requires (scope-b-calls t) (scope-b-at t) scope-b.Post
-scope-b-inside-s-requires t c κs = let k = read (c .before .fields .ensures .a-is) (branch-kid (c .before .before .before .args .p .now .now) (c .before .before .before .args .j) (c .before .before .before .pre .1 .0)) in (omega (arith, k .less, c .before .before .before .pre .0), (k .node, c .before .before .before .pre .1 .1, omega (arith, c .before .before .before .pre .1 .0 .inside, c .before .before .before .pre .1 .0 .shaped .small)))
+scope-b-inside-s-requires t c κs = let k = read (c .before .node .ensures .a-is) (branch-kid (c .before .before .before .args .p .now .now) (c .before .before .before .args .j) (c .before .before .before .pre .1 .0)) in (omega (arith, k .less, c .before .before .before .pre .0), (k .node, c .before .before .before .pre .1 .1, omega (arith, c .before .before .before .pre .1 .0 .inside, c .before .before .before .pre .1 .0 .shaped .small)))
 
 -- src/lib.rt:150:9
 scope-b-sooner-requires : (t : ℕ) → scope-b-lts.Need-sooner-requires (scope-b-calls t) (scope-b-at t) scope-b.Post
@@ -120,11 +120,11 @@ scope-b-sooner-requires t c κs = search needs
 
 -- src/lib.rt:150:9
 scope-b-returns : (t : ℕ) → scope-b-lts.Need-returns (scope-b-calls t) (scope-b-at t) scope-b.Post
-scope-b-returns t c = (cc (branch-last-scope (c .before .before .before .before .before .before .before .args .p .now .now) (c .before .before .before .before .before .before .before .args .j) (c .before .before .before .before .before .before .before .pre .1 .0) (c .before .before .before .before .before .before .before .args .marks .now) (offersAt (c .before .before .before .before .before .before .before .args .p .now .now) (c .before .before .before .before .before .before .before .args .group)) (sym (c .before .before .before .before .before .fields .ensures .b-is) ∙ c .before .if1 .taken)), c .before .before .before .inside-s .ensures .1)
+scope-b-returns t c = (cc (branch-last-scope (c .before .before .before .before .before .before .before .args .p .now .now) (c .before .before .before .before .before .before .before .args .j) (c .before .before .before .before .before .before .before .pre .1 .0) (c .before .before .before .before .before .before .before .args .marks .now) (offersAt (c .before .before .before .before .before .before .before .args .p .now .now) (c .before .before .before .before .before .before .before .args .group)) (sym (c .before .before .before .before .before .node .ensures .b-is) ∙ c .before .if1 .taken)), c .before .before .before .inside-s .ensures .1)
 
 -- src/lib.rt:152:9
 scope-b-scope-b-requires : (t : ℕ) → scope-b-lts.Need-scope-b-requires (scope-b-calls t) (scope-b-at t) scope-b.Post
-scope-b-scope-b-requires t c κs = let k = read (c .before .before .before .before .before .fields .ensures .b-is) (branch-next (c .before .before .before .before .before .before .before .args .p .now .now) (c .before .before .before .before .before .before .before .args .j) (c .before .before .before .before .before .before .before .pre .1 .0) (λ h. c .before .if1 .left (c .before .before .before .before .before .fields .ensures .b-is ∙ h))) in (omega (arith, k .less, c .before .before .before .before .before .before .before .pre .0), (k .node, c .before .before .before .before .before .before .before .pre .1 .1))
+scope-b-scope-b-requires t c κs = let k = read (c .before .before .before .before .before .node .ensures .b-is) (branch-next (c .before .before .before .before .before .before .before .args .p .now .now) (c .before .before .before .before .before .before .before .args .j) (c .before .before .before .before .before .before .before .pre .1 .0) (λ h. c .before .if1 .left (c .before .before .before .before .before .node .ensures .b-is ∙ h))) in (omega (arith, k .less, c .before .before .before .before .before .before .before .pre .0), (k .node, c .before .before .before .before .before .before .before .pre .1 .1))
 
 -- src/lib.rt:153:5
 scope-b-sooner-requires-2 : (t : ℕ) → scope-b-lts.Need-sooner-requires-2 (scope-b-calls t) (scope-b-at t) scope-b.Post
@@ -132,11 +132,11 @@ scope-b-sooner-requires-2 t c κs = search needs
 
 -- src/lib.rt:143:1
 scope-b-returns-2 : (t : ℕ) → scope-b-lts.Need-returns-2 (scope-b-calls t) (scope-b-at t) scope-b.Post
-scope-b-returns-2 t c = (cc (branch-more-scope (c .before .before .before .before .before .before .before .before .before .args .p .now .now) (c .before .before .before .before .before .before .before .before .before .args .j) (c .before .before .before .before .before .before .before .before .before .pre .1 .0) (c .before .before .before .before .before .before .before .before .before .args .marks .now) (offersAt (c .before .before .before .before .before .before .before .before .before .args .p .now .now) (c .before .before .before .before .before .before .before .before .before .args .group)) (λ h. c .before .before .before .if1 .left (c .before .before .before .before .before .before .before .fields .ensures .b-is ∙ h))), c .before .scope-b .ensures .1 ∙ c .before .before .before .before .before .inside-s .ensures .1)
+scope-b-returns-2 t c = (cc (branch-more-scope (c .before .before .before .before .before .before .before .before .before .args .p .now .now) (c .before .before .before .before .before .before .before .before .before .args .j) (c .before .before .before .before .before .before .before .before .before .pre .1 .0) (c .before .before .before .before .before .before .before .before .before .args .marks .now) (offersAt (c .before .before .before .before .before .before .before .before .before .args .p .now .now) (c .before .before .before .before .before .before .before .before .before .args .group)) (λ h. c .before .before .before .if1 .left (c .before .before .before .before .before .before .before .node .ensures .b-is ∙ h))), c .before .scope-b .ensures .1 ∙ c .before .before .before .before .before .inside-s .ensures .1)
 
 -- src/lib.rt:160:9
-scope-c-fields-requires : (t : ℕ) → scope-c-lts.Need-fields-requires (scope-c-calls t) (scope-c-at t) scope-c.Post
-scope-c-fields-requires t c κs = omega (arith, c .before .pre .1 .0 .inside, c .before .pre .1 .0 .shaped .within)
+scope-c-node-requires : (t : ℕ) → scope-c-lts.Need-node-requires (scope-c-calls t) (scope-c-at t) scope-c.Post
+scope-c-node-requires t c κs = let w = c .before .pre .1 .0 in (omega (arith, w .inside, w .shaped .within), omega (arith, w .inside, w .shaped .small))
 
 -- src/lib.rt:161:29
 scope-c-offered-requires : (t : ℕ) → scope-c-lts.Need-offered-requires (scope-c-calls t) (scope-c-at t) scope-c.Post
@@ -148,7 +148,7 @@ scope-c-wrong-unless-requires t c κs = omega (arith, c .before .before .before 
 
 -- src/lib.rt:162:9
 scope-c-scope-s-requires : (t : ℕ) → scope-c-lts.Need-scope-s-requires (scope-c-calls t) (scope-c-at t) scope-c.Post
-scope-c-scope-s-requires t c κs = let k = read (c .before .before .before .fields .ensures .a-is) (case-kid (c .before .before .before .before .before .args .p .now .now) (c .before .before .before .before .before .args .j) (c .before .before .before .before .before .pre .1 .0)) in (omega (arith, k .less, c .before .before .before .before .before .pre .0), (k .node, no-offer (c .before .before .before .before .before .args .p .now .now)))
+scope-c-scope-s-requires t c κs = let k = read (c .before .before .before .node .ensures .a-is) (case-kid (c .before .before .before .before .before .args .p .now .now) (c .before .before .before .before .before .args .j) (c .before .before .before .before .before .pre .1 .0)) in (omega (arith, k .less, c .before .before .before .before .before .pre .0), (k .node, no-offer (c .before .before .before .before .before .args .p .now .now)))
 
 -- src/lib.rt:164:29
 scope-c-sooner-requires : (t : ℕ) → scope-c-lts.Need-sooner-requires (scope-c-calls t) (scope-c-at t) scope-c.Post
@@ -160,11 +160,11 @@ scope-c-sooner-requires-2 t c κs = search needs
 
 -- src/lib.rt:164:9
 scope-c-returns : (t : ℕ) → scope-c-lts.Need-returns (scope-c-calls t) (scope-c-at t) scope-c.Post
-scope-c-returns t c = (cc (case-last-scope (c .before .before .before .before .before .before .before .before .before .before .args .p .now .now) (c .before .before .before .before .before .before .before .before .before .before .args .j) (c .before .before .before .before .before .before .before .before .before .before .pre .1 .0) (c .before .before .before .before .before .before .before .before .before .before .args .marks .now) (offersAt (c .before .before .before .before .before .before .before .before .before .before .args .p .now .now) (c .before .before .before .before .before .before .before .before .before .before .args .group)) (sym (c .before .before .before .before .before .before .before .before .fields .ensures .b-is) ∙ c .before .before .if1 .taken)), c .before .before .before .before .scope-s .ensures .1)
+scope-c-returns t c = (cc (case-last-scope (c .before .before .before .before .before .before .before .before .before .before .args .p .now .now) (c .before .before .before .before .before .before .before .before .before .before .args .j) (c .before .before .before .before .before .before .before .before .before .before .pre .1 .0) (c .before .before .before .before .before .before .before .before .before .before .args .marks .now) (offersAt (c .before .before .before .before .before .before .before .before .before .before .args .p .now .now) (c .before .before .before .before .before .before .before .before .before .before .args .group)) (sym (c .before .before .before .before .before .before .before .before .node .ensures .b-is) ∙ c .before .before .if1 .taken)), c .before .before .before .before .scope-s .ensures .1)
 
 -- src/lib.rt:166:9
 scope-c-scope-c-requires : (t : ℕ) → scope-c-lts.Need-scope-c-requires (scope-c-calls t) (scope-c-at t) scope-c.Post
-scope-c-scope-c-requires t c κs = let k = read (c .before .before .before .before .before .before .before .fields .ensures .b-is) (case-next (c .before .before .before .before .before .before .before .before .before .args .p .now .now) (c .before .before .before .before .before .before .before .before .before .args .j) (c .before .before .before .before .before .before .before .before .before .pre .1 .0) (λ h. c .before .if1 .left (c .before .before .before .before .before .before .before .fields .ensures .b-is ∙ h))) in (omega (arith, k .less, c .before .before .before .before .before .before .before .before .before .pre .0), (k .node, c .before .before .before .before .before .before .before .before .before .pre .1 .1))
+scope-c-scope-c-requires t c κs = let k = read (c .before .before .before .before .before .before .before .node .ensures .b-is) (case-next (c .before .before .before .before .before .before .before .before .before .args .p .now .now) (c .before .before .before .before .before .before .before .before .before .args .j) (c .before .before .before .before .before .before .before .before .before .pre .1 .0) (λ h. c .before .if1 .left (c .before .before .before .before .before .before .before .node .ensures .b-is ∙ h))) in (omega (arith, k .less, c .before .before .before .before .before .before .before .before .before .pre .0), (k .node, c .before .before .before .before .before .before .before .before .before .pre .1 .1))
 
 -- src/lib.rt:167:18
 scope-c-sooner-requires-3 : (t : ℕ) → scope-c-lts.Need-sooner-requires-3 (scope-c-calls t) (scope-c-at t) scope-c.Post
@@ -176,27 +176,27 @@ scope-c-sooner-requires-4 t c κs = search needs
 
 -- src/lib.rt:156:1
 scope-c-returns-2 : (t : ℕ) → scope-c-lts.Need-returns-2 (scope-c-calls t) (scope-c-at t) scope-c.Post
-scope-c-returns-2 t c = (cc (case-more-scope (c .before .before .before .before .before .before .before .before .before .before .before .before .args .p .now .now) (c .before .before .before .before .before .before .before .before .before .before .before .before .args .j) (c .before .before .before .before .before .before .before .before .before .before .before .before .pre .1 .0) (c .before .before .before .before .before .before .before .before .before .before .before .before .args .marks .now) (offersAt (c .before .before .before .before .before .before .before .before .before .before .before .before .args .p .now .now) (c .before .before .before .before .before .before .before .before .before .before .before .before .args .group)) (λ h. c .before .before .before .before .if1 .left (c .before .before .before .before .before .before .before .before .before .before .fields .ensures .b-is ∙ h))), c .before .before .scope-c .ensures .1 ∙ c .before .before .before .before .before .before .scope-s .ensures .1)
+scope-c-returns-2 t c = (cc (case-more-scope (c .before .before .before .before .before .before .before .before .before .before .before .before .args .p .now .now) (c .before .before .before .before .before .before .before .before .before .before .before .before .args .j) (c .before .before .before .before .before .before .before .before .before .before .before .before .pre .1 .0) (c .before .before .before .before .before .before .before .before .before .before .before .before .args .marks .now) (offersAt (c .before .before .before .before .before .before .before .before .before .before .before .before .args .p .now .now) (c .before .before .before .before .before .before .before .before .before .before .before .before .args .group)) (λ h. c .before .before .before .before .if1 .left (c .before .before .before .before .before .before .before .before .before .before .node .ensures .b-is ∙ h))), c .before .before .scope-c .ensures .1 ∙ c .before .before .before .before .before .before .scope-s .ensures .1)
 
 -- src/lib.rt:101:9
-scope-s-fields-requires : (t : ℕ) → scope-s-lts.Need-fields-requires (scope-s-calls t) (scope-s-at t) scope-s.Post
-scope-s-fields-requires t c κs = omega (arith, c .before .pre .1 .0 .inside, c .before .pre .1 .0 .shaped .within)
+scope-s-node-requires : (t : ℕ) → scope-s-lts.Need-node-requires (scope-s-calls t) (scope-s-at t) scope-s.Post
+scope-s-node-requires t c κs = let w = c .before .pre .1 .0 in (omega (arith, w .inside, w .shaped .within), omega (arith, w .inside, w .shaped .small))
 
 -- src/lib.rt:104:14
 scope-s-scope-e-requires : (t : ℕ) → scope-s-lts.Need-scope-e-requires (scope-s-calls t) (scope-s-at t) scope-s.Post
-scope-s-scope-e-requires t c κs = let k = read (c .before .before .fields .ensures .a-is) (ext-kid (c .before .before .before .before .args .p .now .now) (c .before .before .before .before .args .i) (c .before .before .before .before .pre .1 .0) (sym (c .before .before .fields .ensures .kind-is) ∙ c .before .match .keys1)) in k .node
+scope-s-scope-e-requires t c κs = let k = read (c .before .before .node .ensures .a-is) (ext-kid (c .before .before .before .before .args .p .now .now) (c .before .before .before .before .args .i) (c .before .before .before .before .pre .1 .0) (sym (c .before .before .node .ensures .kind-is) ∙ c .before .match .keys1)) in k .node
 
 -- src/lib.rt:105:14
 scope-s-scope-s-requires : (t : ℕ) → scope-s-lts.Need-scope-s-requires (scope-s-calls t) (scope-s-at t) scope-s.Post
-scope-s-scope-s-requires t c κs = let k = read (c .before .before .fields .ensures .a-is) (delay-kid (c .before .before .before .before .args .p .now .now) (c .before .before .before .before .args .i) (c .before .before .before .before .pre .1 .0) (sym (c .before .before .fields .ensures .kind-is) ∙ c .before .match .keys2)) in (omega (arith, k .less, c .before .before .before .before .pre .0), (k .node, let none = no-offer (c .before .before .before .before .args .p .now .now) in let above = c .before .before .before .before .pre .1 .1 in search needs))
+scope-s-scope-s-requires t c κs = let k = read (c .before .before .node .ensures .a-is) (delay-kid (c .before .before .before .before .args .p .now .now) (c .before .before .before .before .args .i) (c .before .before .before .before .pre .1 .0) (sym (c .before .before .node .ensures .kind-is) ∙ c .before .match .keys2)) in (omega (arith, k .less, c .before .before .before .before .pre .0), (k .node, let none = no-offer (c .before .before .before .before .args .p .now .now) in let above = c .before .before .before .before .pre .1 .1 in search needs))
 
 -- src/lib.rt:107:17
 scope-s-inside-s-requires : (t : ℕ) → scope-s-lts.Need-inside-s-requires (scope-s-calls t) (scope-s-at t) scope-s.Post
-scope-s-inside-s-requires t c κs = let k = read (c .before .before .fields .ensures .a-is) (let-kids (c .before .before .before .before .args .p .now .now) (c .before .before .before .before .args .i) (c .before .before .before .before .pre .1 .0) (sym (c .before .before .fields .ensures .kind-is) ∙ c .before .match .keys3) .0) in (omega (arith, k .less, c .before .before .before .before .pre .0), (k .node, no-offer (c .before .before .before .before .args .p .now .now), omega (arith, c .before .before .before .before .pre .1 .0 .inside, c .before .before .before .before .pre .1 .0 .shaped .small)))
+scope-s-inside-s-requires t c κs = let k = read (c .before .before .node .ensures .a-is) (let-kids (c .before .before .before .before .args .p .now .now) (c .before .before .before .before .args .i) (c .before .before .before .before .pre .1 .0) (sym (c .before .before .node .ensures .kind-is) ∙ c .before .match .keys3) .0) in (omega (arith, k .less, c .before .before .before .before .pre .0), (k .node, no-offer (c .before .before .before .before .args .p .now .now), omega (arith, c .before .before .before .before .pre .1 .0 .inside, c .before .before .before .before .pre .1 .0 .shaped .small)))
 
 -- src/lib.rt:108:17
 scope-s-inside-s-requires-2 : (t : ℕ) → scope-s-lts.Need-inside-s-requires-2 (scope-s-calls t) (scope-s-at t) scope-s.Post
-scope-s-inside-s-requires-2 t c κs = let k = read (c .before .before .before .before .fields .ensures .b-is) (let-kids (c .before .before .before .before .before .before .args .p .now .now) (c .before .before .before .before .before .before .args .i) (c .before .before .before .before .before .before .pre .1 .0) (sym (c .before .before .before .before .fields .ensures .kind-is) ∙ c .before .before .before .match .keys3) .1) in (omega (arith, k .less, c .before .before .before .before .before .before .pre .0), (k .node, c .before .before .before .before .before .before .pre .1 .1, omega (arith, c .before .before .before .before .before .before .pre .1 .0 .inside, c .before .before .before .before .before .before .pre .1 .0 .shaped .small)))
+scope-s-inside-s-requires-2 t c κs = let k = read (c .before .before .before .before .node .ensures .b-is) (let-kids (c .before .before .before .before .before .before .args .p .now .now) (c .before .before .before .before .before .before .args .i) (c .before .before .before .before .before .before .pre .1 .0) (sym (c .before .before .before .before .node .ensures .kind-is) ∙ c .before .before .before .match .keys3) .1) in (omega (arith, k .less, c .before .before .before .before .before .before .pre .0), (k .node, c .before .before .before .before .before .before .pre .1 .1, omega (arith, c .before .before .before .before .before .before .pre .1 .0 .inside, c .before .before .before .before .before .before .pre .1 .0 .shaped .small)))
 
 -- src/lib.rt:109:13
 scope-s-sooner-requires : (t : ℕ) → scope-s-lts.Need-sooner-requires (scope-s-calls t) (scope-s-at t) scope-s.Post
@@ -204,15 +204,15 @@ scope-s-sooner-requires t c κs = search needs
 
 -- src/lib.rt:112:17
 scope-s-scope-s-requires-2 : (t : ℕ) → scope-s-lts.Need-scope-s-requires-2 (scope-s-calls t) (scope-s-at t) scope-s.Post
-scope-s-scope-s-requires-2 t c κs = let k = read (c .before .before .fields .ensures .a-is) (switch-kids (c .before .before .before .before .args .p .now .now) (c .before .before .before .before .args .i) (c .before .before .before .before .pre .1 .0) (sym (c .before .before .fields .ensures .kind-is) ∙ c .before .match .keys4) .0) in (omega (arith, k .less, c .before .before .before .before .pre .0), (k .node, no-offer (c .before .before .before .before .args .p .now .now)))
+scope-s-scope-s-requires-2 t c κs = let k = read (c .before .before .node .ensures .a-is) (switch-kids (c .before .before .before .before .args .p .now .now) (c .before .before .before .before .args .i) (c .before .before .before .before .pre .1 .0) (sym (c .before .before .node .ensures .kind-is) ∙ c .before .match .keys4) .0) in (omega (arith, k .less, c .before .before .before .before .pre .0), (k .node, no-offer (c .before .before .before .before .args .p .now .now)))
 
 -- src/lib.rt:113:17
 scope-s-scope-s-requires-3 : (t : ℕ) → scope-s-lts.Need-scope-s-requires-3 (scope-s-calls t) (scope-s-at t) scope-s.Post
-scope-s-scope-s-requires-3 t c κs = let k = read (c .before .before .before .before .fields .ensures .b-is) (switch-kids (c .before .before .before .before .before .before .args .p .now .now) (c .before .before .before .before .before .before .args .i) (c .before .before .before .before .before .before .pre .1 .0) (sym (c .before .before .before .before .fields .ensures .kind-is) ∙ c .before .before .before .match .keys4) .1) in (omega (arith, k .less, c .before .before .before .before .before .before .pre .0), (k .node, no-offer (c .before .before .before .before .before .before .args .p .now .now)))
+scope-s-scope-s-requires-3 t c κs = let k = read (c .before .before .before .before .node .ensures .b-is) (switch-kids (c .before .before .before .before .before .before .args .p .now .now) (c .before .before .before .before .before .before .args .i) (c .before .before .before .before .before .before .pre .1 .0) (sym (c .before .before .before .before .node .ensures .kind-is) ∙ c .before .before .before .match .keys4) .1) in (omega (arith, k .less, c .before .before .before .before .before .before .pre .0), (k .node, no-offer (c .before .before .before .before .before .before .args .p .now .now)))
 
 -- src/lib.rt:114:17
 scope-s-inside-s-requires-3 : (t : ℕ) → scope-s-lts.Need-inside-s-requires-3 (scope-s-calls t) (scope-s-at t) scope-s.Post
-scope-s-inside-s-requires-3 t c κs = let k = read (c .before .before .before .before .before .before .fields .ensures .c-is) (switch-kids (c .before .before .before .before .before .before .before .before .args .p .now .now) (c .before .before .before .before .before .before .before .before .args .i) (c .before .before .before .before .before .before .before .before .pre .1 .0) (sym (c .before .before .before .before .before .before .fields .ensures .kind-is) ∙ c .before .before .before .before .before .match .keys4) .2) in (omega (arith, k .less, c .before .before .before .before .before .before .before .before .pre .0), (k .node, no-offer (c .before .before .before .before .before .before .before .before .args .p .now .now), omega (arith, c .before .before .before .before .before .before .before .before .pre .1 .0 .inside, c .before .before .before .before .before .before .before .before .pre .1 .0 .shaped .small)))
+scope-s-inside-s-requires-3 t c κs = let k = read (c .before .before .before .before .before .before .node .ensures .c-is) (switch-kids (c .before .before .before .before .before .before .before .before .args .p .now .now) (c .before .before .before .before .before .before .before .before .args .i) (c .before .before .before .before .before .before .before .before .pre .1 .0) (sym (c .before .before .before .before .before .before .node .ensures .kind-is) ∙ c .before .before .before .before .before .match .keys4) .2) in (omega (arith, k .less, c .before .before .before .before .before .before .before .before .pre .0), (k .node, no-offer (c .before .before .before .before .before .before .before .before .args .p .now .now), omega (arith, c .before .before .before .before .before .before .before .before .pre .1 .0 .inside, c .before .before .before .before .before .before .before .before .pre .1 .0 .shaped .small)))
 
 -- src/lib.rt:115:23
 scope-s-sooner-requires-2 : (t : ℕ) → scope-s-lts.Need-sooner-requires-2 (scope-s-calls t) (scope-s-at t) scope-s.Post
@@ -224,11 +224,11 @@ scope-s-sooner-requires-3 t c κs = search needs
 
 -- src/lib.rt:118:17
 scope-s-scope-s-requires-4 : (t : ℕ) → scope-s-lts.Need-scope-s-requires-4 (scope-s-calls t) (scope-s-at t) scope-s.Post
-scope-s-scope-s-requires-4 t c κs = let k = read (c .before .before .fields .ensures .a-is) (group-kids (c .before .before .before .before .args .p .now .now) (c .before .before .before .before .args .i) (c .before .before .before .before .pre .1 .0) (sym (c .before .before .fields .ensures .kind-is) ∙ c .before .match .keys5) .0) in (omega (arith, k .less, c .before .before .before .before .pre .0), (k .node, let own : Offered (c .before .before .before .before .args .p .now .now) (c .before .before .fields .result .b) = record { offered = λ d. read (c .before .before .fields .ensures .b-is) (group-kids (c .before .before .before .before .args .p .now .now) (c .before .before .before .before .args .i) (c .before .before .before .before .pre .1 .0) (sym (c .before .before .fields .ensures .kind-is) ∙ c .before .match .keys5) .1) .node } in let above = c .before .before .before .before .pre .1 .1 in search needs))
+scope-s-scope-s-requires-4 t c κs = let k = read (c .before .before .node .ensures .a-is) (group-kids (c .before .before .before .before .args .p .now .now) (c .before .before .before .before .args .i) (c .before .before .before .before .pre .1 .0) (sym (c .before .before .node .ensures .kind-is) ∙ c .before .match .keys5) .0) in (omega (arith, k .less, c .before .before .before .before .pre .0), (k .node, let own : Offered (c .before .before .before .before .args .p .now .now) (c .before .before .node .result .b) = record { offered = λ d. read (c .before .before .node .ensures .b-is) (group-kids (c .before .before .before .before .args .p .now .now) (c .before .before .before .before .args .i) (c .before .before .before .before .pre .1 .0) (sym (c .before .before .node .ensures .kind-is) ∙ c .before .match .keys5) .1) .node } in let above = c .before .before .before .before .pre .1 .1 in search needs))
 
 -- src/lib.rt:119:17
 scope-s-scope-b-requires : (t : ℕ) → scope-s-lts.Need-scope-b-requires (scope-s-calls t) (scope-s-at t) scope-s.Post
-scope-s-scope-b-requires t c κs = let k = read (c .before .before .before .before .fields .ensures .b-is) (group-kids (c .before .before .before .before .before .before .args .p .now .now) (c .before .before .before .before .before .before .args .i) (c .before .before .before .before .before .before .pre .1 .0) (sym (c .before .before .before .before .fields .ensures .kind-is) ∙ c .before .before .before .match .keys5) .1) in (omega (arith, k .less, c .before .before .before .before .before .before .pre .0), (k .node, record { offered = λ d. read (c .before .before .before .before .fields .ensures .b-is) (group-kids (c .before .before .before .before .before .before .args .p .now .now) (c .before .before .before .before .before .before .args .i) (c .before .before .before .before .before .before .pre .1 .0) (sym (c .before .before .before .before .fields .ensures .kind-is) ∙ c .before .before .before .match .keys5) .1) .node }))
+scope-s-scope-b-requires t c κs = let k = read (c .before .before .before .before .node .ensures .b-is) (group-kids (c .before .before .before .before .before .before .args .p .now .now) (c .before .before .before .before .before .before .args .i) (c .before .before .before .before .before .before .pre .1 .0) (sym (c .before .before .before .before .node .ensures .kind-is) ∙ c .before .before .before .match .keys5) .1) in (omega (arith, k .less, c .before .before .before .before .before .before .pre .0), (k .node, record { offered = λ d. read (c .before .before .before .before .node .ensures .b-is) (group-kids (c .before .before .before .before .before .before .args .p .now .now) (c .before .before .before .before .before .before .args .i) (c .before .before .before .before .before .before .pre .1 .0) (sym (c .before .before .before .before .node .ensures .kind-is) ∙ c .before .before .before .match .keys5) .1) .node }))
 
 -- src/lib.rt:120:13
 scope-s-sooner-requires-4 : (t : ℕ) → scope-s-lts.Need-sooner-requires-4 (scope-s-calls t) (scope-s-at t) scope-s.Post
@@ -236,11 +236,11 @@ scope-s-sooner-requires-4 t c κs = search needs
 
 -- src/lib.rt:123:17
 scope-s-scope-s-requires-5 : (t : ℕ) → scope-s-lts.Need-scope-s-requires-5 (scope-s-calls t) (scope-s-at t) scope-s.Post
-scope-s-scope-s-requires-5 t c κs = let k = read (c .before .before .fields .ensures .a-is) (until-kids (c .before .before .before .before .args .p .now .now) (c .before .before .before .before .args .i) (c .before .before .before .before .pre .1 .0) (sym (c .before .before .fields .ensures .kind-is) ∙ c .before .match .keys6) .0) in (omega (arith, k .less, c .before .before .before .before .pre .0), (k .node, no-offer (c .before .before .before .before .args .p .now .now)))
+scope-s-scope-s-requires-5 t c κs = let k = read (c .before .before .node .ensures .a-is) (until-kids (c .before .before .before .before .args .p .now .now) (c .before .before .before .before .args .i) (c .before .before .before .before .pre .1 .0) (sym (c .before .before .node .ensures .kind-is) ∙ c .before .match .keys6) .0) in (omega (arith, k .less, c .before .before .before .before .pre .0), (k .node, no-offer (c .before .before .before .before .args .p .now .now)))
 
 -- src/lib.rt:124:17
 scope-s-scope-c-requires : (t : ℕ) → scope-s-lts.Need-scope-c-requires (scope-s-calls t) (scope-s-at t) scope-s.Post
-scope-s-scope-c-requires t c κs = let k = read (c .before .before .before .before .fields .ensures .b-is) (until-kids (c .before .before .before .before .before .before .args .p .now .now) (c .before .before .before .before .before .before .args .i) (c .before .before .before .before .before .before .pre .1 .0) (sym (c .before .before .before .before .fields .ensures .kind-is) ∙ c .before .before .before .match .keys6) .1) in (omega (arith, k .less, c .before .before .before .before .before .before .pre .0), (k .node, c .before .before .before .before .before .before .pre .1 .1))
+scope-s-scope-c-requires t c κs = let k = read (c .before .before .before .before .node .ensures .b-is) (until-kids (c .before .before .before .before .before .before .args .p .now .now) (c .before .before .before .before .before .before .args .i) (c .before .before .before .before .before .before .pre .1 .0) (sym (c .before .before .before .before .node .ensures .kind-is) ∙ c .before .before .before .match .keys6) .1) in (omega (arith, k .less, c .before .before .before .before .before .before .pre .0), (k .node, c .before .before .before .before .before .before .pre .1 .1))
 
 -- src/lib.rt:125:13
 scope-s-sooner-requires-5 : (t : ℕ) → scope-s-lts.Need-sooner-requires-5 (scope-s-calls t) (scope-s-at t) scope-s.Post
@@ -248,31 +248,31 @@ scope-s-sooner-requires-5 t c κs = search needs
 
 -- src/lib.rt:97:1
 scope-s-returns : (t : ℕ) → scope-s-lts.Need-returns (scope-s-calls t) (scope-s-at t) scope-s.Post
-scope-s-returns t c = (cc (ext-scope (c .before .before .before .before .before .args .p .now .now) (c .before .before .before .before .before .args .i) (c .before .before .before .before .before .pre .1 .0) (c .before .before .before .before .before .args .marks .now) (offersAt (c .before .before .before .before .before .args .p .now .now) (c .before .before .before .before .before .args .group)) (sym (c .before .before .before .fields .ensures .kind-is) ∙ c .before .before .match .keys1)), c .scope-e .ensures .1)
+scope-s-returns t c = (cc (ext-scope (c .before .before .before .before .before .args .p .now .now) (c .before .before .before .before .before .args .i) (c .before .before .before .before .before .pre .1 .0) (c .before .before .before .before .before .args .marks .now) (offersAt (c .before .before .before .before .before .args .p .now .now) (c .before .before .before .before .before .args .group)) (sym (c .before .before .before .node .ensures .kind-is) ∙ c .before .before .match .keys1)), c .scope-e .ensures .1)
 
 -- src/lib.rt:97:1
 scope-s-returns-2 : (t : ℕ) → scope-s-lts.Need-returns-2 (scope-s-calls t) (scope-s-at t) scope-s.Post
-scope-s-returns-2 t c = (cc (delay-scope (c .before .before .before .before .before .args .p .now .now) (c .before .before .before .before .before .args .i) (c .before .before .before .before .before .pre .1 .0) (c .before .before .before .before .before .args .marks .now) (offersAt (c .before .before .before .before .before .args .p .now .now) (c .before .before .before .before .before .args .group)) (sym (c .before .before .before .fields .ensures .kind-is) ∙ c .before .before .match .keys2)), c .scope-s .ensures .1)
+scope-s-returns-2 t c = (cc (delay-scope (c .before .before .before .before .before .args .p .now .now) (c .before .before .before .before .before .args .i) (c .before .before .before .before .before .pre .1 .0) (c .before .before .before .before .before .args .marks .now) (offersAt (c .before .before .before .before .before .args .p .now .now) (c .before .before .before .before .before .args .group)) (sym (c .before .before .before .node .ensures .kind-is) ∙ c .before .before .match .keys2)), c .scope-s .ensures .1)
 
 -- src/lib.rt:97:1
 scope-s-returns-3 : (t : ℕ) → scope-s-lts.Need-returns-3 (scope-s-calls t) (scope-s-at t) scope-s.Post
-scope-s-returns-3 t c = (cc (let-scope (c .before .before .before .before .before .before .before .before .args .p .now .now) (c .before .before .before .before .before .before .before .before .args .i) (c .before .before .before .before .before .before .before .before .pre .1 .0) (c .before .before .before .before .before .before .before .before .args .marks .now) (offersAt (c .before .before .before .before .before .before .before .before .args .p .now .now) (c .before .before .before .before .before .before .before .before .args .group)) (sym (c .before .before .before .before .before .before .fields .ensures .kind-is) ∙ c .before .before .before .before .before .match .keys3)), c .before .inside-s2 .ensures .1 ∙ c .before .before .before .inside-s .ensures .1)
+scope-s-returns-3 t c = (cc (let-scope (c .before .before .before .before .before .before .before .before .args .p .now .now) (c .before .before .before .before .before .before .before .before .args .i) (c .before .before .before .before .before .before .before .before .pre .1 .0) (c .before .before .before .before .before .before .before .before .args .marks .now) (offersAt (c .before .before .before .before .before .before .before .before .args .p .now .now) (c .before .before .before .before .before .before .before .before .args .group)) (sym (c .before .before .before .before .before .before .node .ensures .kind-is) ∙ c .before .before .before .before .before .match .keys3)), c .before .inside-s2 .ensures .1 ∙ c .before .before .before .inside-s .ensures .1)
 
 -- src/lib.rt:97:1
 scope-s-returns-4 : (t : ℕ) → scope-s-lts.Need-returns-4 (scope-s-calls t) (scope-s-at t) scope-s.Post
-scope-s-returns-4 t c = (cc (switch-scope (c .before .before .before .before .before .before .before .before .before .before .before .args .p .now .now) (c .before .before .before .before .before .before .before .before .before .before .before .args .i) (c .before .before .before .before .before .before .before .before .before .before .before .pre .1 .0) (c .before .before .before .before .before .before .before .before .before .before .before .args .marks .now) (offersAt (c .before .before .before .before .before .before .before .before .before .before .before .args .p .now .now) (c .before .before .before .before .before .before .before .before .before .before .before .args .group)) (sym (c .before .before .before .before .before .before .before .before .before .fields .ensures .kind-is) ∙ c .before .before .before .before .before .before .before .before .match .keys4)), c .before .before .inside-s3 .ensures .1 ∙ c .before .before .before .before .scope-s3 .ensures .1 ∙ c .before .before .before .before .before .before .scope-s2 .ensures .1)
+scope-s-returns-4 t c = (cc (switch-scope (c .before .before .before .before .before .before .before .before .before .before .before .args .p .now .now) (c .before .before .before .before .before .before .before .before .before .before .before .args .i) (c .before .before .before .before .before .before .before .before .before .before .before .pre .1 .0) (c .before .before .before .before .before .before .before .before .before .before .before .args .marks .now) (offersAt (c .before .before .before .before .before .before .before .before .before .before .before .args .p .now .now) (c .before .before .before .before .before .before .before .before .before .before .before .args .group)) (sym (c .before .before .before .before .before .before .before .before .before .node .ensures .kind-is) ∙ c .before .before .before .before .before .before .before .before .match .keys4)), c .before .before .inside-s3 .ensures .1 ∙ c .before .before .before .before .scope-s3 .ensures .1 ∙ c .before .before .before .before .before .before .scope-s2 .ensures .1)
 
 -- src/lib.rt:97:1
 scope-s-returns-5 : (t : ℕ) → scope-s-lts.Need-returns-5 (scope-s-calls t) (scope-s-at t) scope-s.Post
-scope-s-returns-5 t c = (cc (group-scope (c .before .before .before .before .before .before .before .before .args .p .now .now) (c .before .before .before .before .before .before .before .before .args .i) (c .before .before .before .before .before .before .before .before .pre .1 .0) (c .before .before .before .before .before .before .before .before .args .marks .now) (offersAt (c .before .before .before .before .before .before .before .before .args .p .now .now) (c .before .before .before .before .before .before .before .before .args .group)) (sym (c .before .before .before .before .before .before .fields .ensures .kind-is) ∙ c .before .before .before .before .before .match .keys5)), c .before .scope-b .ensures .1 ∙ c .before .before .before .scope-s4 .ensures .1)
+scope-s-returns-5 t c = (cc (group-scope (c .before .before .before .before .before .before .before .before .args .p .now .now) (c .before .before .before .before .before .before .before .before .args .i) (c .before .before .before .before .before .before .before .before .pre .1 .0) (c .before .before .before .before .before .before .before .before .args .marks .now) (offersAt (c .before .before .before .before .before .before .before .before .args .p .now .now) (c .before .before .before .before .before .before .before .before .args .group)) (sym (c .before .before .before .before .before .before .node .ensures .kind-is) ∙ c .before .before .before .before .before .match .keys5)), c .before .scope-b .ensures .1 ∙ c .before .before .before .scope-s4 .ensures .1)
 
 -- src/lib.rt:97:1
 scope-s-returns-6 : (t : ℕ) → scope-s-lts.Need-returns-6 (scope-s-calls t) (scope-s-at t) scope-s.Post
-scope-s-returns-6 t c = (cc (until-scope (c .before .before .before .before .before .before .before .before .args .p .now .now) (c .before .before .before .before .before .before .before .before .args .i) (c .before .before .before .before .before .before .before .before .pre .1 .0) (c .before .before .before .before .before .before .before .before .args .marks .now) (offersAt (c .before .before .before .before .before .before .before .before .args .p .now .now) (c .before .before .before .before .before .before .before .before .args .group)) (sym (c .before .before .before .before .before .before .fields .ensures .kind-is) ∙ c .before .before .before .before .before .match .keys6)), c .before .scope-c .ensures .1 ∙ c .before .before .before .scope-s5 .ensures .1)
+scope-s-returns-6 t c = (cc (until-scope (c .before .before .before .before .before .before .before .before .args .p .now .now) (c .before .before .before .before .before .before .before .before .args .i) (c .before .before .before .before .before .before .before .before .pre .1 .0) (c .before .before .before .before .before .before .before .before .args .marks .now) (offersAt (c .before .before .before .before .before .before .before .before .args .p .now .now) (c .before .before .before .before .before .before .before .before .args .group)) (sym (c .before .before .before .before .before .before .node .ensures .kind-is) ∙ c .before .before .before .before .before .match .keys6)), c .before .scope-c .ensures .1 ∙ c .before .before .before .scope-s5 .ensures .1)
 
 -- src/lib.rt:97:1
 scope-s-returns-7 : (t : ℕ) → scope-s-lts.Need-returns-7 (scope-s-calls t) (scope-s-at t) scope-s.Post
-scope-s-returns-7 t c = (cc (leaf-scope (c .before .before .before .args .p .now .now) (c .before .before .before .args .i) (c .before .before .before .pre .1 .0) (c .before .before .before .args .marks .now) (offersAt (c .before .before .before .args .p .now .now) (c .before .before .before .args .group)) (c .before .fields .ensures .kind-is) (c .match .rest)), refl)
+scope-s-returns-7 t c = (cc (leaf-scope (c .before .before .before .args .p .now .now) (c .before .before .before .args .i) (c .before .before .before .pre .1 .0) (c .before .before .before .args .marks .now) (offersAt (c .before .before .before .args .p .now .now) (c .before .before .before .args .group)) (c .before .node .ensures .kind-is) (c .match .rest)), refl)
 
 pub +inside-s+scope-b+scope-c+scope-s-spec : {M : Type 1} → statement M
 +inside-s+scope-b+scope-c+scope-s-spec =
@@ -285,7 +285,7 @@ pub +inside-s+scope-b+scope-c+scope-s-spec : {M : Type 1} → statement M
     (inside-s-returns t))
     (λ t. scope-b-lts.spec (scope-b-calls t) (scope-b-at t)
     scope-b.Post
-    (scope-b-fields-requires t)
+    (scope-b-node-requires t)
     (scope-b-inside-s-requires t)
     (scope-b-sooner-requires t)
     (scope-b-returns t)
@@ -294,7 +294,7 @@ pub +inside-s+scope-b+scope-c+scope-s-spec : {M : Type 1} → statement M
     (scope-b-returns-2 t))
     (λ t. scope-c-lts.spec (scope-c-calls t) (scope-c-at t)
     scope-c.Post
-    (scope-c-fields-requires t)
+    (scope-c-node-requires t)
     (scope-c-offered-requires t)
     (scope-c-wrong-unless-requires t)
     (scope-c-scope-s-requires t)
@@ -307,7 +307,7 @@ pub +inside-s+scope-b+scope-c+scope-s-spec : {M : Type 1} → statement M
     (scope-c-returns-2 t))
     λ t. scope-s-lts.spec (scope-s-calls t) (scope-s-at t)
     scope-s.Post
-    (scope-s-fields-requires t)
+    (scope-s-node-requires t)
     (scope-s-scope-e-requires t)
     (scope-s-scope-s-requires t)
     (scope-s-inside-s-requires t)

@@ -19,7 +19,7 @@ use Rattle.state.proofs.reset_s.Kinds as reset-s-kinds
 use Rattle.state.proofs.+reset_b+reset_c+reset_s.Lts-reset_s as reset-s-lts
 use Rattle.state.proofs.first_value.Reads as first-value-reads
 use Rattle.state.proofs.set_own.Reads as set-own-reads
-use Rattle.table.proofs.fields.Reads as fields-reads
+use Rattle.table.proofs.node.Reads as node-reads
 use Rattle.state.proofs.+reset_b+reset_c+reset_s.{statement}
 use Rattle.state.proofs.+reset_b+reset_c+reset_s.Tie.{close}
 
@@ -51,32 +51,32 @@ abbrev reset-s-below : ℕ → In 4 reset-s-kinds.ps
 reset-s-below t = and 4 reset-s-kinds.ps (falls 4 reset-s-kinds.ps _<_ μ-reset-s t) reset-s.Pre
 
 abbrev reset-b-calls : ℕ → reset-b-lts.Claims
-reset-b-calls t = (fields-reads.Asked, fields-reads.Learnt, reset-s-below t, reset-s.Post, reset-b-below t, reset-b.Post)
+reset-b-calls t = (node-reads.Asked, node-reads.Learnt, reset-s-below t, reset-s.Post, reset-b-below t, reset-b.Post)
 
 abbrev reset-c-calls : ℕ → reset-c-lts.Claims
-reset-c-calls t = (fields-reads.Asked, fields-reads.Learnt, reset-s-below t, reset-s.Post, reset-c-below t, reset-c.Post)
+reset-c-calls t = (node-reads.Asked, node-reads.Learnt, reset-s-below t, reset-s.Post, reset-c-below t, reset-c.Post)
 
 abbrev reset-s-calls : ℕ → reset-s-lts.Claims
-reset-s-calls t = (fields-reads.Asked, fields-reads.Learnt, first-value-reads.Asked, first-value-reads.Learnt, set-own-reads.Asked, set-own-reads.Learnt, reset-s-below t, reset-s.Post, reset-b-below t, reset-b.Post, reset-c-below t, reset-c.Post)
+reset-s-calls t = (node-reads.Asked, node-reads.Learnt, first-value-reads.Asked, first-value-reads.Learnt, set-own-reads.Asked, set-own-reads.Learnt, reset-s-below t, reset-s.Post, reset-b-below t, reset-b.Post, reset-c-below t, reset-c.Post)
 
 -- src/lib.rt:88:9
-reset-b-fields-requires : (t : ℕ) → reset-b-lts.Need-fields-requires (reset-b-calls t) (reset-b-at t) reset-b.Post
-reset-b-fields-requires t c κs =
-    let s = c .before .before in
-    omega (arith, s .pre .1 .node .inside, s .pre .1 .node .shaped .within)
+reset-b-node-requires : (t : ℕ) → reset-b-lts.Need-node-requires (reset-b-calls t) (reset-b-at t) reset-b.Post
+reset-b-node-requires t c κs =
+    let w = c .before .before .pre .1 .node in
+    (omega (arith, w .inside, w .shaped .within), omega (arith, w .inside, w .shaped .small))
 
 -- src/lib.rt:89:5
 reset-b-reset-s-requires : (t : ℕ) → reset-b-lts.Need-reset-s-requires (reset-b-calls t) (reset-b-at t) reset-b.Post
 reset-b-reset-s-requires t c κs =
     let s = c .before .before .before .before in
-    let k = read (c .before .fields .ensures .a-is) (branch-kid (s .args .p .now .now) (s .args .j) (s .pre .1 .node)) in
+    let k = read (c .before .node .ensures .a-is) (branch-kid (s .args .p .now .now) (s .args .j) (s .pre .1 .node)) in
     (omega (arith, k .less, s .pre .0), carried (s .pre .1) (refl) k)
 
 -- src/lib.rt:91:9
 reset-b-reset-b-requires : (t : ℕ) → reset-b-lts.Need-reset-b-requires (reset-b-calls t) (reset-b-at t) reset-b.Post
 reset-b-reset-b-requires t c κs =
     let s = c .before .before .before .before .before .before .before .before .before .before in
-    let node = c .before .before .before .before .before .before .before .fields .ensures in
+    let node = c .before .before .before .before .before .before .before .node .ensures in
     let k = read (node .b-is) (branch-next (s .args .p .now .now) (s .args .j) (s .pre .1 .node) (λ h. c .before .if1 .taken (node .b-is ∙ h))) in
     (omega (arith, k .less, s .pre .0), carried (s .pre .1) (c .before .before .before .before .before .reset-s .kept .1 .1 .0) k)
 
@@ -88,7 +88,7 @@ reset-b-same-length t c = c .before .before .reset-b .kept .1 .1 .0 ∙ c .befor
 reset-b-returns : (t : ℕ) → reset-b-lts.Need-returns (reset-b-calls t) (reset-b-at t) reset-b.Post
 reset-b-returns t c =
     let s = c .before .before .before .before .before .before .before .before .before .before .before .before .before in
-    cc (branch-reset-on (s .args .p .now .now) (s .args .j) (s .pre .1 .node) (s .args .st .now) (λ h. c .before .before .before .before .if1 .taken (c .before .before .before .before .before .before .before .before .before .before .fields .ensures .b-is ∙ h)))
+    cc (branch-reset-on (s .args .p .now .now) (s .args .j) (s .pre .1 .node) (s .args .st .now) (λ h. c .before .before .before .before .if1 .taken (c .before .before .before .before .before .before .before .before .before .before .node .ensures .b-is ∙ h)))
 
 -- src/lib.rt:84:1
 reset-b-same-length-2 : (t : ℕ) → reset-b-lts.Need-same-length-2 (reset-b-calls t) (reset-b-at t) reset-b.Post
@@ -98,26 +98,26 @@ reset-b-same-length-2 t c = c .before .before .before .before .reset-s .kept .1 
 reset-b-returns-2 : (t : ℕ) → reset-b-lts.Need-returns-2 (reset-b-calls t) (reset-b-at t) reset-b.Post
 reset-b-returns-2 t c =
     let s = c .before .before .before .before .before .before .before .before .before in
-    cc (branch-reset-end (s .args .p .now .now) (s .args .j) (s .pre .1 .node) (s .args .st .now) (sym (c .before .before .before .before .before .before .fields .ensures .b-is) ∙ c .if1 .left))
+    cc (branch-reset-end (s .args .p .now .now) (s .args .j) (s .pre .1 .node) (s .args .st .now) (sym (c .before .before .before .before .before .before .node .ensures .b-is) ∙ c .if1 .left))
 
 -- src/lib.rt:100:9
-reset-c-fields-requires : (t : ℕ) → reset-c-lts.Need-fields-requires (reset-c-calls t) (reset-c-at t) reset-c.Post
-reset-c-fields-requires t c κs =
-    let s = c .before .before in
-    omega (arith, s .pre .1 .node .inside, s .pre .1 .node .shaped .within)
+reset-c-node-requires : (t : ℕ) → reset-c-lts.Need-node-requires (reset-c-calls t) (reset-c-at t) reset-c.Post
+reset-c-node-requires t c κs =
+    let w = c .before .before .pre .1 .node in
+    (omega (arith, w .inside, w .shaped .within), omega (arith, w .inside, w .shaped .small))
 
 -- src/lib.rt:101:5
 reset-c-reset-s-requires : (t : ℕ) → reset-c-lts.Need-reset-s-requires (reset-c-calls t) (reset-c-at t) reset-c.Post
 reset-c-reset-s-requires t c κs =
     let s = c .before .before .before .before in
-    let k = read (c .before .fields .ensures .a-is) (case-kid (s .args .p .now .now) (s .args .j) (s .pre .1 .node)) in
+    let k = read (c .before .node .ensures .a-is) (case-kid (s .args .p .now .now) (s .args .j) (s .pre .1 .node)) in
     (omega (arith, k .less, s .pre .0), carried (s .pre .1) (refl) k)
 
 -- src/lib.rt:103:9
 reset-c-reset-c-requires : (t : ℕ) → reset-c-lts.Need-reset-c-requires (reset-c-calls t) (reset-c-at t) reset-c.Post
 reset-c-reset-c-requires t c κs =
     let s = c .before .before .before .before .before .before .before .before .before .before in
-    let node = c .before .before .before .before .before .before .before .fields .ensures in
+    let node = c .before .before .before .before .before .before .before .node .ensures in
     let k = read (node .b-is) (case-next (s .args .p .now .now) (s .args .j) (s .pre .1 .node) (λ h. c .before .if1 .taken (node .b-is ∙ h))) in
     (omega (arith, k .less, s .pre .0), carried (s .pre .1) (c .before .before .before .before .before .reset-s .kept .1 .1 .0) k)
 
@@ -129,7 +129,7 @@ reset-c-same-length t c = c .before .before .reset-c .kept .1 .1 .0 ∙ c .befor
 reset-c-returns : (t : ℕ) → reset-c-lts.Need-returns (reset-c-calls t) (reset-c-at t) reset-c.Post
 reset-c-returns t c =
     let s = c .before .before .before .before .before .before .before .before .before .before .before .before .before in
-    cc (case-reset-on (s .args .p .now .now) (s .args .j) (s .pre .1 .node) (s .args .st .now) (λ h. c .before .before .before .before .if1 .taken (c .before .before .before .before .before .before .before .before .before .before .fields .ensures .b-is ∙ h)))
+    cc (case-reset-on (s .args .p .now .now) (s .args .j) (s .pre .1 .node) (s .args .st .now) (λ h. c .before .before .before .before .if1 .taken (c .before .before .before .before .before .before .before .before .before .before .node .ensures .b-is ∙ h)))
 
 -- src/lib.rt:96:1
 reset-c-same-length-2 : (t : ℕ) → reset-c-lts.Need-same-length-2 (reset-c-calls t) (reset-c-at t) reset-c.Post
@@ -139,13 +139,13 @@ reset-c-same-length-2 t c = c .before .before .before .before .reset-s .kept .1 
 reset-c-returns-2 : (t : ℕ) → reset-c-lts.Need-returns-2 (reset-c-calls t) (reset-c-at t) reset-c.Post
 reset-c-returns-2 t c =
     let s = c .before .before .before .before .before .before .before .before .before in
-    cc (case-reset-end (s .args .p .now .now) (s .args .j) (s .pre .1 .node) (s .args .st .now) (sym (c .before .before .before .before .before .before .fields .ensures .b-is) ∙ c .if1 .left))
+    cc (case-reset-end (s .args .p .now .now) (s .args .j) (s .pre .1 .node) (s .args .st .now) (sym (c .before .before .before .before .before .before .node .ensures .b-is) ∙ c .if1 .left))
 
 -- src/lib.rt:53:9
-reset-s-fields-requires : (t : ℕ) → reset-s-lts.Need-fields-requires (reset-s-calls t) (reset-s-at t) reset-s.Post
-reset-s-fields-requires t c κs =
-    let s = c .before .before in
-    omega (arith, s .pre .1 .node .inside, s .pre .1 .node .shaped .within)
+reset-s-node-requires : (t : ℕ) → reset-s-lts.Need-node-requires (reset-s-calls t) (reset-s-at t) reset-s.Post
+reset-s-node-requires t c κs =
+    let w = c .before .before .pre .1 .node in
+    (omega (arith, w .inside, w .shaped .within), omega (arith, w .inside, w .shaped .small))
 
 -- src/lib.rt:57:35
 reset-s-first-value-requires : (t : ℕ) → reset-s-lts.Need-first-value-requires (reset-s-calls t) (reset-s-at t) reset-s.Post
@@ -155,13 +155,13 @@ reset-s-first-value-requires t c κs = search needs
 reset-s-set-own-requires : (t : ℕ) → reset-s-lts.Need-set-own-requires (reset-s-calls t) (reset-s-at t) reset-s.Post
 reset-s-set-own-requires t c κs =
     let s = c .before .before .before .before .before .before .before in
-    own-delay (s .args .p .now .now) (s .args .index .now) _ (s .args .i) (s .pre .1) (sym (c .before .before .before .before .fields .ensures .kind-is) ∙ c .before .before .before .match .keys1)
+    own-delay (s .args .p .now .now) (s .args .index .now) _ (s .args .i) (s .pre .1) (sym (c .before .before .before .before .node .ensures .kind-is) ∙ c .before .before .before .match .keys1)
 
 -- src/lib.rt:58:13
 reset-s-reset-s-requires : (t : ℕ) → reset-s-lts.Need-reset-s-requires (reset-s-calls t) (reset-s-at t) reset-s.Post
 reset-s-reset-s-requires t c κs =
     let s = c .before .before .before .before .before .before .before .before .before .before .before in
-    let node = c .before .before .before .before .before .before .before .before .fields .ensures in
+    let node = c .before .before .before .before .before .before .before .before .node .ensures in
     let k = read (node .a-is) (delay-kid (s .args .p .now .now) (s .args .i) (s .pre .1 .node) (sym (node .kind-is) ∙ c .before .before .before .before .before .before .before .match .keys1)) in
     (omega (arith, k .less, s .pre .0), carried (s .pre .1) (c .before .before .before .set-own .kept .1 .0) k)
 
@@ -169,7 +169,7 @@ reset-s-reset-s-requires t c κs =
 reset-s-reset-s-requires-2 : (t : ℕ) → reset-s-lts.Need-reset-s-requires-2 (reset-s-calls t) (reset-s-at t) reset-s.Post
 reset-s-reset-s-requires-2 t c κs =
     let s = c .before .before .before .before .before in
-    let node = c .before .before .fields .ensures in
+    let node = c .before .before .node .ensures in
     let k = read (node .a-is) (let-kids (s .args .p .now .now) (s .args .i) (s .pre .1 .node) (sym (node .kind-is) ∙ c .before .match .keys2) .0) in
     (omega (arith, k .less, s .pre .0), carried (s .pre .1) (refl) k)
 
@@ -177,7 +177,7 @@ reset-s-reset-s-requires-2 t c κs =
 reset-s-reset-s-requires-3 : (t : ℕ) → reset-s-lts.Need-reset-s-requires-3 (reset-s-calls t) (reset-s-at t) reset-s.Post
 reset-s-reset-s-requires-3 t c κs =
     let s = c .before .before .before .before .before .before .before .before .before in
-    let node = c .before .before .before .before .before .before .fields .ensures in
+    let node = c .before .before .before .before .before .before .node .ensures in
     let k = read (node .b-is) (let-kids (s .args .p .now .now) (s .args .i) (s .pre .1 .node) (sym (node .kind-is) ∙ c .before .before .before .before .before .match .keys2) .1) in
     (omega (arith, k .less, s .pre .0), carried (s .pre .1) (c .before .before .before .reset-s2 .kept .1 .1 .0) k)
 
@@ -185,13 +185,13 @@ reset-s-reset-s-requires-3 t c κs =
 reset-s-set-own-requires-2 : (t : ℕ) → reset-s-lts.Need-set-own-requires-2 (reset-s-calls t) (reset-s-at t) reset-s.Post
 reset-s-set-own-requires-2 t c κs =
     let s = c .before .before .before .before .before .before in
-    own-switch (s .args .p .now .now) (s .args .index .now) _ (s .args .i) (s .pre .1) (sym (c .before .before .before .fields .ensures .kind-is) ∙ c .before .before .match .keys3)
+    own-switch (s .args .p .now .now) (s .args .index .now) _ (s .args .i) (s .pre .1) (sym (c .before .before .before .node .ensures .kind-is) ∙ c .before .before .match .keys3)
 
 -- src/lib.rt:66:13
 reset-s-reset-s-requires-4 : (t : ℕ) → reset-s-lts.Need-reset-s-requires-4 (reset-s-calls t) (reset-s-at t) reset-s.Post
 reset-s-reset-s-requires-4 t c κs =
     let s = c .before .before .before .before .before .before .before .before .before .before in
-    let node = c .before .before .before .before .before .before .before .fields .ensures in
+    let node = c .before .before .before .before .before .before .before .node .ensures in
     let k = read (node .a-is) (switch-kids (s .args .p .now .now) (s .args .i) (s .pre .1 .node) (sym (node .kind-is) ∙ c .before .before .before .before .before .before .match .keys3) .0) in
     (omega (arith, k .less, s .pre .0), carried (s .pre .1) (c .before .before .before .set-own2 .kept .1 .0) k)
 
@@ -199,7 +199,7 @@ reset-s-reset-s-requires-4 t c κs =
 reset-s-reset-s-requires-5 : (t : ℕ) → reset-s-lts.Need-reset-s-requires-5 (reset-s-calls t) (reset-s-at t) reset-s.Post
 reset-s-reset-s-requires-5 t c κs =
     let s = c .before .before .before .before .before .before .before .before .before .before .before .before .before .before in
-    let node = c .before .before .before .before .before .before .before .before .before .before .before .fields .ensures in
+    let node = c .before .before .before .before .before .before .before .before .before .before .before .node .ensures in
     let k = read (node .b-is) (switch-kids (s .args .p .now .now) (s .args .i) (s .pre .1 .node) (sym (node .kind-is) ∙ c .before .before .before .before .before .before .before .before .before .before .match .keys3) .1) in
     (omega (arith, k .less, s .pre .0), carried (s .pre .1) (c .before .before .before .reset-s4 .kept .1 .1 .0 ∙ c .before .before .before .before .before .before .before .set-own2 .kept .1 .0) k)
 
@@ -207,7 +207,7 @@ reset-s-reset-s-requires-5 t c κs =
 reset-s-reset-s-requires-6 : (t : ℕ) → reset-s-lts.Need-reset-s-requires-6 (reset-s-calls t) (reset-s-at t) reset-s.Post
 reset-s-reset-s-requires-6 t c κs =
     let s = c .before .before .before .before .before .before .before .before .before .before .before .before .before .before .before .before .before .before in
-    let node = c .before .before .before .before .before .before .before .before .before .before .before .before .before .before .before .fields .ensures in
+    let node = c .before .before .before .before .before .before .before .before .before .before .before .before .before .before .before .node .ensures in
     let k = read (node .c-is) (switch-kids (s .args .p .now .now) (s .args .i) (s .pre .1 .node) (sym (node .kind-is) ∙ c .before .before .before .before .before .before .before .before .before .before .before .before .before .before .match .keys3) .2) in
     (omega (arith, k .less, s .pre .0), carried (s .pre .1) (c .before .before .before .reset-s5 .kept .1 .1 .0 ∙ c .before .before .before .before .before .before .before .reset-s4 .kept .1 .1 .0 ∙ c .before .before .before .before .before .before .before .before .before .before .before .set-own2 .kept .1 .0) k)
 
@@ -215,13 +215,13 @@ reset-s-reset-s-requires-6 t c κs =
 reset-s-set-own-requires-3 : (t : ℕ) → reset-s-lts.Need-set-own-requires-3 (reset-s-calls t) (reset-s-at t) reset-s.Post
 reset-s-set-own-requires-3 t c κs =
     let s = c .before .before .before .before .before .before in
-    own-group (s .args .p .now .now) (s .args .index .now) _ (s .args .i) (s .pre .1) (sym (c .before .before .before .fields .ensures .kind-is) ∙ c .before .before .match .keys4)
+    own-group (s .args .p .now .now) (s .args .index .now) _ (s .args .i) (s .pre .1) (sym (c .before .before .before .node .ensures .kind-is) ∙ c .before .before .match .keys4)
 
 -- src/lib.rt:72:13
 reset-s-reset-s-requires-7 : (t : ℕ) → reset-s-lts.Need-reset-s-requires-7 (reset-s-calls t) (reset-s-at t) reset-s.Post
 reset-s-reset-s-requires-7 t c κs =
     let s = c .before .before .before .before .before .before .before .before .before .before in
-    let node = c .before .before .before .before .before .before .before .fields .ensures in
+    let node = c .before .before .before .before .before .before .before .node .ensures in
     let k = read (node .a-is) (group-kids (s .args .p .now .now) (s .args .i) (s .pre .1 .node) (sym (node .kind-is) ∙ c .before .before .before .before .before .before .match .keys4) .0) in
     (omega (arith, k .less, s .pre .0), carried (s .pre .1) (c .before .before .before .set-own3 .kept .1 .0) k)
 
@@ -229,7 +229,7 @@ reset-s-reset-s-requires-7 t c κs =
 reset-s-reset-b-requires : (t : ℕ) → reset-s-lts.Need-reset-b-requires (reset-s-calls t) (reset-s-at t) reset-s.Post
 reset-s-reset-b-requires t c κs =
     let s = c .before .before .before .before .before .before .before .before .before .before .before .before .before .before in
-    let node = c .before .before .before .before .before .before .before .before .before .before .before .fields .ensures in
+    let node = c .before .before .before .before .before .before .before .before .before .before .before .node .ensures in
     let k = read (node .b-is) (group-kids (s .args .p .now .now) (s .args .i) (s .pre .1 .node) (sym (node .kind-is) ∙ c .before .before .before .before .before .before .before .before .before .before .match .keys4) .1) in
     (omega (arith, k .less, s .pre .0), carried (s .pre .1) (c .before .before .before .reset-s7 .kept .1 .1 .0 ∙ c .before .before .before .before .before .before .before .set-own3 .kept .1 .0) k)
 
@@ -237,7 +237,7 @@ reset-s-reset-b-requires t c κs =
 reset-s-reset-s-requires-8 : (t : ℕ) → reset-s-lts.Need-reset-s-requires-8 (reset-s-calls t) (reset-s-at t) reset-s.Post
 reset-s-reset-s-requires-8 t c κs =
     let s = c .before .before .before .before .before in
-    let node = c .before .before .fields .ensures in
+    let node = c .before .before .node .ensures in
     let k = read (node .a-is) (until-kids (s .args .p .now .now) (s .args .i) (s .pre .1 .node) (sym (node .kind-is) ∙ c .before .match .keys5) .0) in
     (omega (arith, k .less, s .pre .0), carried (s .pre .1) (refl) k)
 
@@ -245,7 +245,7 @@ reset-s-reset-s-requires-8 t c κs =
 reset-s-reset-c-requires : (t : ℕ) → reset-s-lts.Need-reset-c-requires (reset-s-calls t) (reset-s-at t) reset-s.Post
 reset-s-reset-c-requires t c κs =
     let s = c .before .before .before .before .before .before .before .before .before in
-    let node = c .before .before .before .before .before .before .fields .ensures in
+    let node = c .before .before .before .before .before .before .node .ensures in
     let k = read (node .b-is) (until-kids (s .args .p .now .now) (s .args .i) (s .pre .1 .node) (sym (node .kind-is) ∙ c .before .before .before .before .before .match .keys5) .1) in
     (omega (arith, k .less, s .pre .0), carried (s .pre .1) (c .before .before .before .reset-s8 .kept .1 .1 .0) k)
 
@@ -257,7 +257,7 @@ reset-s-same-length t c = c .before .before .reset-s .kept .1 .1 .0 ∙ c .befor
 reset-s-returns : (t : ℕ) → reset-s-lts.Need-returns (reset-s-calls t) (reset-s-at t) reset-s.Post
 reset-s-returns t c =
     let s = c .before .before .before .before .before .before .before .before .before .before .before .before .before .before in
-    cc (delay-reset (s .args .p .now .now) (s .args .index .now) _ (s .args .i) (s .pre .1) (s .args .st .now) (sym (c .before .before .before .before .before .before .before .before .before .before .before .fields .ensures .kind-is) ∙ c .before .before .before .before .before .before .before .before .before .before .match .keys1))
+    cc (delay-reset (s .args .p .now .now) (s .args .index .now) _ (s .args .i) (s .pre .1) (s .args .st .now) (sym (c .before .before .before .before .before .before .before .before .before .before .before .node .ensures .kind-is) ∙ c .before .before .before .before .before .before .before .before .before .before .match .keys1))
 
 -- src/lib.rt:49:1
 reset-s-same-length-2 : (t : ℕ) → reset-s-lts.Need-same-length-2 (reset-s-calls t) (reset-s-at t) reset-s.Post
@@ -267,7 +267,7 @@ reset-s-same-length-2 t c = c .before .before .reset-s3 .kept .1 .1 .0 ∙ c .be
 reset-s-returns-2 : (t : ℕ) → reset-s-lts.Need-returns-2 (reset-s-calls t) (reset-s-at t) reset-s.Post
 reset-s-returns-2 t c =
     let s = c .before .before .before .before .before .before .before .before .before .before .before .before in
-    cc (let-reset (s .args .p .now .now) (s .args .index .now) _ (s .args .i) (s .pre .1) (s .args .st .now) (sym (c .before .before .before .before .before .before .before .before .before .fields .ensures .kind-is) ∙ c .before .before .before .before .before .before .before .before .match .keys2))
+    cc (let-reset (s .args .p .now .now) (s .args .index .now) _ (s .args .i) (s .pre .1) (s .args .st .now) (sym (c .before .before .before .before .before .before .before .before .before .node .ensures .kind-is) ∙ c .before .before .before .before .before .before .before .before .match .keys2))
 
 -- src/lib.rt:49:1
 reset-s-same-length-3 : (t : ℕ) → reset-s-lts.Need-same-length-3 (reset-s-calls t) (reset-s-at t) reset-s.Post
@@ -277,7 +277,7 @@ reset-s-same-length-3 t c = c .before .before .reset-s6 .kept .1 .1 .0 ∙ c .be
 reset-s-returns-3 : (t : ℕ) → reset-s-lts.Need-returns-3 (reset-s-calls t) (reset-s-at t) reset-s.Post
 reset-s-returns-3 t c =
     let s = c .before .before .before .before .before .before .before .before .before .before .before .before .before .before .before .before .before .before .before .before .before in
-    cc (switch-reset (s .args .p .now .now) (s .args .index .now) _ (s .args .i) (s .pre .1) (s .args .st .now) (sym (c .before .before .before .before .before .before .before .before .before .before .before .before .before .before .before .before .before .before .fields .ensures .kind-is) ∙ c .before .before .before .before .before .before .before .before .before .before .before .before .before .before .before .before .before .match .keys3))
+    cc (switch-reset (s .args .p .now .now) (s .args .index .now) _ (s .args .i) (s .pre .1) (s .args .st .now) (sym (c .before .before .before .before .before .before .before .before .before .before .before .before .before .before .before .before .before .before .node .ensures .kind-is) ∙ c .before .before .before .before .before .before .before .before .before .before .before .before .before .before .before .before .before .match .keys3))
 
 -- src/lib.rt:49:1
 reset-s-same-length-4 : (t : ℕ) → reset-s-lts.Need-same-length-4 (reset-s-calls t) (reset-s-at t) reset-s.Post
@@ -287,7 +287,7 @@ reset-s-same-length-4 t c = c .before .before .reset-b .kept .1 .1 .0 ∙ c .bef
 reset-s-returns-4 : (t : ℕ) → reset-s-lts.Need-returns-4 (reset-s-calls t) (reset-s-at t) reset-s.Post
 reset-s-returns-4 t c =
     let s = c .before .before .before .before .before .before .before .before .before .before .before .before .before .before .before .before .before in
-    cc (group-reset (s .args .p .now .now) (s .args .index .now) _ (s .args .i) (s .pre .1) (s .args .st .now) (sym (c .before .before .before .before .before .before .before .before .before .before .before .before .before .before .fields .ensures .kind-is) ∙ c .before .before .before .before .before .before .before .before .before .before .before .before .before .match .keys4))
+    cc (group-reset (s .args .p .now .now) (s .args .index .now) _ (s .args .i) (s .pre .1) (s .args .st .now) (sym (c .before .before .before .before .before .before .before .before .before .before .before .before .before .before .node .ensures .kind-is) ∙ c .before .before .before .before .before .before .before .before .before .before .before .before .before .match .keys4))
 
 -- src/lib.rt:49:1
 reset-s-same-length-5 : (t : ℕ) → reset-s-lts.Need-same-length-5 (reset-s-calls t) (reset-s-at t) reset-s.Post
@@ -297,18 +297,18 @@ reset-s-same-length-5 t c = c .before .before .reset-c .kept .1 .1 .0 ∙ c .bef
 reset-s-returns-5 : (t : ℕ) → reset-s-lts.Need-returns-5 (reset-s-calls t) (reset-s-at t) reset-s.Post
 reset-s-returns-5 t c =
     let s = c .before .before .before .before .before .before .before .before .before .before .before .before in
-    cc (until-reset (s .args .p .now .now) (s .args .index .now) _ (s .args .i) (s .pre .1) (s .args .st .now) (sym (c .before .before .before .before .before .before .before .before .before .fields .ensures .kind-is) ∙ c .before .before .before .before .before .before .before .before .match .keys5))
+    cc (until-reset (s .args .p .now .now) (s .args .index .now) _ (s .args .i) (s .pre .1) (s .args .st .now) (sym (c .before .before .before .before .before .before .before .before .before .node .ensures .kind-is) ∙ c .before .before .before .before .before .before .before .before .match .keys5))
 
 -- src/lib.rt:49:1
 reset-s-returns-6 : (t : ℕ) → reset-s-lts.Need-returns-6 (reset-s-calls t) (reset-s-at t) reset-s.Post
 reset-s-returns-6 t c =
     let s = c .before .before .before .before in
-    quiet-reset (s .args .p .now .now) (s .args .index .now) _ (s .args .i) (s .pre .1) (s .args .st .now) (c .before .fields .ensures .kind-is) (c .match .rest)
+    quiet-reset (s .args .p .now .now) (s .args .index .now) _ (s .args .i) (s .pre .1) (s .args .st .now) (c .before .node .ensures .kind-is) (c .match .rest)
 
 pub +reset-b+reset-c+reset-s-spec : {M : Type 1} → statement M
 +reset-b+reset-c+reset-s-spec = close μ-reset-b μ-reset-c μ-reset-s (λ t. reset-b-lts.spec (reset-b-calls t) (reset-b-at t)
     reset-b.Post
-    (reset-b-fields-requires t)
+    (reset-b-node-requires t)
     (reset-b-reset-s-requires t)
     (reset-b-reset-b-requires t)
     (reset-b-same-length t)
@@ -317,7 +317,7 @@ pub +reset-b+reset-c+reset-s-spec : {M : Type 1} → statement M
     (reset-b-returns-2 t))
     (λ t. reset-c-lts.spec (reset-c-calls t) (reset-c-at t)
     reset-c.Post
-    (reset-c-fields-requires t)
+    (reset-c-node-requires t)
     (reset-c-reset-s-requires t)
     (reset-c-reset-c-requires t)
     (reset-c-same-length t)
@@ -326,7 +326,7 @@ pub +reset-b+reset-c+reset-s-spec : {M : Type 1} → statement M
     (reset-c-returns-2 t))
     λ t. reset-s-lts.spec (reset-s-calls t) (reset-s-at t)
     reset-s.Post
-    (reset-s-fields-requires t)
+    (reset-s-node-requires t)
     (reset-s-first-value-requires t)
     (reset-s-set-own-requires t)
     (reset-s-reset-s-requires t)

@@ -19,7 +19,7 @@ use Rattle.well.proofs.rests_s.Kinds as rests-s-kinds
 use Rattle.well.proofs.+rests_b+rests_c+rests_s.Lts-rests_s as rests-s-lts
 use Rattle.state.proofs.first_value.Reads as first-value-reads
 use Rattle.state.proofs.own_cell.Reads as own-cell-reads
-use Rattle.table.proofs.fields.Reads as fields-reads
+use Rattle.table.proofs.node.Reads as node-reads
 use Rattle.well.proofs.both.Reads as both-reads
 use Rattle.well.proofs.+rests_b+rests_c+rests_s.{statement}
 use Rattle.well.proofs.+rests_b+rests_c+rests_s.Tie.{close}
@@ -52,21 +52,21 @@ abbrev rests-s-below : ℕ → In 5 rests-s-kinds.ps
 rests-s-below t = and 5 rests-s-kinds.ps (falls 5 rests-s-kinds.ps _<_ μ-rests-s t) rests-s.Pre
 
 abbrev rests-b-calls : ℕ → rests-b-lts.Claims
-rests-b-calls t = (fields-reads.Asked, fields-reads.Learnt, rests-s-below t, rests-s.Post, both-reads.Asked, both-reads.Learnt, rests-b-below t, rests-b.Post)
+rests-b-calls t = (node-reads.Asked, node-reads.Learnt, rests-s-below t, rests-s.Post, both-reads.Asked, both-reads.Learnt, rests-b-below t, rests-b.Post)
 
 abbrev rests-c-calls : ℕ → rests-c-lts.Claims
-rests-c-calls t = (fields-reads.Asked, fields-reads.Learnt, rests-s-below t, rests-s.Post, both-reads.Asked, both-reads.Learnt, rests-c-below t, rests-c.Post)
+rests-c-calls t = (node-reads.Asked, node-reads.Learnt, rests-s-below t, rests-s.Post, both-reads.Asked, both-reads.Learnt, rests-c-below t, rests-c.Post)
 
 abbrev rests-s-calls : ℕ → rests-s-lts.Claims
-rests-s-calls t = (fields-reads.Asked, fields-reads.Learnt, own-cell-reads.Asked, own-cell-reads.Learnt, rests-s-below t, rests-s.Post, first-value-reads.Asked, first-value-reads.Learnt, both-reads.Asked, both-reads.Learnt, rests-b-below t, rests-b.Post, rests-c-below t, rests-c.Post)
+rests-s-calls t = (node-reads.Asked, node-reads.Learnt, own-cell-reads.Asked, own-cell-reads.Learnt, rests-s-below t, rests-s.Post, first-value-reads.Asked, first-value-reads.Learnt, both-reads.Asked, both-reads.Learnt, rests-b-below t, rests-b.Post, rests-c-below t, rests-c.Post)
 
 -- src/lib.rt:106:9
-rests-b-fields-requires : (t : ℕ) → rests-b-lts.Need-fields-requires (rests-b-calls t) (rests-b-at t) rests-b.Post
-rests-b-fields-requires t c κs = omega (arith, c .before .pre .1 .node .inside, c .before .pre .1 .node .shaped .within)
+rests-b-node-requires : (t : ℕ) → rests-b-lts.Need-node-requires (rests-b-calls t) (rests-b-at t) rests-b.Post
+rests-b-node-requires t c κs = let w = c .before .pre .1 .node in (omega (arith, w .inside, w .shaped .within), omega (arith, w .inside, w .shaped .small))
 
 -- src/lib.rt:107:9
 rests-b-rests-s-requires : (t : ℕ) → rests-b-lts.Need-rests-s-requires (rests-b-calls t) (rests-b-at t) rests-b.Post
-rests-b-rests-s-requires t c κs = let k = read (c .fields .ensures .a-is) (branch-kid (c .before .before .args .p .now .now) (c .before .before .args .j) (c .before .before .pre .1 .node)) in (omega (arith, k .less, c .before .before .pre .0), carried (c .before .before .pre .1) refl k)
+rests-b-rests-s-requires t c κs = let k = read (c .node .ensures .a-is) (branch-kid (c .before .before .args .p .now .now) (c .before .before .args .j) (c .before .before .pre .1 .node)) in (omega (arith, k .less, c .before .before .pre .0), carried (c .before .before .pre .1) refl k)
 
 -- src/lib.rt:109:9
 rests-b-both-requires : (t : ℕ) → rests-b-lts.Need-both-requires (rests-b-calls t) (rests-b-at t) rests-b.Post
@@ -74,11 +74,11 @@ rests-b-both-requires t c κs = search needs
 
 -- src/lib.rt:109:9
 rests-b-returns : (t : ℕ) → rests-b-lts.Need-returns (rests-b-calls t) (rests-b-at t) rests-b.Post
-rests-b-returns t c = cc (branch-rests-end (c .before .before .before .before .before .before .args .p .now .now) (c .before .before .before .before .before .before .args .j) (c .before .before .before .before .before .before .pre .1 .node) (c .before .before .before .before .before .before .args .st .now .now) (sym (c .before .before .before .before .fields .ensures .b-is) ∙ c .before .if1 .taken))
+rests-b-returns t c = cc (branch-rests-end (c .before .before .before .before .before .before .args .p .now .now) (c .before .before .before .before .before .before .args .j) (c .before .before .before .before .before .before .pre .1 .node) (c .before .before .before .before .before .before .args .st .now .now) (sym (c .before .before .before .before .node .ensures .b-is) ∙ c .before .if1 .taken))
 
 -- src/lib.rt:111:9
 rests-b-rests-b-requires : (t : ℕ) → rests-b-lts.Need-rests-b-requires (rests-b-calls t) (rests-b-at t) rests-b.Post
-rests-b-rests-b-requires t c κs = let k = read (c .before .before .before .fields .ensures .b-is) (branch-next (c .before .before .before .before .before .args .p .now .now) (c .before .before .before .before .before .args .j) (c .before .before .before .before .before .pre .1 .node) (λ h. c .if1 .left (c .before .before .before .fields .ensures .b-is ∙ h))) in (omega (arith, k .less, c .before .before .before .before .before .pre .0), carried (c .before .before .before .before .before .pre .1) refl k)
+rests-b-rests-b-requires t c κs = let k = read (c .before .before .before .node .ensures .b-is) (branch-next (c .before .before .before .before .before .args .p .now .now) (c .before .before .before .before .before .args .j) (c .before .before .before .before .before .pre .1 .node) (λ h. c .if1 .left (c .before .before .before .node .ensures .b-is ∙ h))) in (omega (arith, k .less, c .before .before .before .before .before .pre .0), carried (c .before .before .before .before .before .pre .1) refl k)
 
 -- src/lib.rt:112:5
 rests-b-both-requires-2 : (t : ℕ) → rests-b-lts.Need-both-requires-2 (rests-b-calls t) (rests-b-at t) rests-b.Post
@@ -86,15 +86,15 @@ rests-b-both-requires-2 t c κs = search needs
 
 -- src/lib.rt:102:1
 rests-b-returns-2 : (t : ℕ) → rests-b-lts.Need-returns-2 (rests-b-calls t) (rests-b-at t) rests-b.Post
-rests-b-returns-2 t c = cc (branch-rests-on (c .before .before .before .before .before .before .before .args .p .now .now) (c .before .before .before .before .before .before .before .args .j) (c .before .before .before .before .before .before .before .pre .1 .node) (c .before .before .before .before .before .before .before .args .st .now .now) (λ h. c .before .before .if1 .left (c .before .before .before .before .before .fields .ensures .b-is ∙ h)))
+rests-b-returns-2 t c = cc (branch-rests-on (c .before .before .before .before .before .before .before .args .p .now .now) (c .before .before .before .before .before .before .before .args .j) (c .before .before .before .before .before .before .before .pre .1 .node) (c .before .before .before .before .before .before .before .args .st .now .now) (λ h. c .before .before .if1 .left (c .before .before .before .before .before .node .ensures .b-is ∙ h)))
 
 -- src/lib.rt:120:9
-rests-c-fields-requires : (t : ℕ) → rests-c-lts.Need-fields-requires (rests-c-calls t) (rests-c-at t) rests-c.Post
-rests-c-fields-requires t c κs = omega (arith, c .before .pre .1 .node .inside, c .before .pre .1 .node .shaped .within)
+rests-c-node-requires : (t : ℕ) → rests-c-lts.Need-node-requires (rests-c-calls t) (rests-c-at t) rests-c.Post
+rests-c-node-requires t c κs = let w = c .before .pre .1 .node in (omega (arith, w .inside, w .shaped .within), omega (arith, w .inside, w .shaped .small))
 
 -- src/lib.rt:121:9
 rests-c-rests-s-requires : (t : ℕ) → rests-c-lts.Need-rests-s-requires (rests-c-calls t) (rests-c-at t) rests-c.Post
-rests-c-rests-s-requires t c κs = let k = read (c .fields .ensures .a-is) (case-kid (c .before .before .args .p .now .now) (c .before .before .args .j) (c .before .before .pre .1 .node)) in (omega (arith, k .less, c .before .before .pre .0), carried (c .before .before .pre .1) refl k)
+rests-c-rests-s-requires t c κs = let k = read (c .node .ensures .a-is) (case-kid (c .before .before .args .p .now .now) (c .before .before .args .j) (c .before .before .pre .1 .node)) in (omega (arith, k .less, c .before .before .pre .0), carried (c .before .before .pre .1) refl k)
 
 -- src/lib.rt:123:9
 rests-c-both-requires : (t : ℕ) → rests-c-lts.Need-both-requires (rests-c-calls t) (rests-c-at t) rests-c.Post
@@ -102,11 +102,11 @@ rests-c-both-requires t c κs = search needs
 
 -- src/lib.rt:123:9
 rests-c-returns : (t : ℕ) → rests-c-lts.Need-returns (rests-c-calls t) (rests-c-at t) rests-c.Post
-rests-c-returns t c = cc (case-rests-end (c .before .before .before .before .before .before .args .p .now .now) (c .before .before .before .before .before .before .args .j) (c .before .before .before .before .before .before .pre .1 .node) (c .before .before .before .before .before .before .args .st .now .now) (sym (c .before .before .before .before .fields .ensures .b-is) ∙ c .before .if1 .taken))
+rests-c-returns t c = cc (case-rests-end (c .before .before .before .before .before .before .args .p .now .now) (c .before .before .before .before .before .before .args .j) (c .before .before .before .before .before .before .pre .1 .node) (c .before .before .before .before .before .before .args .st .now .now) (sym (c .before .before .before .before .node .ensures .b-is) ∙ c .before .if1 .taken))
 
 -- src/lib.rt:125:9
 rests-c-rests-c-requires : (t : ℕ) → rests-c-lts.Need-rests-c-requires (rests-c-calls t) (rests-c-at t) rests-c.Post
-rests-c-rests-c-requires t c κs = let k = read (c .before .before .before .fields .ensures .b-is) (case-next (c .before .before .before .before .before .args .p .now .now) (c .before .before .before .before .before .args .j) (c .before .before .before .before .before .pre .1 .node) (λ h. c .if1 .left (c .before .before .before .fields .ensures .b-is ∙ h))) in (omega (arith, k .less, c .before .before .before .before .before .pre .0), carried (c .before .before .before .before .before .pre .1) refl k)
+rests-c-rests-c-requires t c κs = let k = read (c .before .before .before .node .ensures .b-is) (case-next (c .before .before .before .before .before .args .p .now .now) (c .before .before .before .before .before .args .j) (c .before .before .before .before .before .pre .1 .node) (λ h. c .if1 .left (c .before .before .before .node .ensures .b-is ∙ h))) in (omega (arith, k .less, c .before .before .before .before .before .pre .0), carried (c .before .before .before .before .before .pre .1) refl k)
 
 -- src/lib.rt:126:5
 rests-c-both-requires-2 : (t : ℕ) → rests-c-lts.Need-both-requires-2 (rests-c-calls t) (rests-c-at t) rests-c.Post
@@ -114,19 +114,19 @@ rests-c-both-requires-2 t c κs = search needs
 
 -- src/lib.rt:116:1
 rests-c-returns-2 : (t : ℕ) → rests-c-lts.Need-returns-2 (rests-c-calls t) (rests-c-at t) rests-c.Post
-rests-c-returns-2 t c = cc (case-rests-on (c .before .before .before .before .before .before .before .args .p .now .now) (c .before .before .before .before .before .before .before .args .j) (c .before .before .before .before .before .before .before .pre .1 .node) (c .before .before .before .before .before .before .before .args .st .now .now) (λ h. c .before .before .if1 .left (c .before .before .before .before .before .fields .ensures .b-is ∙ h)))
+rests-c-returns-2 t c = cc (case-rests-on (c .before .before .before .before .before .before .before .args .p .now .now) (c .before .before .before .before .before .before .before .args .j) (c .before .before .before .before .before .before .before .pre .1 .node) (c .before .before .before .before .before .before .before .args .st .now .now) (λ h. c .before .before .if1 .left (c .before .before .before .before .before .node .ensures .b-is ∙ h)))
 
 -- src/lib.rt:74:9
-rests-s-fields-requires : (t : ℕ) → rests-s-lts.Need-fields-requires (rests-s-calls t) (rests-s-at t) rests-s.Post
-rests-s-fields-requires t c κs = omega (arith, c .before .pre .1 .node .inside, c .before .pre .1 .node .shaped .within)
+rests-s-node-requires : (t : ℕ) → rests-s-lts.Need-node-requires (rests-s-calls t) (rests-s-at t) rests-s.Post
+rests-s-node-requires t c κs = let w = c .before .pre .1 .node in (omega (arith, w .inside, w .shaped .within), omega (arith, w .inside, w .shaped .small))
 
 -- src/lib.rt:78:17
 rests-s-own-cell-requires : (t : ℕ) → rests-s-lts.Need-own-cell-requires (rests-s-calls t) (rests-s-at t) rests-s.Post
-rests-s-own-cell-requires t c κs = own-delay (c .before .before .before .before .before .args .p .now .now) (c .before .before .before .before .before .args .index .now) _ (c .before .before .before .before .before .args .i) (c .before .before .before .before .before .pre .1) (sym (c .before .before .before .fields .ensures .kind-is) ∙ c .before .before .match .keys1)
+rests-s-own-cell-requires t c κs = own-delay (c .before .before .before .before .before .args .p .now .now) (c .before .before .before .before .before .args .index .now) _ (c .before .before .before .before .before .args .i) (c .before .before .before .before .before .pre .1) (sym (c .before .before .before .node .ensures .kind-is) ∙ c .before .before .match .keys1)
 
 -- src/lib.rt:79:17
 rests-s-rests-s-requires : (t : ℕ) → rests-s-lts.Need-rests-s-requires (rests-s-calls t) (rests-s-at t) rests-s.Post
-rests-s-rests-s-requires t c κs = let k = read (c .before .before .before .before .fields .ensures .a-is) (delay-kid (c .before .before .before .before .before .before .args .p .now .now) (c .before .before .before .before .before .before .args .i) (c .before .before .before .before .before .before .pre .1 .node) (sym (c .before .before .before .before .fields .ensures .kind-is) ∙ c .before .before .before .match .keys1)) in (omega (arith, k .less, c .before .before .before .before .before .before .pre .0), carried (c .before .before .before .before .before .before .pre .1) refl k)
+rests-s-rests-s-requires t c κs = let k = read (c .before .before .before .before .node .ensures .a-is) (delay-kid (c .before .before .before .before .before .before .args .p .now .now) (c .before .before .before .before .before .before .args .i) (c .before .before .before .before .before .before .pre .1 .node) (sym (c .before .before .before .before .node .ensures .kind-is) ∙ c .before .before .before .match .keys1)) in (omega (arith, k .less, c .before .before .before .before .before .before .pre .0), carried (c .before .before .before .before .before .before .pre .1) refl k)
 
 -- src/lib.rt:80:23
 rests-s-first-value-requires : (t : ℕ) → rests-s-lts.Need-first-value-requires (rests-s-calls t) (rests-s-at t) rests-s.Post
@@ -138,11 +138,11 @@ rests-s-both-requires t c κs = search needs
 
 -- src/lib.rt:82:19
 rests-s-rests-s-requires-2 : (t : ℕ) → rests-s-lts.Need-rests-s-requires-2 (rests-s-calls t) (rests-s-at t) rests-s.Post
-rests-s-rests-s-requires-2 t c κs = let k = read (c .before .fields .ensures .a-is) (let-kids (c .before .before .before .args .p .now .now) (c .before .before .before .args .i) (c .before .before .before .pre .1 .node) (sym (c .before .fields .ensures .kind-is) ∙ c .match .keys2) .0) in (omega (arith, k .less, c .before .before .before .pre .0), carried (c .before .before .before .pre .1) refl k)
+rests-s-rests-s-requires-2 t c κs = let k = read (c .before .node .ensures .a-is) (let-kids (c .before .before .before .args .p .now .now) (c .before .before .before .args .i) (c .before .before .before .pre .1 .node) (sym (c .before .node .ensures .kind-is) ∙ c .match .keys2) .0) in (omega (arith, k .less, c .before .before .before .pre .0), carried (c .before .before .before .pre .1) refl k)
 
 -- src/lib.rt:82:47
 rests-s-rests-s-requires-3 : (t : ℕ) → rests-s-lts.Need-rests-s-requires-3 (rests-s-calls t) (rests-s-at t) rests-s.Post
-rests-s-rests-s-requires-3 t c κs = let k = read (c .before .before .fields .ensures .b-is) (let-kids (c .before .before .before .before .args .p .now .now) (c .before .before .before .before .args .i) (c .before .before .before .before .pre .1 .node) (sym (c .before .before .fields .ensures .kind-is) ∙ c .before .match .keys2) .1) in (omega (arith, k .less, c .before .before .before .before .pre .0), carried (c .before .before .before .before .pre .1) refl k)
+rests-s-rests-s-requires-3 t c κs = let k = read (c .before .before .node .ensures .b-is) (let-kids (c .before .before .before .before .args .p .now .now) (c .before .before .before .before .args .i) (c .before .before .before .before .pre .1 .node) (sym (c .before .before .node .ensures .kind-is) ∙ c .before .match .keys2) .1) in (omega (arith, k .less, c .before .before .before .before .pre .0), carried (c .before .before .before .before .pre .1) refl k)
 
 -- src/lib.rt:82:14
 rests-s-both-requires-2 : (t : ℕ) → rests-s-lts.Need-both-requires-2 (rests-s-calls t) (rests-s-at t) rests-s.Post
@@ -150,19 +150,19 @@ rests-s-both-requires-2 t c κs = search needs
 
 -- src/lib.rt:84:17
 rests-s-own-cell-requires-2 : (t : ℕ) → rests-s-lts.Need-own-cell-requires-2 (rests-s-calls t) (rests-s-at t) rests-s.Post
-rests-s-own-cell-requires-2 t c κs = own-switch (c .before .before .before .before .before .args .p .now .now) (c .before .before .before .before .before .args .index .now) _ (c .before .before .before .before .before .args .i) (c .before .before .before .before .before .pre .1) (sym (c .before .before .before .fields .ensures .kind-is) ∙ c .before .before .match .keys3)
+rests-s-own-cell-requires-2 t c κs = own-switch (c .before .before .before .before .before .args .p .now .now) (c .before .before .before .before .before .args .index .now) _ (c .before .before .before .before .before .args .i) (c .before .before .before .before .before .pre .1) (sym (c .before .before .before .node .ensures .kind-is) ∙ c .before .before .match .keys3)
 
 -- src/lib.rt:85:17
 rests-s-rests-s-requires-4 : (t : ℕ) → rests-s-lts.Need-rests-s-requires-4 (rests-s-calls t) (rests-s-at t) rests-s.Post
-rests-s-rests-s-requires-4 t c κs = let k = read (c .before .before .before .before .fields .ensures .a-is) (switch-kids (c .before .before .before .before .before .before .args .p .now .now) (c .before .before .before .before .before .before .args .i) (c .before .before .before .before .before .before .pre .1 .node) (sym (c .before .before .before .before .fields .ensures .kind-is) ∙ c .before .before .before .match .keys3) .0) in (omega (arith, k .less, c .before .before .before .before .before .before .pre .0), carried (c .before .before .before .before .before .before .pre .1) refl k)
+rests-s-rests-s-requires-4 t c κs = let k = read (c .before .before .before .before .node .ensures .a-is) (switch-kids (c .before .before .before .before .before .before .args .p .now .now) (c .before .before .before .before .before .before .args .i) (c .before .before .before .before .before .before .pre .1 .node) (sym (c .before .before .before .before .node .ensures .kind-is) ∙ c .before .before .before .match .keys3) .0) in (omega (arith, k .less, c .before .before .before .before .before .before .pre .0), carried (c .before .before .before .before .before .before .pre .1) refl k)
 
 -- src/lib.rt:86:17
 rests-s-rests-s-requires-5 : (t : ℕ) → rests-s-lts.Need-rests-s-requires-5 (rests-s-calls t) (rests-s-at t) rests-s.Post
-rests-s-rests-s-requires-5 t c κs = let k = read (c .before .before .before .before .before .fields .ensures .b-is) (switch-kids (c .before .before .before .before .before .before .before .args .p .now .now) (c .before .before .before .before .before .before .before .args .i) (c .before .before .before .before .before .before .before .pre .1 .node) (sym (c .before .before .before .before .before .fields .ensures .kind-is) ∙ c .before .before .before .before .match .keys3) .1) in (omega (arith, k .less, c .before .before .before .before .before .before .before .pre .0), carried (c .before .before .before .before .before .before .before .pre .1) refl k)
+rests-s-rests-s-requires-5 t c κs = let k = read (c .before .before .before .before .before .node .ensures .b-is) (switch-kids (c .before .before .before .before .before .before .before .args .p .now .now) (c .before .before .before .before .before .before .before .args .i) (c .before .before .before .before .before .before .before .pre .1 .node) (sym (c .before .before .before .before .before .node .ensures .kind-is) ∙ c .before .before .before .before .match .keys3) .1) in (omega (arith, k .less, c .before .before .before .before .before .before .before .pre .0), carried (c .before .before .before .before .before .before .before .pre .1) refl k)
 
 -- src/lib.rt:87:17
 rests-s-rests-s-requires-6 : (t : ℕ) → rests-s-lts.Need-rests-s-requires-6 (rests-s-calls t) (rests-s-at t) rests-s.Post
-rests-s-rests-s-requires-6 t c κs = let k = read (c .before .before .before .before .before .before .fields .ensures .c-is) (switch-kids (c .before .before .before .before .before .before .before .before .args .p .now .now) (c .before .before .before .before .before .before .before .before .args .i) (c .before .before .before .before .before .before .before .before .pre .1 .node) (sym (c .before .before .before .before .before .before .fields .ensures .kind-is) ∙ c .before .before .before .before .before .match .keys3) .2) in (omega (arith, k .less, c .before .before .before .before .before .before .before .before .pre .0), carried (c .before .before .before .before .before .before .before .before .pre .1) refl k)
+rests-s-rests-s-requires-6 t c κs = let k = read (c .before .before .before .before .before .before .node .ensures .c-is) (switch-kids (c .before .before .before .before .before .before .before .before .args .p .now .now) (c .before .before .before .before .before .before .before .before .args .i) (c .before .before .before .before .before .before .before .before .pre .1 .node) (sym (c .before .before .before .before .before .before .node .ensures .kind-is) ∙ c .before .before .before .before .before .match .keys3) .2) in (omega (arith, k .less, c .before .before .before .before .before .before .before .before .pre .0), carried (c .before .before .before .before .before .before .before .before .pre .1) refl k)
 
 -- src/lib.rt:88:23
 rests-s-both-requires-3 : (t : ℕ) → rests-s-lts.Need-both-requires-3 (rests-s-calls t) (rests-s-at t) rests-s.Post
@@ -178,15 +178,15 @@ rests-s-both-requires-5 t c κs = search needs
 
 -- src/lib.rt:91:17
 rests-s-own-cell-requires-3 : (t : ℕ) → rests-s-lts.Need-own-cell-requires-3 (rests-s-calls t) (rests-s-at t) rests-s.Post
-rests-s-own-cell-requires-3 t c κs = own-group (c .before .before .before .before .before .args .p .now .now) (c .before .before .before .before .before .args .index .now) _ (c .before .before .before .before .before .args .i) (c .before .before .before .before .before .pre .1) (sym (c .before .before .before .fields .ensures .kind-is) ∙ c .before .before .match .keys4)
+rests-s-own-cell-requires-3 t c κs = own-group (c .before .before .before .before .before .args .p .now .now) (c .before .before .before .before .before .args .index .now) _ (c .before .before .before .before .before .args .i) (c .before .before .before .before .before .pre .1) (sym (c .before .before .before .node .ensures .kind-is) ∙ c .before .before .match .keys4)
 
 -- src/lib.rt:92:17
 rests-s-rests-s-requires-7 : (t : ℕ) → rests-s-lts.Need-rests-s-requires-7 (rests-s-calls t) (rests-s-at t) rests-s.Post
-rests-s-rests-s-requires-7 t c κs = let k = read (c .before .before .before .before .fields .ensures .a-is) (group-kids (c .before .before .before .before .before .before .args .p .now .now) (c .before .before .before .before .before .before .args .i) (c .before .before .before .before .before .before .pre .1 .node) (sym (c .before .before .before .before .fields .ensures .kind-is) ∙ c .before .before .before .match .keys4) .0) in (omega (arith, k .less, c .before .before .before .before .before .before .pre .0), carried (c .before .before .before .before .before .before .pre .1) refl k)
+rests-s-rests-s-requires-7 t c κs = let k = read (c .before .before .before .before .node .ensures .a-is) (group-kids (c .before .before .before .before .before .before .args .p .now .now) (c .before .before .before .before .before .before .args .i) (c .before .before .before .before .before .before .pre .1 .node) (sym (c .before .before .before .before .node .ensures .kind-is) ∙ c .before .before .before .match .keys4) .0) in (omega (arith, k .less, c .before .before .before .before .before .before .pre .0), carried (c .before .before .before .before .before .before .pre .1) refl k)
 
 -- src/lib.rt:93:17
 rests-s-rests-b-requires : (t : ℕ) → rests-s-lts.Need-rests-b-requires (rests-s-calls t) (rests-s-at t) rests-s.Post
-rests-s-rests-b-requires t c κs = let k = read (c .before .before .before .before .before .fields .ensures .b-is) (group-kids (c .before .before .before .before .before .before .before .args .p .now .now) (c .before .before .before .before .before .before .before .args .i) (c .before .before .before .before .before .before .before .pre .1 .node) (sym (c .before .before .before .before .before .fields .ensures .kind-is) ∙ c .before .before .before .before .match .keys4) .1) in (omega (arith, k .less, c .before .before .before .before .before .before .before .pre .0), carried (c .before .before .before .before .before .before .before .pre .1) refl k)
+rests-s-rests-b-requires t c κs = let k = read (c .before .before .before .before .before .node .ensures .b-is) (group-kids (c .before .before .before .before .before .before .before .args .p .now .now) (c .before .before .before .before .before .before .before .args .i) (c .before .before .before .before .before .before .before .pre .1 .node) (sym (c .before .before .before .before .before .node .ensures .kind-is) ∙ c .before .before .before .before .match .keys4) .1) in (omega (arith, k .less, c .before .before .before .before .before .before .before .pre .0), carried (c .before .before .before .before .before .before .before .pre .1) refl k)
 
 -- src/lib.rt:94:18
 rests-s-both-requires-6 : (t : ℕ) → rests-s-lts.Need-both-requires-6 (rests-s-calls t) (rests-s-at t) rests-s.Post
@@ -198,11 +198,11 @@ rests-s-both-requires-7 t c κs = search needs
 
 -- src/lib.rt:96:19
 rests-s-rests-s-requires-8 : (t : ℕ) → rests-s-lts.Need-rests-s-requires-8 (rests-s-calls t) (rests-s-at t) rests-s.Post
-rests-s-rests-s-requires-8 t c κs = let k = read (c .before .fields .ensures .a-is) (until-kids (c .before .before .before .args .p .now .now) (c .before .before .before .args .i) (c .before .before .before .pre .1 .node) (sym (c .before .fields .ensures .kind-is) ∙ c .match .keys5) .0) in (omega (arith, k .less, c .before .before .before .pre .0), carried (c .before .before .before .pre .1) refl k)
+rests-s-rests-s-requires-8 t c κs = let k = read (c .before .node .ensures .a-is) (until-kids (c .before .before .before .args .p .now .now) (c .before .before .before .args .i) (c .before .before .before .pre .1 .node) (sym (c .before .node .ensures .kind-is) ∙ c .match .keys5) .0) in (omega (arith, k .less, c .before .before .before .pre .0), carried (c .before .before .before .pre .1) refl k)
 
 -- src/lib.rt:96:47
 rests-s-rests-c-requires : (t : ℕ) → rests-s-lts.Need-rests-c-requires (rests-s-calls t) (rests-s-at t) rests-s.Post
-rests-s-rests-c-requires t c κs = let k = read (c .before .before .fields .ensures .b-is) (until-kids (c .before .before .before .before .args .p .now .now) (c .before .before .before .before .args .i) (c .before .before .before .before .pre .1 .node) (sym (c .before .before .fields .ensures .kind-is) ∙ c .before .match .keys5) .1) in (omega (arith, k .less, c .before .before .before .before .pre .0), carried (c .before .before .before .before .pre .1) refl k)
+rests-s-rests-c-requires t c κs = let k = read (c .before .before .node .ensures .b-is) (until-kids (c .before .before .before .before .args .p .now .now) (c .before .before .before .before .args .i) (c .before .before .before .before .pre .1 .node) (sym (c .before .before .node .ensures .kind-is) ∙ c .before .match .keys5) .1) in (omega (arith, k .less, c .before .before .before .before .pre .0), carried (c .before .before .before .before .pre .1) refl k)
 
 -- src/lib.rt:96:14
 rests-s-both-requires-8 : (t : ℕ) → rests-s-lts.Need-both-requires-8 (rests-s-calls t) (rests-s-at t) rests-s.Post
@@ -210,32 +210,32 @@ rests-s-both-requires-8 t c κs = search needs
 
 -- src/lib.rt:70:1
 rests-s-returns : (t : ℕ) → rests-s-lts.Need-returns (rests-s-calls t) (rests-s-at t) rests-s.Post
-rests-s-returns t c = cc (delay-rests (c .before .before .before .before .before .before .before .before .before .args .p .now .now) (c .before .before .before .before .before .before .before .before .before .args .index .now) _ (c .before .before .before .before .before .before .before .before .before .args .i) (c .before .before .before .before .before .before .before .before .before .pre .1) (c .before .before .before .before .before .before .before .before .before .args .st .now .now) (sym (c .before .before .before .before .before .before .before .fields .ensures .kind-is) ∙ c .before .before .before .before .before .before .match .keys1))
+rests-s-returns t c = cc (delay-rests (c .before .before .before .before .before .before .before .before .before .args .p .now .now) (c .before .before .before .before .before .before .before .before .before .args .index .now) _ (c .before .before .before .before .before .before .before .before .before .args .i) (c .before .before .before .before .before .before .before .before .before .pre .1) (c .before .before .before .before .before .before .before .before .before .args .st .now .now) (sym (c .before .before .before .before .before .before .before .node .ensures .kind-is) ∙ c .before .before .before .before .before .before .match .keys1))
 
 -- src/lib.rt:70:1
 rests-s-returns-2 : (t : ℕ) → rests-s-lts.Need-returns-2 (rests-s-calls t) (rests-s-at t) rests-s.Post
-rests-s-returns-2 t c = cc (let-rests (c .before .before .before .before .before .before .args .p .now .now) (c .before .before .before .before .before .before .args .index .now) _ (c .before .before .before .before .before .before .args .i) (c .before .before .before .before .before .before .pre .1) (c .before .before .before .before .before .before .args .st .now .now) (sym (c .before .before .before .before .fields .ensures .kind-is) ∙ c .before .before .before .match .keys2))
+rests-s-returns-2 t c = cc (let-rests (c .before .before .before .before .before .before .args .p .now .now) (c .before .before .before .before .before .before .args .index .now) _ (c .before .before .before .before .before .before .args .i) (c .before .before .before .before .before .before .pre .1) (c .before .before .before .before .before .before .args .st .now .now) (sym (c .before .before .before .before .node .ensures .kind-is) ∙ c .before .before .before .match .keys2))
 
 -- src/lib.rt:70:1
 rests-s-returns-3 : (t : ℕ) → rests-s-lts.Need-returns-3 (rests-s-calls t) (rests-s-at t) rests-s.Post
-rests-s-returns-3 t c = cc (switch-rests (c .before .before .before .before .before .before .before .before .before .before .before .before .args .p .now .now) (c .before .before .before .before .before .before .before .before .before .before .before .before .args .index .now) _ (c .before .before .before .before .before .before .before .before .before .before .before .before .args .i) (c .before .before .before .before .before .before .before .before .before .before .before .before .pre .1) (c .before .before .before .before .before .before .before .before .before .before .before .before .args .st .now .now) (sym (c .before .before .before .before .before .before .before .before .before .before .fields .ensures .kind-is) ∙ c .before .before .before .before .before .before .before .before .before .match .keys3))
+rests-s-returns-3 t c = cc (switch-rests (c .before .before .before .before .before .before .before .before .before .before .before .before .args .p .now .now) (c .before .before .before .before .before .before .before .before .before .before .before .before .args .index .now) _ (c .before .before .before .before .before .before .before .before .before .before .before .before .args .i) (c .before .before .before .before .before .before .before .before .before .before .before .before .pre .1) (c .before .before .before .before .before .before .before .before .before .before .before .before .args .st .now .now) (sym (c .before .before .before .before .before .before .before .before .before .before .node .ensures .kind-is) ∙ c .before .before .before .before .before .before .before .before .before .match .keys3))
 
 -- src/lib.rt:70:1
 rests-s-returns-4 : (t : ℕ) → rests-s-lts.Need-returns-4 (rests-s-calls t) (rests-s-at t) rests-s.Post
-rests-s-returns-4 t c = cc (group-rests (c .before .before .before .before .before .before .before .before .before .before .args .p .now .now) (c .before .before .before .before .before .before .before .before .before .before .args .index .now) _ (c .before .before .before .before .before .before .before .before .before .before .args .i) (c .before .before .before .before .before .before .before .before .before .before .pre .1) (c .before .before .before .before .before .before .before .before .before .before .args .st .now .now) (sym (c .before .before .before .before .before .before .before .before .fields .ensures .kind-is) ∙ c .before .before .before .before .before .before .before .match .keys4))
+rests-s-returns-4 t c = cc (group-rests (c .before .before .before .before .before .before .before .before .before .before .args .p .now .now) (c .before .before .before .before .before .before .before .before .before .before .args .index .now) _ (c .before .before .before .before .before .before .before .before .before .before .args .i) (c .before .before .before .before .before .before .before .before .before .before .pre .1) (c .before .before .before .before .before .before .before .before .before .before .args .st .now .now) (sym (c .before .before .before .before .before .before .before .before .node .ensures .kind-is) ∙ c .before .before .before .before .before .before .before .match .keys4))
 
 -- src/lib.rt:70:1
 rests-s-returns-5 : (t : ℕ) → rests-s-lts.Need-returns-5 (rests-s-calls t) (rests-s-at t) rests-s.Post
-rests-s-returns-5 t c = cc (until-rests (c .before .before .before .before .before .before .args .p .now .now) (c .before .before .before .before .before .before .args .index .now) _ (c .before .before .before .before .before .before .args .i) (c .before .before .before .before .before .before .pre .1) (c .before .before .before .before .before .before .args .st .now .now) (sym (c .before .before .before .before .fields .ensures .kind-is) ∙ c .before .before .before .match .keys5))
+rests-s-returns-5 t c = cc (until-rests (c .before .before .before .before .before .before .args .p .now .now) (c .before .before .before .before .before .before .args .index .now) _ (c .before .before .before .before .before .before .args .i) (c .before .before .before .before .before .before .pre .1) (c .before .before .before .before .before .before .args .st .now .now) (sym (c .before .before .before .before .node .ensures .kind-is) ∙ c .before .before .before .match .keys5))
 
 -- src/lib.rt:70:1
 rests-s-returns-6 : (t : ℕ) → rests-s-lts.Need-returns-6 (rests-s-calls t) (rests-s-at t) rests-s.Post
-rests-s-returns-6 t c = quiet-rests (c .before .before .before .args .p .now .now) (c .before .before .before .args .index .now) _ (c .before .before .before .args .i) (c .before .before .before .pre .1) (c .before .before .before .args .st .now .now) (c .before .fields .ensures .kind-is) (c .match .rest)
+rests-s-returns-6 t c = quiet-rests (c .before .before .before .args .p .now .now) (c .before .before .before .args .index .now) _ (c .before .before .before .args .i) (c .before .before .before .pre .1) (c .before .before .before .args .st .now .now) (c .before .node .ensures .kind-is) (c .match .rest)
 
 pub +rests-b+rests-c+rests-s-spec : {M : Type 1} → statement M
 +rests-b+rests-c+rests-s-spec = close μ-rests-b μ-rests-c μ-rests-s (λ t. rests-b-lts.spec (rests-b-calls t) (rests-b-at t)
     rests-b.Post
-    (rests-b-fields-requires t)
+    (rests-b-node-requires t)
     (rests-b-rests-s-requires t)
     (rests-b-both-requires t)
     (rests-b-returns t)
@@ -244,7 +244,7 @@ pub +rests-b+rests-c+rests-s-spec : {M : Type 1} → statement M
     (rests-b-returns-2 t))
     (λ t. rests-c-lts.spec (rests-c-calls t) (rests-c-at t)
     rests-c.Post
-    (rests-c-fields-requires t)
+    (rests-c-node-requires t)
     (rests-c-rests-s-requires t)
     (rests-c-both-requires t)
     (rests-c-returns t)
@@ -253,7 +253,7 @@ pub +rests-b+rests-c+rests-s-spec : {M : Type 1} → statement M
     (rests-c-returns-2 t))
     λ t. rests-s-lts.spec (rests-s-calls t) (rests-s-at t)
     rests-s.Post
-    (rests-s-fields-requires t)
+    (rests-s-node-requires t)
     (rests-s-own-cell-requires t)
     (rests-s-rests-s-requires t)
     (rests-s-first-value-requires t)

@@ -18,7 +18,7 @@ use Rattle.well.proofs.well_s.Reads as well-s
 use Rattle.well.proofs.well_s.Kinds as well-s-kinds
 use Rattle.well.proofs.+well_b+well_c+well_s.Lts-well_s as well-s-lts
 use Rattle.state.proofs.own_cell.Reads as own-cell-reads
-use Rattle.table.proofs.fields.Reads as fields-reads
+use Rattle.table.proofs.node.Reads as node-reads
 use Rattle.well.proofs.both.Reads as both-reads
 use Rattle.well.proofs.content_fits.Reads as content-fits-reads
 use Rattle.well.proofs.middle_in.Reads as middle-in-reads
@@ -55,17 +55,17 @@ abbrev well-s-below : ℕ → In 5 well-s-kinds.ps
 well-s-below t = and 5 well-s-kinds.ps (falls 5 well-s-kinds.ps _<_ μ-well-s t) well-s.Pre
 
 abbrev well-b-calls : ℕ → well-b-lts.Claims
-well-b-calls t = (fields-reads.Asked, fields-reads.Learnt, middle-in-reads.Asked, middle-in-reads.Learnt, well-s-below t, well-s.Post, content-fits-reads.Asked, content-fits-reads.Learnt, both-reads.Asked, both-reads.Learnt, rests-b-reads.Asked, rests-b-reads.Learnt, rests-s-reads.Asked, rests-s-reads.Learnt, well-b-below t, well-b.Post)
+well-b-calls t = (node-reads.Asked, node-reads.Learnt, middle-in-reads.Asked, middle-in-reads.Learnt, well-s-below t, well-s.Post, content-fits-reads.Asked, content-fits-reads.Learnt, both-reads.Asked, both-reads.Learnt, rests-b-reads.Asked, rests-b-reads.Learnt, rests-s-reads.Asked, rests-s-reads.Learnt, well-b-below t, well-b.Post)
 
 abbrev well-c-calls : ℕ → well-c-lts.Claims
-well-c-calls t = (fields-reads.Asked, fields-reads.Learnt, well-s-below t, well-s.Post, both-reads.Asked, both-reads.Learnt, well-c-below t, well-c.Post)
+well-c-calls t = (node-reads.Asked, node-reads.Learnt, well-s-below t, well-s.Post, both-reads.Asked, both-reads.Learnt, well-c-below t, well-c.Post)
 
 abbrev well-s-calls : ℕ → well-s-lts.Claims
-well-s-calls t = (fields-reads.Asked, fields-reads.Learnt, own-cell-reads.Asked, own-cell-reads.Learnt, well-s-below t, well-s.Post, content-fits-reads.Asked, content-fits-reads.Learnt, both-reads.Asked, both-reads.Learnt, rests-s-reads.Asked, rests-s-reads.Learnt, rests-b-reads.Asked, rests-b-reads.Learnt, well-b-below t, well-b.Post, well-c-below t, well-c.Post)
+well-s-calls t = (node-reads.Asked, node-reads.Learnt, own-cell-reads.Asked, own-cell-reads.Learnt, well-s-below t, well-s.Post, content-fits-reads.Asked, content-fits-reads.Learnt, both-reads.Asked, both-reads.Learnt, rests-s-reads.Asked, rests-s-reads.Learnt, rests-b-reads.Asked, rests-b-reads.Learnt, well-b-below t, well-b.Post, well-c-below t, well-c.Post)
 
 -- src/lib.rt:176:9
-well-b-fields-requires : (t : ℕ) → well-b-lts.Need-fields-requires (well-b-calls t) (well-b-at t) well-b.Post
-well-b-fields-requires t c κs = omega (arith, c .before .pre .1 .node .inside, c .before .pre .1 .node .shaped .within)
+well-b-node-requires : (t : ℕ) → well-b-lts.Need-node-requires (well-b-calls t) (well-b-at t) well-b.Post
+well-b-node-requires t c κs = let w = c .before .pre .1 .node in (omega (arith, w .inside, w .shaped .within), omega (arith, w .inside, w .shaped .small))
 
 -- src/lib.rt:177:13
 well-b-middle-in-requires : (t : ℕ) → well-b-lts.Need-middle-in-requires (well-b-calls t) (well-b-at t) well-b.Post
@@ -73,7 +73,7 @@ well-b-middle-in-requires t c κs = search needs
 
 -- src/lib.rt:178:13
 well-b-well-s-requires : (t : ℕ) → well-b-lts.Need-well-s-requires (well-b-calls t) (well-b-at t) well-b.Post
-well-b-well-s-requires t c κs = let k = read (c .before .before .fields .ensures .a-is) (branch-kid (c .before .before .before .before .args .p .now .now) (c .before .before .before .before .args .j) (c .before .before .before .before .pre .1 .node)) in (omega (arith, k .less, c .before .before .before .before .pre .0), carried (c .before .before .before .before .pre .1) refl k)
+well-b-well-s-requires t c κs = let k = read (c .before .before .node .ensures .a-is) (branch-kid (c .before .before .before .before .args .p .now .now) (c .before .before .before .before .args .j) (c .before .before .before .before .pre .1 .node)) in (omega (arith, k .less, c .before .before .before .before .pre .0), carried (c .before .before .before .before .pre .1) refl k)
 
 -- src/lib.rt:179:25
 well-b-content-fits-requires : (t : ℕ) → well-b-lts.Need-content-fits-requires (well-b-calls t) (well-b-at t) well-b.Post
@@ -89,11 +89,11 @@ well-b-both-requires-2 t c κs = search needs
 
 -- src/lib.rt:181:13
 well-b-returns : (t : ℕ) → well-b-lts.Need-returns (well-b-calls t) (well-b-at t) well-b.Post
-well-b-returns t c = cc (named-last (c .before .before .before .before .before .before .before .before .before .before .args .p .now .now) (c .before .before .before .before .before .before .before .before .before .before .args .j) (c .before .before .before .before .before .before .before .before .before .before .pre .1 .node) (c .before .before .before .before .before .before .before .before .before .before .args .st .now .now) (c .before .before .before .before .before .before .before .before .before .before .args .m) (c .before .before .before .before .before .before .if1 .taken ∙ c .before .before .before .before .before .before .before .middle-in .ensures) (sym (c .before .before .before .before .before .before .before .before .fields .ensures .b-is) ∙ c .before .if2 .taken))
+well-b-returns t c = cc (named-last (c .before .before .before .before .before .before .before .before .before .before .args .p .now .now) (c .before .before .before .before .before .before .before .before .before .before .args .j) (c .before .before .before .before .before .before .before .before .before .before .pre .1 .node) (c .before .before .before .before .before .before .before .before .before .before .args .st .now .now) (c .before .before .before .before .before .before .before .before .before .before .args .m) (c .before .before .before .before .before .before .if1 .taken ∙ c .before .before .before .before .before .before .before .middle-in .ensures) (sym (c .before .before .before .before .before .before .before .before .node .ensures .b-is) ∙ c .before .if2 .taken))
 
 -- src/lib.rt:183:13
 well-b-rests-b-requires : (t : ℕ) → well-b-lts.Need-rests-b-requires (well-b-calls t) (well-b-at t) well-b.Post
-well-b-rests-b-requires t c κs = let k = read (c .before .before .before .before .before .before .before .fields .ensures .b-is) (branch-next (c .before .before .before .before .before .before .before .before .before .args .p .now .now) (c .before .before .before .before .before .before .before .before .before .args .j) (c .before .before .before .before .before .before .before .before .before .pre .1 .node) (λ h. c .if2 .left (c .before .before .before .before .before .before .before .fields .ensures .b-is ∙ h))) in carried (c .before .before .before .before .before .before .before .before .before .pre .1) refl k
+well-b-rests-b-requires t c κs = let k = read (c .before .before .before .before .before .before .before .node .ensures .b-is) (branch-next (c .before .before .before .before .before .before .before .before .before .args .p .now .now) (c .before .before .before .before .before .before .before .before .before .args .j) (c .before .before .before .before .before .before .before .before .before .pre .1 .node) (λ h. c .if2 .left (c .before .before .before .before .before .before .before .node .ensures .b-is ∙ h))) in carried (c .before .before .before .before .before .before .before .before .before .pre .1) refl k
 
 -- src/lib.rt:184:9
 well-b-both-requires-3 : (t : ℕ) → well-b-lts.Need-both-requires-3 (well-b-calls t) (well-b-at t) well-b.Post
@@ -101,11 +101,11 @@ well-b-both-requires-3 t c κs = search needs
 
 -- src/lib.rt:184:9
 well-b-returns-2 : (t : ℕ) → well-b-lts.Need-returns-2 (well-b-calls t) (well-b-at t) well-b.Post
-well-b-returns-2 t c = cc (named-on (c .before .before .before .before .before .before .before .before .before .before .before .args .p .now .now) (c .before .before .before .before .before .before .before .before .before .before .before .args .j) (c .before .before .before .before .before .before .before .before .before .before .before .pre .1 .node) (c .before .before .before .before .before .before .before .before .before .before .before .args .st .now .now) (c .before .before .before .before .before .before .before .before .before .before .before .args .m) (c .before .before .before .before .before .before .before .if1 .taken ∙ c .before .before .before .before .before .before .before .before .middle-in .ensures) (λ h. c .before .before .if2 .left (c .before .before .before .before .before .before .before .before .before .fields .ensures .b-is ∙ h)))
+well-b-returns-2 t c = cc (named-on (c .before .before .before .before .before .before .before .before .before .before .before .args .p .now .now) (c .before .before .before .before .before .before .before .before .before .before .before .args .j) (c .before .before .before .before .before .before .before .before .before .before .before .pre .1 .node) (c .before .before .before .before .before .before .before .before .before .before .before .args .st .now .now) (c .before .before .before .before .before .before .before .before .before .before .before .args .m) (c .before .before .before .before .before .before .before .if1 .taken ∙ c .before .before .before .before .before .before .before .before .middle-in .ensures) (λ h. c .before .before .if2 .left (c .before .before .before .before .before .before .before .before .before .node .ensures .b-is ∙ h)))
 
 -- src/lib.rt:186:9
 well-b-rests-s-requires : (t : ℕ) → well-b-lts.Need-rests-s-requires (well-b-calls t) (well-b-at t) well-b.Post
-well-b-rests-s-requires t c κs = let k = read (c .before .before .fields .ensures .a-is) (branch-kid (c .before .before .before .before .args .p .now .now) (c .before .before .before .before .args .j) (c .before .before .before .before .pre .1 .node)) in carried (c .before .before .before .before .pre .1) refl k
+well-b-rests-s-requires t c κs = let k = read (c .before .before .node .ensures .a-is) (branch-kid (c .before .before .before .before .args .p .now .now) (c .before .before .before .before .args .j) (c .before .before .before .before .pre .1 .node)) in carried (c .before .before .before .before .pre .1) refl k
 
 -- src/lib.rt:188:9
 well-b-both-requires-4 : (t : ℕ) → well-b-lts.Need-both-requires-4 (well-b-calls t) (well-b-at t) well-b.Post
@@ -113,11 +113,11 @@ well-b-both-requires-4 t c κs = search needs
 
 -- src/lib.rt:188:9
 well-b-returns-3 : (t : ℕ) → well-b-lts.Need-returns-3 (well-b-calls t) (well-b-at t) well-b.Post
-well-b-returns-3 t c = cc (other-last (c .before .before .before .before .before .before .before .before .args .p .now .now) (c .before .before .before .before .before .before .before .before .args .j) (c .before .before .before .before .before .before .before .before .pre .1 .node) (c .before .before .before .before .before .before .before .before .args .st .now .now) (c .before .before .before .before .before .before .before .before .args .m) (λ h. c .before .before .before .before .if1 .left (h ∙ sym (c .before .before .before .before .before .middle-in .ensures))) (sym (c .before .before .before .before .before .before .fields .ensures .b-is) ∙ c .before .if3 .taken))
+well-b-returns-3 t c = cc (other-last (c .before .before .before .before .before .before .before .before .args .p .now .now) (c .before .before .before .before .before .before .before .before .args .j) (c .before .before .before .before .before .before .before .before .pre .1 .node) (c .before .before .before .before .before .before .before .before .args .st .now .now) (c .before .before .before .before .before .before .before .before .args .m) (λ h. c .before .before .before .before .if1 .left (h ∙ sym (c .before .before .before .before .before .middle-in .ensures))) (sym (c .before .before .before .before .before .before .node .ensures .b-is) ∙ c .before .if3 .taken))
 
 -- src/lib.rt:190:9
 well-b-well-b-requires : (t : ℕ) → well-b-lts.Need-well-b-requires (well-b-calls t) (well-b-at t) well-b.Post
-well-b-well-b-requires t c κs = let k = read (c .before .before .before .before .before .fields .ensures .b-is) (branch-next (c .before .before .before .before .before .before .before .args .p .now .now) (c .before .before .before .before .before .before .before .args .j) (c .before .before .before .before .before .before .before .pre .1 .node) (λ h. c .if3 .left (c .before .before .before .before .before .fields .ensures .b-is ∙ h))) in (omega (arith, k .less, c .before .before .before .before .before .before .before .pre .0), carried (c .before .before .before .before .before .before .before .pre .1) refl k)
+well-b-well-b-requires t c κs = let k = read (c .before .before .before .before .before .node .ensures .b-is) (branch-next (c .before .before .before .before .before .before .before .args .p .now .now) (c .before .before .before .before .before .before .before .args .j) (c .before .before .before .before .before .before .before .pre .1 .node) (λ h. c .if3 .left (c .before .before .before .before .before .node .ensures .b-is ∙ h))) in (omega (arith, k .less, c .before .before .before .before .before .before .before .pre .0), carried (c .before .before .before .before .before .before .before .pre .1) refl k)
 
 -- src/lib.rt:191:5
 well-b-both-requires-5 : (t : ℕ) → well-b-lts.Need-both-requires-5 (well-b-calls t) (well-b-at t) well-b.Post
@@ -125,15 +125,15 @@ well-b-both-requires-5 t c κs = search needs
 
 -- src/lib.rt:172:1
 well-b-returns-4 : (t : ℕ) → well-b-lts.Need-returns-4 (well-b-calls t) (well-b-at t) well-b.Post
-well-b-returns-4 t c = cc (other-on (c .before .before .before .before .before .before .before .before .before .args .p .now .now) (c .before .before .before .before .before .before .before .before .before .args .j) (c .before .before .before .before .before .before .before .before .before .pre .1 .node) (c .before .before .before .before .before .before .before .before .before .args .st .now .now) (c .before .before .before .before .before .before .before .before .before .args .m) (λ h. c .before .before .before .before .before .if1 .left (h ∙ sym (c .before .before .before .before .before .before .middle-in .ensures))) (λ h. c .before .before .if3 .left (c .before .before .before .before .before .before .before .fields .ensures .b-is ∙ h)))
+well-b-returns-4 t c = cc (other-on (c .before .before .before .before .before .before .before .before .before .args .p .now .now) (c .before .before .before .before .before .before .before .before .before .args .j) (c .before .before .before .before .before .before .before .before .before .pre .1 .node) (c .before .before .before .before .before .before .before .before .before .args .st .now .now) (c .before .before .before .before .before .before .before .before .before .args .m) (λ h. c .before .before .before .before .before .if1 .left (h ∙ sym (c .before .before .before .before .before .before .middle-in .ensures))) (λ h. c .before .before .if3 .left (c .before .before .before .before .before .before .before .node .ensures .b-is ∙ h)))
 
 -- src/lib.rt:199:9
-well-c-fields-requires : (t : ℕ) → well-c-lts.Need-fields-requires (well-c-calls t) (well-c-at t) well-c.Post
-well-c-fields-requires t c κs = omega (arith, c .before .pre .1 .node .inside, c .before .pre .1 .node .shaped .within)
+well-c-node-requires : (t : ℕ) → well-c-lts.Need-node-requires (well-c-calls t) (well-c-at t) well-c.Post
+well-c-node-requires t c κs = let w = c .before .pre .1 .node in (omega (arith, w .inside, w .shaped .within), omega (arith, w .inside, w .shaped .small))
 
 -- src/lib.rt:200:9
 well-c-well-s-requires : (t : ℕ) → well-c-lts.Need-well-s-requires (well-c-calls t) (well-c-at t) well-c.Post
-well-c-well-s-requires t c κs = let k = read (c .fields .ensures .a-is) (case-kid (c .before .before .args .p .now .now) (c .before .before .args .j) (c .before .before .pre .1 .node)) in (omega (arith, k .less, c .before .before .pre .0), carried (c .before .before .pre .1) refl k)
+well-c-well-s-requires t c κs = let k = read (c .node .ensures .a-is) (case-kid (c .before .before .args .p .now .now) (c .before .before .args .j) (c .before .before .pre .1 .node)) in (omega (arith, k .less, c .before .before .pre .0), carried (c .before .before .pre .1) refl k)
 
 -- src/lib.rt:202:9
 well-c-both-requires : (t : ℕ) → well-c-lts.Need-both-requires (well-c-calls t) (well-c-at t) well-c.Post
@@ -141,11 +141,11 @@ well-c-both-requires t c κs = search needs
 
 -- src/lib.rt:202:9
 well-c-returns : (t : ℕ) → well-c-lts.Need-returns (well-c-calls t) (well-c-at t) well-c.Post
-well-c-returns t c = cc (case-well-end (c .before .before .before .before .before .before .args .p .now .now) (c .before .before .before .before .before .before .args .j) (c .before .before .before .before .before .before .pre .1 .node) (c .before .before .before .before .before .before .args .st .now .now) (sym (c .before .before .before .before .fields .ensures .b-is) ∙ c .before .if1 .taken))
+well-c-returns t c = cc (case-well-end (c .before .before .before .before .before .before .args .p .now .now) (c .before .before .before .before .before .before .args .j) (c .before .before .before .before .before .before .pre .1 .node) (c .before .before .before .before .before .before .args .st .now .now) (sym (c .before .before .before .before .node .ensures .b-is) ∙ c .before .if1 .taken))
 
 -- src/lib.rt:204:9
 well-c-well-c-requires : (t : ℕ) → well-c-lts.Need-well-c-requires (well-c-calls t) (well-c-at t) well-c.Post
-well-c-well-c-requires t c κs = let k = read (c .before .before .before .fields .ensures .b-is) (case-next (c .before .before .before .before .before .args .p .now .now) (c .before .before .before .before .before .args .j) (c .before .before .before .before .before .pre .1 .node) (λ h. c .if1 .left (c .before .before .before .fields .ensures .b-is ∙ h))) in (omega (arith, k .less, c .before .before .before .before .before .pre .0), carried (c .before .before .before .before .before .pre .1) refl k)
+well-c-well-c-requires t c κs = let k = read (c .before .before .before .node .ensures .b-is) (case-next (c .before .before .before .before .before .args .p .now .now) (c .before .before .before .before .before .args .j) (c .before .before .before .before .before .pre .1 .node) (λ h. c .if1 .left (c .before .before .before .node .ensures .b-is ∙ h))) in (omega (arith, k .less, c .before .before .before .before .before .pre .0), carried (c .before .before .before .before .before .pre .1) refl k)
 
 -- src/lib.rt:205:5
 well-c-both-requires-2 : (t : ℕ) → well-c-lts.Need-both-requires-2 (well-c-calls t) (well-c-at t) well-c.Post
@@ -153,19 +153,19 @@ well-c-both-requires-2 t c κs = search needs
 
 -- src/lib.rt:195:1
 well-c-returns-2 : (t : ℕ) → well-c-lts.Need-returns-2 (well-c-calls t) (well-c-at t) well-c.Post
-well-c-returns-2 t c = cc (case-well-on (c .before .before .before .before .before .before .before .args .p .now .now) (c .before .before .before .before .before .before .before .args .j) (c .before .before .before .before .before .before .before .pre .1 .node) (c .before .before .before .before .before .before .before .args .st .now .now) (λ h. c .before .before .if1 .left (c .before .before .before .before .before .fields .ensures .b-is ∙ h)))
+well-c-returns-2 t c = cc (case-well-on (c .before .before .before .before .before .before .before .args .p .now .now) (c .before .before .before .before .before .before .before .args .j) (c .before .before .before .before .before .before .before .pre .1 .node) (c .before .before .before .before .before .before .before .args .st .now .now) (λ h. c .before .before .if1 .left (c .before .before .before .before .before .node .ensures .b-is ∙ h)))
 
 -- src/lib.rt:134:9
-well-s-fields-requires : (t : ℕ) → well-s-lts.Need-fields-requires (well-s-calls t) (well-s-at t) well-s.Post
-well-s-fields-requires t c κs = omega (arith, c .before .pre .1 .node .inside, c .before .pre .1 .node .shaped .within)
+well-s-node-requires : (t : ℕ) → well-s-lts.Need-node-requires (well-s-calls t) (well-s-at t) well-s.Post
+well-s-node-requires t c κs = let w = c .before .pre .1 .node in (omega (arith, w .inside, w .shaped .within), omega (arith, w .inside, w .shaped .small))
 
 -- src/lib.rt:138:17
 well-s-own-cell-requires : (t : ℕ) → well-s-lts.Need-own-cell-requires (well-s-calls t) (well-s-at t) well-s.Post
-well-s-own-cell-requires t c κs = own-delay (c .before .before .before .before .before .args .p .now .now) (c .before .before .before .before .before .args .index .now) _ (c .before .before .before .before .before .args .i) (c .before .before .before .before .before .pre .1) (sym (c .before .before .before .fields .ensures .kind-is) ∙ c .before .before .match .keys1)
+well-s-own-cell-requires t c κs = own-delay (c .before .before .before .before .before .args .p .now .now) (c .before .before .before .before .before .args .index .now) _ (c .before .before .before .before .before .args .i) (c .before .before .before .before .before .pre .1) (sym (c .before .before .before .node .ensures .kind-is) ∙ c .before .before .match .keys1)
 
 -- src/lib.rt:139:17
 well-s-well-s-requires : (t : ℕ) → well-s-lts.Need-well-s-requires (well-s-calls t) (well-s-at t) well-s.Post
-well-s-well-s-requires t c κs = let k = read (c .before .before .before .before .fields .ensures .a-is) (delay-kid (c .before .before .before .before .before .before .args .p .now .now) (c .before .before .before .before .before .before .args .i) (c .before .before .before .before .before .before .pre .1 .node) (sym (c .before .before .before .before .fields .ensures .kind-is) ∙ c .before .before .before .match .keys1)) in (omega (arith, k .less, c .before .before .before .before .before .before .pre .0), carried (c .before .before .before .before .before .before .pre .1) refl k)
+well-s-well-s-requires t c κs = let k = read (c .before .before .before .before .node .ensures .a-is) (delay-kid (c .before .before .before .before .before .before .args .p .now .now) (c .before .before .before .before .before .before .args .i) (c .before .before .before .before .before .before .pre .1 .node) (sym (c .before .before .before .before .node .ensures .kind-is) ∙ c .before .before .before .match .keys1)) in (omega (arith, k .less, c .before .before .before .before .before .before .pre .0), carried (c .before .before .before .before .before .before .pre .1) refl k)
 
 -- src/lib.rt:140:18
 well-s-content-fits-requires : (t : ℕ) → well-s-lts.Need-content-fits-requires (well-s-calls t) (well-s-at t) well-s.Post
@@ -177,11 +177,11 @@ well-s-both-requires t c κs = search needs
 
 -- src/lib.rt:142:19
 well-s-well-s-requires-2 : (t : ℕ) → well-s-lts.Need-well-s-requires-2 (well-s-calls t) (well-s-at t) well-s.Post
-well-s-well-s-requires-2 t c κs = let k = read (c .before .fields .ensures .a-is) (let-kids (c .before .before .before .args .p .now .now) (c .before .before .before .args .i) (c .before .before .before .pre .1 .node) (sym (c .before .fields .ensures .kind-is) ∙ c .match .keys2) .0) in (omega (arith, k .less, c .before .before .before .pre .0), carried (c .before .before .before .pre .1) refl k)
+well-s-well-s-requires-2 t c κs = let k = read (c .before .node .ensures .a-is) (let-kids (c .before .before .before .args .p .now .now) (c .before .before .before .args .i) (c .before .before .before .pre .1 .node) (sym (c .before .node .ensures .kind-is) ∙ c .match .keys2) .0) in (omega (arith, k .less, c .before .before .before .pre .0), carried (c .before .before .before .pre .1) refl k)
 
 -- src/lib.rt:142:46
 well-s-well-s-requires-3 : (t : ℕ) → well-s-lts.Need-well-s-requires-3 (well-s-calls t) (well-s-at t) well-s.Post
-well-s-well-s-requires-3 t c κs = let k = read (c .before .before .fields .ensures .b-is) (let-kids (c .before .before .before .before .args .p .now .now) (c .before .before .before .before .args .i) (c .before .before .before .before .pre .1 .node) (sym (c .before .before .fields .ensures .kind-is) ∙ c .before .match .keys2) .1) in (omega (arith, k .less, c .before .before .before .before .pre .0), carried (c .before .before .before .before .pre .1) refl k)
+well-s-well-s-requires-3 t c κs = let k = read (c .before .before .node .ensures .b-is) (let-kids (c .before .before .before .before .args .p .now .now) (c .before .before .before .before .args .i) (c .before .before .before .before .pre .1 .node) (sym (c .before .before .node .ensures .kind-is) ∙ c .before .match .keys2) .1) in (omega (arith, k .less, c .before .before .before .before .pre .0), carried (c .before .before .before .before .pre .1) refl k)
 
 -- src/lib.rt:142:14
 well-s-both-requires-2 : (t : ℕ) → well-s-lts.Need-both-requires-2 (well-s-calls t) (well-s-at t) well-s.Post
@@ -189,19 +189,19 @@ well-s-both-requires-2 t c κs = search needs
 
 -- src/lib.rt:144:17
 well-s-own-cell-requires-2 : (t : ℕ) → well-s-lts.Need-own-cell-requires-2 (well-s-calls t) (well-s-at t) well-s.Post
-well-s-own-cell-requires-2 t c κs = own-switch (c .before .before .before .before .before .args .p .now .now) (c .before .before .before .before .before .args .index .now) _ (c .before .before .before .before .before .args .i) (c .before .before .before .before .before .pre .1) (sym (c .before .before .before .fields .ensures .kind-is) ∙ c .before .before .match .keys3)
+well-s-own-cell-requires-2 t c κs = own-switch (c .before .before .before .before .before .args .p .now .now) (c .before .before .before .before .before .args .index .now) _ (c .before .before .before .before .before .args .i) (c .before .before .before .before .before .pre .1) (sym (c .before .before .before .node .ensures .kind-is) ∙ c .before .before .match .keys3)
 
 -- src/lib.rt:145:17
 well-s-well-s-requires-4 : (t : ℕ) → well-s-lts.Need-well-s-requires-4 (well-s-calls t) (well-s-at t) well-s.Post
-well-s-well-s-requires-4 t c κs = let k = read (c .before .before .before .before .fields .ensures .b-is) (switch-kids (c .before .before .before .before .before .before .args .p .now .now) (c .before .before .before .before .before .before .args .i) (c .before .before .before .before .before .before .pre .1 .node) (sym (c .before .before .before .before .fields .ensures .kind-is) ∙ c .before .before .before .match .keys3) .1) in (omega (arith, k .less, c .before .before .before .before .before .before .pre .0), carried (c .before .before .before .before .before .before .pre .1) refl k)
+well-s-well-s-requires-4 t c κs = let k = read (c .before .before .before .before .node .ensures .b-is) (switch-kids (c .before .before .before .before .before .before .args .p .now .now) (c .before .before .before .before .before .before .args .i) (c .before .before .before .before .before .before .pre .1 .node) (sym (c .before .before .before .before .node .ensures .kind-is) ∙ c .before .before .before .match .keys3) .1) in (omega (arith, k .less, c .before .before .before .before .before .before .pre .0), carried (c .before .before .before .before .before .before .pre .1) refl k)
 
 -- src/lib.rt:147:21
 well-s-well-s-requires-5 : (t : ℕ) → well-s-lts.Need-well-s-requires-5 (well-s-calls t) (well-s-at t) well-s.Post
-well-s-well-s-requires-5 t c κs = let k = read (c .before .before .before .before .before .before .fields .ensures .a-is) (switch-kids (c .before .before .before .before .before .before .before .before .args .p .now .now) (c .before .before .before .before .before .before .before .before .args .i) (c .before .before .before .before .before .before .before .before .pre .1 .node) (sym (c .before .before .before .before .before .before .fields .ensures .kind-is) ∙ c .before .before .before .before .before .match .keys3) .0) in (omega (arith, k .less, c .before .before .before .before .before .before .before .before .pre .0), carried (c .before .before .before .before .before .before .before .before .pre .1) refl k)
+well-s-well-s-requires-5 t c κs = let k = read (c .before .before .before .before .before .before .node .ensures .a-is) (switch-kids (c .before .before .before .before .before .before .before .before .args .p .now .now) (c .before .before .before .before .before .before .before .before .args .i) (c .before .before .before .before .before .before .before .before .pre .1 .node) (sym (c .before .before .before .before .before .before .node .ensures .kind-is) ∙ c .before .before .before .before .before .match .keys3) .0) in (omega (arith, k .less, c .before .before .before .before .before .before .before .before .pre .0), carried (c .before .before .before .before .before .before .before .before .pre .1) refl k)
 
 -- src/lib.rt:148:21
 well-s-rests-s-requires : (t : ℕ) → well-s-lts.Need-rests-s-requires (well-s-calls t) (well-s-at t) well-s.Post
-well-s-rests-s-requires t c κs = let k = read (c .before .before .before .before .before .before .before .fields .ensures .c-is) (switch-kids (c .before .before .before .before .before .before .before .before .before .args .p .now .now) (c .before .before .before .before .before .before .before .before .before .args .i) (c .before .before .before .before .before .before .before .before .before .pre .1 .node) (sym (c .before .before .before .before .before .before .before .fields .ensures .kind-is) ∙ c .before .before .before .before .before .before .match .keys3) .2) in carried (c .before .before .before .before .before .before .before .before .before .pre .1) refl k
+well-s-rests-s-requires t c κs = let k = read (c .before .before .before .before .before .before .before .node .ensures .c-is) (switch-kids (c .before .before .before .before .before .before .before .before .before .args .p .now .now) (c .before .before .before .before .before .before .before .before .before .args .i) (c .before .before .before .before .before .before .before .before .before .pre .1 .node) (sym (c .before .before .before .before .before .before .before .node .ensures .kind-is) ∙ c .before .before .before .before .before .before .match .keys3) .2) in carried (c .before .before .before .before .before .before .before .before .before .pre .1) refl k
 
 -- src/lib.rt:149:32
 well-s-both-requires-3 : (t : ℕ) → well-s-lts.Need-both-requires-3 (well-s-calls t) (well-s-at t) well-s.Post
@@ -213,15 +213,15 @@ well-s-both-requires-4 t c κs = search needs
 
 -- src/lib.rt:149:17
 well-s-returns : (t : ℕ) → well-s-lts.Need-returns (well-s-calls t) (well-s-at t) well-s.Post
-well-s-returns t c = cc (switch-first (c .before .before .before .before .before .before .before .before .before .before .before .before .args .p .now .now) (c .before .before .before .before .before .before .before .before .before .before .before .before .args .index .now) _ (c .before .before .before .before .before .before .before .before .before .before .before .before .args .i) (c .before .before .before .before .before .before .before .before .before .before .before .before .pre .1) (c .before .before .before .before .before .before .before .before .before .before .before .before .args .st .now .now) (sym (c .before .before .before .before .before .before .before .before .before .before .fields .ensures .kind-is) ∙ c .before .before .before .before .before .before .before .before .before .match .keys3) (sym (c .before .before .before .before .before .before .own-cell2 .ensures) ∙ c .before .before .before .before .if1 .taken))
+well-s-returns t c = cc (switch-first (c .before .before .before .before .before .before .before .before .before .before .before .before .args .p .now .now) (c .before .before .before .before .before .before .before .before .before .before .before .before .args .index .now) _ (c .before .before .before .before .before .before .before .before .before .before .before .before .args .i) (c .before .before .before .before .before .before .before .before .before .before .before .before .pre .1) (c .before .before .before .before .before .before .before .before .before .before .before .before .args .st .now .now) (sym (c .before .before .before .before .before .before .before .before .before .before .node .ensures .kind-is) ∙ c .before .before .before .before .before .before .before .before .before .match .keys3) (sym (c .before .before .before .before .before .before .own-cell2 .ensures) ∙ c .before .before .before .before .if1 .taken))
 
 -- src/lib.rt:151:17
 well-s-rests-s-requires-2 : (t : ℕ) → well-s-lts.Need-rests-s-requires-2 (well-s-calls t) (well-s-at t) well-s.Post
-well-s-rests-s-requires-2 t c κs = let k = read (c .before .before .before .before .before .before .fields .ensures .a-is) (switch-kids (c .before .before .before .before .before .before .before .before .args .p .now .now) (c .before .before .before .before .before .before .before .before .args .i) (c .before .before .before .before .before .before .before .before .pre .1 .node) (sym (c .before .before .before .before .before .before .fields .ensures .kind-is) ∙ c .before .before .before .before .before .match .keys3) .0) in carried (c .before .before .before .before .before .before .before .before .pre .1) refl k
+well-s-rests-s-requires-2 t c κs = let k = read (c .before .before .before .before .before .before .node .ensures .a-is) (switch-kids (c .before .before .before .before .before .before .before .before .args .p .now .now) (c .before .before .before .before .before .before .before .before .args .i) (c .before .before .before .before .before .before .before .before .pre .1 .node) (sym (c .before .before .before .before .before .before .node .ensures .kind-is) ∙ c .before .before .before .before .before .match .keys3) .0) in carried (c .before .before .before .before .before .before .before .before .pre .1) refl k
 
 -- src/lib.rt:152:17
 well-s-well-s-requires-6 : (t : ℕ) → well-s-lts.Need-well-s-requires-6 (well-s-calls t) (well-s-at t) well-s.Post
-well-s-well-s-requires-6 t c κs = let k = read (c .before .before .before .before .before .before .before .fields .ensures .c-is) (switch-kids (c .before .before .before .before .before .before .before .before .before .args .p .now .now) (c .before .before .before .before .before .before .before .before .before .args .i) (c .before .before .before .before .before .before .before .before .before .pre .1 .node) (sym (c .before .before .before .before .before .before .before .fields .ensures .kind-is) ∙ c .before .before .before .before .before .before .match .keys3) .2) in (omega (arith, k .less, c .before .before .before .before .before .before .before .before .before .pre .0), carried (c .before .before .before .before .before .before .before .before .before .pre .1) refl k)
+well-s-well-s-requires-6 t c κs = let k = read (c .before .before .before .before .before .before .before .node .ensures .c-is) (switch-kids (c .before .before .before .before .before .before .before .before .before .args .p .now .now) (c .before .before .before .before .before .before .before .before .before .args .i) (c .before .before .before .before .before .before .before .before .before .pre .1 .node) (sym (c .before .before .before .before .before .before .before .node .ensures .kind-is) ∙ c .before .before .before .before .before .before .match .keys3) .2) in (omega (arith, k .less, c .before .before .before .before .before .before .before .before .before .pre .0), carried (c .before .before .before .before .before .before .before .before .before .pre .1) refl k)
 
 -- src/lib.rt:153:31
 well-s-content-fits-requires-2 : (t : ℕ) → well-s-lts.Need-content-fits-requires-2 (well-s-calls t) (well-s-at t) well-s.Post
@@ -241,15 +241,15 @@ well-s-both-requires-7 t c κs = search needs
 
 -- src/lib.rt:156:17
 well-s-own-cell-requires-3 : (t : ℕ) → well-s-lts.Need-own-cell-requires-3 (well-s-calls t) (well-s-at t) well-s.Post
-well-s-own-cell-requires-3 t c κs = own-group (c .before .before .before .before .before .args .p .now .now) (c .before .before .before .before .before .args .index .now) _ (c .before .before .before .before .before .args .i) (c .before .before .before .before .before .pre .1) (sym (c .before .before .before .fields .ensures .kind-is) ∙ c .before .before .match .keys4)
+well-s-own-cell-requires-3 t c κs = own-group (c .before .before .before .before .before .args .p .now .now) (c .before .before .before .before .before .args .index .now) _ (c .before .before .before .before .before .args .i) (c .before .before .before .before .before .pre .1) (sym (c .before .before .before .node .ensures .kind-is) ∙ c .before .before .match .keys4)
 
 -- src/lib.rt:158:21
 well-s-well-s-requires-7 : (t : ℕ) → well-s-lts.Need-well-s-requires-7 (well-s-calls t) (well-s-at t) well-s.Post
-well-s-well-s-requires-7 t c κs = let k = read (c .before .before .before .before .before .fields .ensures .a-is) (group-kids (c .before .before .before .before .before .before .before .args .p .now .now) (c .before .before .before .before .before .before .before .args .i) (c .before .before .before .before .before .before .before .pre .1 .node) (sym (c .before .before .before .before .before .fields .ensures .kind-is) ∙ c .before .before .before .before .match .keys4) .0) in (omega (arith, k .less, c .before .before .before .before .before .before .before .pre .0), carried (c .before .before .before .before .before .before .before .pre .1) refl k)
+well-s-well-s-requires-7 t c κs = let k = read (c .before .before .before .before .before .node .ensures .a-is) (group-kids (c .before .before .before .before .before .before .before .args .p .now .now) (c .before .before .before .before .before .before .before .args .i) (c .before .before .before .before .before .before .before .pre .1 .node) (sym (c .before .before .before .before .before .node .ensures .kind-is) ∙ c .before .before .before .before .match .keys4) .0) in (omega (arith, k .less, c .before .before .before .before .before .before .before .pre .0), carried (c .before .before .before .before .before .before .before .pre .1) refl k)
 
 -- src/lib.rt:159:21
 well-s-rests-b-requires : (t : ℕ) → well-s-lts.Need-rests-b-requires (well-s-calls t) (well-s-at t) well-s.Post
-well-s-rests-b-requires t c κs = let k = read (c .before .before .before .before .before .before .fields .ensures .b-is) (group-kids (c .before .before .before .before .before .before .before .before .args .p .now .now) (c .before .before .before .before .before .before .before .before .args .i) (c .before .before .before .before .before .before .before .before .pre .1 .node) (sym (c .before .before .before .before .before .before .fields .ensures .kind-is) ∙ c .before .before .before .before .before .match .keys4) .1) in carried (c .before .before .before .before .before .before .before .before .pre .1) refl k
+well-s-rests-b-requires t c κs = let k = read (c .before .before .before .before .before .before .node .ensures .b-is) (group-kids (c .before .before .before .before .before .before .before .before .args .p .now .now) (c .before .before .before .before .before .before .before .before .args .i) (c .before .before .before .before .before .before .before .before .pre .1 .node) (sym (c .before .before .before .before .before .before .node .ensures .kind-is) ∙ c .before .before .before .before .before .match .keys4) .1) in carried (c .before .before .before .before .before .before .before .before .pre .1) refl k
 
 -- src/lib.rt:160:17
 well-s-both-requires-8 : (t : ℕ) → well-s-lts.Need-both-requires-8 (well-s-calls t) (well-s-at t) well-s.Post
@@ -257,15 +257,15 @@ well-s-both-requires-8 t c κs = search needs
 
 -- src/lib.rt:160:17
 well-s-returns-2 : (t : ℕ) → well-s-lts.Need-returns-2 (well-s-calls t) (well-s-at t) well-s.Post
-well-s-returns-2 t c = cc (group-body (c .before .before .before .before .before .before .before .before .before .before .args .p .now .now) (c .before .before .before .before .before .before .before .before .before .before .args .index .now) _ (c .before .before .before .before .before .before .before .before .before .before .args .i) (c .before .before .before .before .before .before .before .before .before .before .pre .1) (c .before .before .before .before .before .before .before .before .before .before .args .st .now .now) (sym (c .before .before .before .before .before .before .before .before .fields .ensures .kind-is) ∙ c .before .before .before .before .before .before .before .match .keys4) (sym (c .before .before .before .before .own-cell3 .ensures) ∙ c .before .before .before .if2 .taken))
+well-s-returns-2 t c = cc (group-body (c .before .before .before .before .before .before .before .before .before .before .args .p .now .now) (c .before .before .before .before .before .before .before .before .before .before .args .index .now) _ (c .before .before .before .before .before .before .before .before .before .before .args .i) (c .before .before .before .before .before .before .before .before .before .before .pre .1) (c .before .before .before .before .before .before .before .before .before .before .args .st .now .now) (sym (c .before .before .before .before .before .before .before .before .node .ensures .kind-is) ∙ c .before .before .before .before .before .before .before .match .keys4) (sym (c .before .before .before .before .own-cell3 .ensures) ∙ c .before .before .before .if2 .taken))
 
 -- src/lib.rt:162:17
 well-s-rests-s-requires-3 : (t : ℕ) → well-s-lts.Need-rests-s-requires-3 (well-s-calls t) (well-s-at t) well-s.Post
-well-s-rests-s-requires-3 t c κs = let k = read (c .before .before .before .before .before .fields .ensures .a-is) (group-kids (c .before .before .before .before .before .before .before .args .p .now .now) (c .before .before .before .before .before .before .before .args .i) (c .before .before .before .before .before .before .before .pre .1 .node) (sym (c .before .before .before .before .before .fields .ensures .kind-is) ∙ c .before .before .before .before .match .keys4) .0) in carried (c .before .before .before .before .before .before .before .pre .1) refl k
+well-s-rests-s-requires-3 t c κs = let k = read (c .before .before .before .before .before .node .ensures .a-is) (group-kids (c .before .before .before .before .before .before .before .args .p .now .now) (c .before .before .before .before .before .before .before .args .i) (c .before .before .before .before .before .before .before .pre .1 .node) (sym (c .before .before .before .before .before .node .ensures .kind-is) ∙ c .before .before .before .before .match .keys4) .0) in carried (c .before .before .before .before .before .before .before .pre .1) refl k
 
 -- src/lib.rt:163:17
 well-s-well-b-requires : (t : ℕ) → well-s-lts.Need-well-b-requires (well-s-calls t) (well-s-at t) well-s.Post
-well-s-well-b-requires t c κs = let k = read (c .before .before .before .before .before .before .fields .ensures .b-is) (group-kids (c .before .before .before .before .before .before .before .before .args .p .now .now) (c .before .before .before .before .before .before .before .before .args .i) (c .before .before .before .before .before .before .before .before .pre .1 .node) (sym (c .before .before .before .before .before .before .fields .ensures .kind-is) ∙ c .before .before .before .before .before .match .keys4) .1) in (omega (arith, k .less, c .before .before .before .before .before .before .before .before .pre .0), carried (c .before .before .before .before .before .before .before .before .pre .1) refl k)
+well-s-well-b-requires t c κs = let k = read (c .before .before .before .before .before .before .node .ensures .b-is) (group-kids (c .before .before .before .before .before .before .before .before .args .p .now .now) (c .before .before .before .before .before .before .before .before .args .i) (c .before .before .before .before .before .before .before .before .pre .1 .node) (sym (c .before .before .before .before .before .before .node .ensures .kind-is) ∙ c .before .before .before .before .before .match .keys4) .1) in (omega (arith, k .less, c .before .before .before .before .before .before .before .before .pre .0), carried (c .before .before .before .before .before .before .before .before .pre .1) refl k)
 
 -- src/lib.rt:164:13
 well-s-both-requires-9 : (t : ℕ) → well-s-lts.Need-both-requires-9 (well-s-calls t) (well-s-at t) well-s.Post
@@ -273,11 +273,11 @@ well-s-both-requires-9 t c κs = search needs
 
 -- src/lib.rt:166:19
 well-s-well-s-requires-8 : (t : ℕ) → well-s-lts.Need-well-s-requires-8 (well-s-calls t) (well-s-at t) well-s.Post
-well-s-well-s-requires-8 t c κs = let k = read (c .before .fields .ensures .a-is) (until-kids (c .before .before .before .args .p .now .now) (c .before .before .before .args .i) (c .before .before .before .pre .1 .node) (sym (c .before .fields .ensures .kind-is) ∙ c .match .keys5) .0) in (omega (arith, k .less, c .before .before .before .pre .0), carried (c .before .before .before .pre .1) refl k)
+well-s-well-s-requires-8 t c κs = let k = read (c .before .node .ensures .a-is) (until-kids (c .before .before .before .args .p .now .now) (c .before .before .before .args .i) (c .before .before .before .pre .1 .node) (sym (c .before .node .ensures .kind-is) ∙ c .match .keys5) .0) in (omega (arith, k .less, c .before .before .before .pre .0), carried (c .before .before .before .pre .1) refl k)
 
 -- src/lib.rt:166:46
 well-s-well-c-requires : (t : ℕ) → well-s-lts.Need-well-c-requires (well-s-calls t) (well-s-at t) well-s.Post
-well-s-well-c-requires t c κs = let k = read (c .before .before .fields .ensures .b-is) (until-kids (c .before .before .before .before .args .p .now .now) (c .before .before .before .before .args .i) (c .before .before .before .before .pre .1 .node) (sym (c .before .before .fields .ensures .kind-is) ∙ c .before .match .keys5) .1) in (omega (arith, k .less, c .before .before .before .before .pre .0), carried (c .before .before .before .before .pre .1) refl k)
+well-s-well-c-requires t c κs = let k = read (c .before .before .node .ensures .b-is) (until-kids (c .before .before .before .before .args .p .now .now) (c .before .before .before .before .args .i) (c .before .before .before .before .pre .1 .node) (sym (c .before .before .node .ensures .kind-is) ∙ c .before .match .keys5) .1) in (omega (arith, k .less, c .before .before .before .before .pre .0), carried (c .before .before .before .before .pre .1) refl k)
 
 -- src/lib.rt:166:14
 well-s-both-requires-10 : (t : ℕ) → well-s-lts.Need-both-requires-10 (well-s-calls t) (well-s-at t) well-s.Post
@@ -285,32 +285,32 @@ well-s-both-requires-10 t c κs = search needs
 
 -- src/lib.rt:130:1
 well-s-returns-3 : (t : ℕ) → well-s-lts.Need-returns-3 (well-s-calls t) (well-s-at t) well-s.Post
-well-s-returns-3 t c = cc (delay-well (c .before .before .before .before .before .before .before .before .before .args .p .now .now) (c .before .before .before .before .before .before .before .before .before .args .index .now) _ (c .before .before .before .before .before .before .before .before .before .args .i) (c .before .before .before .before .before .before .before .before .before .pre .1) (c .before .before .before .before .before .before .before .before .before .args .st .now .now) (sym (c .before .before .before .before .before .before .before .fields .ensures .kind-is) ∙ c .before .before .before .before .before .before .match .keys1))
+well-s-returns-3 t c = cc (delay-well (c .before .before .before .before .before .before .before .before .before .args .p .now .now) (c .before .before .before .before .before .before .before .before .before .args .index .now) _ (c .before .before .before .before .before .before .before .before .before .args .i) (c .before .before .before .before .before .before .before .before .before .pre .1) (c .before .before .before .before .before .before .before .before .before .args .st .now .now) (sym (c .before .before .before .before .before .before .before .node .ensures .kind-is) ∙ c .before .before .before .before .before .before .match .keys1))
 
 -- src/lib.rt:130:1
 well-s-returns-4 : (t : ℕ) → well-s-lts.Need-returns-4 (well-s-calls t) (well-s-at t) well-s.Post
-well-s-returns-4 t c = cc (let-well (c .before .before .before .before .before .before .args .p .now .now) (c .before .before .before .before .before .before .args .index .now) _ (c .before .before .before .before .before .before .args .i) (c .before .before .before .before .before .before .pre .1) (c .before .before .before .before .before .before .args .st .now .now) (sym (c .before .before .before .before .fields .ensures .kind-is) ∙ c .before .before .before .match .keys2))
+well-s-returns-4 t c = cc (let-well (c .before .before .before .before .before .before .args .p .now .now) (c .before .before .before .before .before .before .args .index .now) _ (c .before .before .before .before .before .before .args .i) (c .before .before .before .before .before .before .pre .1) (c .before .before .before .before .before .before .args .st .now .now) (sym (c .before .before .before .before .node .ensures .kind-is) ∙ c .before .before .before .match .keys2))
 
 -- src/lib.rt:130:1
 well-s-returns-5 : (t : ℕ) → well-s-lts.Need-returns-5 (well-s-calls t) (well-s-at t) well-s.Post
-well-s-returns-5 t c = cc (switch-second (c .before .before .before .before .before .before .before .before .before .before .before .before .before .before .args .p .now .now) (c .before .before .before .before .before .before .before .before .before .before .before .before .before .before .args .index .now) _ (c .before .before .before .before .before .before .before .before .before .before .before .before .before .before .args .i) (c .before .before .before .before .before .before .before .before .before .before .before .before .before .before .pre .1) (c .before .before .before .before .before .before .before .before .before .before .before .before .before .before .args .st .now .now) (sym (c .before .before .before .before .before .before .before .before .before .before .before .before .fields .ensures .kind-is) ∙ c .before .before .before .before .before .before .before .before .before .before .before .match .keys3) (λ h. c .before .before .before .before .before .before .if1 .left (c .before .before .before .before .before .before .before .before .own-cell2 .ensures ∙ h)))
+well-s-returns-5 t c = cc (switch-second (c .before .before .before .before .before .before .before .before .before .before .before .before .before .before .args .p .now .now) (c .before .before .before .before .before .before .before .before .before .before .before .before .before .before .args .index .now) _ (c .before .before .before .before .before .before .before .before .before .before .before .before .before .before .args .i) (c .before .before .before .before .before .before .before .before .before .before .before .before .before .before .pre .1) (c .before .before .before .before .before .before .before .before .before .before .before .before .before .before .args .st .now .now) (sym (c .before .before .before .before .before .before .before .before .before .before .before .before .node .ensures .kind-is) ∙ c .before .before .before .before .before .before .before .before .before .before .before .match .keys3) (λ h. c .before .before .before .before .before .before .if1 .left (c .before .before .before .before .before .before .before .before .own-cell2 .ensures ∙ h)))
 
 -- src/lib.rt:130:1
 well-s-returns-6 : (t : ℕ) → well-s-lts.Need-returns-6 (well-s-calls t) (well-s-at t) well-s.Post
-well-s-returns-6 t c = cc (group-branch (c .before .before .before .before .before .before .before .before .before .before .args .p .now .now) (c .before .before .before .before .before .before .before .before .before .before .args .index .now) _ (c .before .before .before .before .before .before .before .before .before .before .args .i) (c .before .before .before .before .before .before .before .before .before .before .pre .1) (c .before .before .before .before .before .before .before .before .before .before .args .st .now .now) (sym (c .before .before .before .before .before .before .before .before .fields .ensures .kind-is) ∙ c .before .before .before .before .before .before .before .match .keys4) (λ h. c .before .before .before .if2 .left (c .before .before .before .before .own-cell3 .ensures ∙ h)))
+well-s-returns-6 t c = cc (group-branch (c .before .before .before .before .before .before .before .before .before .before .args .p .now .now) (c .before .before .before .before .before .before .before .before .before .before .args .index .now) _ (c .before .before .before .before .before .before .before .before .before .before .args .i) (c .before .before .before .before .before .before .before .before .before .before .pre .1) (c .before .before .before .before .before .before .before .before .before .before .args .st .now .now) (sym (c .before .before .before .before .before .before .before .before .node .ensures .kind-is) ∙ c .before .before .before .before .before .before .before .match .keys4) (λ h. c .before .before .before .if2 .left (c .before .before .before .before .own-cell3 .ensures ∙ h)))
 
 -- src/lib.rt:130:1
 well-s-returns-7 : (t : ℕ) → well-s-lts.Need-returns-7 (well-s-calls t) (well-s-at t) well-s.Post
-well-s-returns-7 t c = cc (until-well (c .before .before .before .before .before .before .args .p .now .now) (c .before .before .before .before .before .before .args .index .now) _ (c .before .before .before .before .before .before .args .i) (c .before .before .before .before .before .before .pre .1) (c .before .before .before .before .before .before .args .st .now .now) (sym (c .before .before .before .before .fields .ensures .kind-is) ∙ c .before .before .before .match .keys5))
+well-s-returns-7 t c = cc (until-well (c .before .before .before .before .before .before .args .p .now .now) (c .before .before .before .before .before .before .args .index .now) _ (c .before .before .before .before .before .before .args .i) (c .before .before .before .before .before .before .pre .1) (c .before .before .before .before .before .before .args .st .now .now) (sym (c .before .before .before .before .node .ensures .kind-is) ∙ c .before .before .before .match .keys5))
 
 -- src/lib.rt:130:1
 well-s-returns-8 : (t : ℕ) → well-s-lts.Need-returns-8 (well-s-calls t) (well-s-at t) well-s.Post
-well-s-returns-8 t c = quiet-well (c .before .before .before .args .p .now .now) (c .before .before .before .args .index .now) _ (c .before .before .before .args .i) (c .before .before .before .pre .1) (c .before .before .before .args .st .now .now) (c .before .fields .ensures .kind-is) (c .match .rest)
+well-s-returns-8 t c = quiet-well (c .before .before .before .args .p .now .now) (c .before .before .before .args .index .now) _ (c .before .before .before .args .i) (c .before .before .before .pre .1) (c .before .before .before .args .st .now .now) (c .before .node .ensures .kind-is) (c .match .rest)
 
 pub +well-b+well-c+well-s-spec : {M : Type 1} → statement M
 +well-b+well-c+well-s-spec = close μ-well-b μ-well-c μ-well-s (λ t. well-b-lts.spec (well-b-calls t) (well-b-at t)
     well-b.Post
-    (well-b-fields-requires t)
+    (well-b-node-requires t)
     (well-b-middle-in-requires t)
     (well-b-well-s-requires t)
     (well-b-content-fits-requires t)
@@ -328,7 +328,7 @@ pub +well-b+well-c+well-s-spec : {M : Type 1} → statement M
     (well-b-returns-4 t))
     (λ t. well-c-lts.spec (well-c-calls t) (well-c-at t)
     well-c.Post
-    (well-c-fields-requires t)
+    (well-c-node-requires t)
     (well-c-well-s-requires t)
     (well-c-both-requires t)
     (well-c-returns t)
@@ -337,7 +337,7 @@ pub +well-b+well-c+well-s-spec : {M : Type 1} → statement M
     (well-c-returns-2 t))
     λ t. well-s-lts.spec (well-s-calls t) (well-s-at t)
     well-s.Post
-    (well-s-fields-requires t)
+    (well-s-node-requires t)
     (well-s-own-cell-requires t)
     (well-s-well-s-requires t)
     (well-s-content-fits-requires t)

@@ -22,7 +22,7 @@ slice-aggregate-index-cells c = search needs
 
 -- src/lib.rt:136:9
 index-cells-requires : tie.Need-index-cells-requires
-index-cells-requires c κs = let k = counted _ _ (@pre .0) (@pre .1) in (k .shaped, k .listed, @pre .1, rw (length-replicate) (k .most))
+index-cells-requires c κs = let k = counted _ _ (c .before .before .before .before .before .pre .0) (c .before .before .before .before .before .pre .1) in (k .shaped, k .listed, c .before .before .before .before .before .pre .1, rw (length-replicate) (k .most))
 
 -- src/lib.rt:137:9
 run-fits-requires : tie.Need-run-fits-requires
@@ -30,7 +30,7 @@ run-fits-requires c κs = search needs
 
 -- src/lib.rt:138:9
 lent-verdict-requires : tie.Need-lent-verdict-requires
-lent-verdict-requires c κs = (root-of _ (@pre .0), @index-cells .ensures .0, @pre .1, @index-cells .ensures .1 ∙ all-cells _ _ (@pre .1))
+lent-verdict-requires c κs = (root-of _ (c .before .before .before .before .before .before .before .before .before .before .before .pre .0), c .before .before .before .before .before .index-cells .ensures .0, c .before .before .before .before .before .before .before .before .before .before .before .pre .1, c .before .before .before .before .before .index-cells .ensures .1 ∙ all-cells _ _ (c .before .before .before .before .before .before .before .before .before .before .before .pre .1))
 
 -- src/lib.rt:140:25
 enum-known-fault : tie.Need-enum-known-fault
@@ -42,20 +42,12 @@ enum-told c = search needs
 
 -- src/lib.rt:143:17
 bound-of-requires : tie.Need-bound-of-requires
-bound-of-requires c κs = let k = counted _ _ (@pre .0) (@pre .1) in (@pre .1, k .some, k .rooted, k .small)
-
--- src/lib.rt:144:28
-slice-aggregate-run-records : tie.Need-slice-aggregate-run-records
-slice-aggregate-run-records c = search needs
-
--- src/lib.rt:144:46
-slice-aggregate-run-records-2 : tie.Need-slice-aggregate-run-records-2
-slice-aggregate-run-records-2 c = search needs
+bound-of-requires c κs = let k = counted _ _ (c .before .before .before .before .before .before .before .before .before .before .before .before .before .before .pre .0) (c .before .before .before .before .before .before .before .before .before .before .before .before .before .before .pre .1) in (c .before .before .before .before .before .before .before .before .before .before .before .before .before .before .pre .1, k .some, k .rooted, k .small)
 
 -- src/lib.rt:144:13
 run-records-requires : tie.Need-run-records-requires
 unfolding unbound
-run-records-requires c κs = let f = lent-fine _ _ _ _ _ (sym (@lent-verdict .ensures) ∙ @enum-told .given .1) in (record { accepted = @pre .0; indexed = @index-cells .ensures .0; counted = @pre .1; well = f .well; blank = refl }, @bound-of .ensures, fits-most _ (sym (@run-fits .ensures) ∙ f .fitting), f .room)
+run-records-requires c κs = let f = lent-fine _ _ _ _ _ (sym (c .before .before .before .before .before .before .before .lent-verdict .ensures) ∙ c .before .before .before .before .before .enum-told .given .1) in (record { accepted = c .before .before .before .before .before .before .before .before .before .before .before .before .before .before .before .before .before .before .before .pre .0; indexed = c .before .before .before .before .before .before .before .before .before .before .before .before .before .index-cells .ensures .0; counted = c .before .before .before .before .before .before .before .before .before .before .before .before .before .before .before .before .before .before .before .pre .1; well = f .well; blank = refl }, c .before .before .before .before .bound-of .ensures, fits-most _ (sym (c .before .before .before .before .before .before .before .before .before .before .before .run-fits .ensures) ∙ f .fitting), f .room)
 
 -- src/lib.rt:131:1
 same-length : tie.Need-same-length
@@ -67,7 +59,7 @@ same-length-2 c = search needs
 
 -- src/lib.rt:131:1
 returns : tie.Need-returns
-returns c = run-lent _ _ _ _ _ (ap (lentRest _ _ _ _) (sym (@run-fits .ensures)) ∙ sym (@lent-verdict .ensures) ∙ @fault .given .1)
+returns c = run-lent _ _ _ _ _ (ap (lentRest _ _ _ _) (sym (c .before .before .before .before .before .before .before .run-fits .ensures)) ∙ sym (c .before .before .before .lent-verdict .ensures) ∙ c .before .fault .given .1)
 
 -- src/lib.rt:131:1
 same-length-3 : tie.Need-same-length-3
@@ -79,7 +71,7 @@ same-length-4 c = search needs
 
 -- src/lib.rt:131:1
 returns-2 : tie.Need-returns-2
-returns-2 c = rw (run-goes _ _ _ _ _ (ap (lentRest _ _ _ _) (sym (@run-fits .ensures)) ∙ sym (@lent-verdict .ensures) ∙ @enum-told .given .1)) (@run-records .ensures)
+returns-2 c = rw (run-goes _ _ _ _ _ (ap (lentRest _ _ _ _) (sym (c .before .before .before .before .before .before .before .before .before .before .before .before .before .before .before .before .run-fits .ensures)) ∙ sym (c .before .before .before .before .before .before .before .before .before .before .before .before .lent-verdict .ensures) ∙ c .before .before .before .before .before .before .before .before .before .before .enum-told .given .1)) (c .before .before .before .before .run-records .ensures)
 
 pub run-accepted-spec : {M : Type 1} → statement M
 run-accepted-spec =
@@ -92,8 +84,6 @@ run-accepted-spec =
     enum-known-fault
     enum-told
     bound-of-requires
-    slice-aggregate-run-records
-    slice-aggregate-run-records-2
     run-records-requires
     same-length
     same-length-2

@@ -20,11 +20,11 @@ slice-aggregate-index-cells c = search needs
 
 -- src/lib.rt:167:9
 index-cells-requires : tie.Need-index-cells-requires
-index-cells-requires c κs = let k = counted _ _ (@pre .0) (@pre .1) in (k .shaped, k .listed, @pre .1, rw (length-replicate) (k .most))
+index-cells-requires c κs = let k = counted _ _ (c .before .before .before .before .before .pre .0) (c .before .before .before .before .before .pre .1) in (k .shaped, k .listed, c .before .before .before .before .before .pre .1, rw (length-replicate) (k .most))
 
 -- src/lib.rt:169:9
 lent-verdict-requires : tie.Need-lent-verdict-requires
-lent-verdict-requires c κs = (root-of _ (@pre .0), @index-cells .ensures .0, @pre .1, @index-cells .ensures .1 ∙ all-cells _ _ (@pre .1))
+lent-verdict-requires c κs = (root-of _ (c .before .before .before .before .before .before .before .before .before .before .pre .0), c .before .before .before .before .index-cells .ensures .0, c .before .before .before .before .before .before .before .before .before .before .pre .1, c .before .before .before .before .index-cells .ensures .1 ∙ all-cells _ _ (c .before .before .before .before .before .before .before .before .before .before .pre .1))
 
 -- src/lib.rt:171:25
 enum-known-fault : tie.Need-enum-known-fault
@@ -34,18 +34,10 @@ enum-known-fault c = search needs
 enum-told : tie.Need-enum-told
 enum-told c = search needs
 
--- src/lib.rt:174:28
-slice-aggregate-step-record : tie.Need-slice-aggregate-step-record
-slice-aggregate-step-record c = search needs
-
--- src/lib.rt:174:45
-slice-aggregate-step-record-2 : tie.Need-slice-aggregate-step-record-2
-slice-aggregate-step-record-2 c = search needs
-
 -- src/lib.rt:174:13
 step-record-requires : tie.Need-step-record-requires
 unfolding unbound
-step-record-requires c κs = let f = lent-fine _ _ _ _ _ (sym (@lent-verdict .ensures) ∙ @enum-told .given .1) in (record { accepted = @pre .0; indexed = @index-cells .ensures .0; counted = @pre .1; well = f .well; blank = refl }, one-record _ _ _ _ f .0, one-record _ _ _ _ f .1)
+step-record-requires c κs = let f = lent-fine _ _ _ _ _ (sym (c .before .before .before .before .before .before .lent-verdict .ensures) ∙ c .before .before .before .before .enum-told .given .1) in (record { accepted = c .before .before .before .before .before .before .before .before .before .before .before .before .before .before .before .before .before .pre .0; indexed = c .before .before .before .before .before .before .before .before .before .before .before .index-cells .ensures .0; counted = c .before .before .before .before .before .before .before .before .before .before .before .before .before .before .before .before .before .pre .1; well = f .well; blank = refl }, one-record _ _ _ _ f .0, one-record _ _ _ _ f .1)
 
 -- src/lib.rt:162:1
 same-length : tie.Need-same-length
@@ -57,7 +49,7 @@ same-length-2 c = search needs
 
 -- src/lib.rt:162:1
 returns : tie.Need-returns
-returns c = step-lent _ _ _ _ _ (sym (@lent-verdict .ensures) ∙ @fault .given .1)
+returns c = step-lent _ _ _ _ _ (sym (c .before .before .before .lent-verdict .ensures) ∙ c .before .fault .given .1)
 
 -- src/lib.rt:162:1
 same-length-3 : tie.Need-same-length-3
@@ -69,7 +61,7 @@ same-length-4 c = search needs
 
 -- src/lib.rt:162:1
 returns-2 : tie.Need-returns-2
-returns-2 c = rw (step-fits _ _ (sym (@lent-verdict .ensures) ∙ @enum-told .given .1)) (@step-record .ensures)
+returns-2 c = rw (step-fits _ _ (sym (c .before .before .before .before .before .before .before .before .before .before .before .lent-verdict .ensures) ∙ c .before .before .before .before .before .before .before .before .before .enum-told .given .1)) (c .before .before .before .before .step-record .ensures)
 
 pub step-accepted-spec : {M : Type 1} → statement M
 step-accepted-spec =
@@ -80,8 +72,6 @@ step-accepted-spec =
     lent-verdict-requires
     enum-known-fault
     enum-told
-    slice-aggregate-step-record
-    slice-aggregate-step-record-2
     step-record-requires
     same-length
     same-length-2

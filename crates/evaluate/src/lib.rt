@@ -34,6 +34,20 @@ use rules::INT;
 use rules::Value;
 use table::node;
 
+// Expression i as an operand: a variable or a constant is read at once, without a call.
+fn operand(p: &&[u8], env: &mut [u64; 1008], i: usize) -> u64
+    requires { ⌜ ReadyE (now (now p)) (now env) i ⌝ }
+    ensures { λ r. ⌜ (outcomeIn r ≡ evalE (now (env .entry)) (exprAt (now (now (p .entry))) i)) × IsOutcome r × (now (env .exit) ≡ now (env .entry)) ⌝ }
+{
+    let n = node(*p, i);
+    let k = n.kind;
+    match k {
+        16 => variable(env, n.a),
+        17 => constant(n.ty, n.b, n.word),
+        _ => eval_e(p, env, i),
+    }
+}
+
 // Expression i. If and take evaluate one arm only.
 fn eval_e(p: &&[u8], env: &mut [u64; 1008], i: usize) -> u64
     requires { ⌜ ReadyE (now (now p)) (now env) i ⌝ }
@@ -44,18 +58,18 @@ fn eval_e(p: &&[u8], env: &mut [u64; 1008], i: usize) -> u64
     match k {
         16 => variable(env, n.a),
         17 => constant(n.ty, n.b, n.word),
-        24 => negated(eval_e(p, env, n.a)),
+        24 => negated(operand(p, env, n.a)),
         27 => {
-            let test = eval_e(p, env, n.a);
+            let test = operand(p, env, n.a);
             let Arm::Go(arm, count) = chosen(test, n.b, n.c) else {
                 return 0;
             };
             let r = eval_e(p, env, arm);
             later(count, r)
         }
-        28 => lifted(eval_e(p, env, n.a)),
+        28 => lifted(operand(p, env, n.a)),
         29 => {
-            let maybe = eval_e(p, env, n.a);
+            let maybe = operand(p, env, n.a);
             let Parts::Maybe(event, count) = apart(maybe) else {
                 return 0;
             };
@@ -67,8 +81,8 @@ fn eval_e(p: &&[u8], env: &mut [u64; 1008], i: usize) -> u64
             later(count, present)
         }
         _ => {
-            let x = eval_e(p, env, n.a);
-            let y = eval_e(p, env, n.b);
+            let x = operand(p, env, n.a);
+            let y = operand(p, env, n.b);
             operated(k, x, y)
         }
     }
@@ -118,7 +132,7 @@ fn eval_s(
     let k = n.kind;
     match k {
         1 => given(channel_value(*rec, n.a)),
-        3 => ruled(eval_e(p, env, n.a)),
+        3 => ruled(operand(p, env, n.a)),
         4 => held(content(ix, *st, i)),
         5 => {
             let d = eval_s(p, ix, rec, st, env, n.a);

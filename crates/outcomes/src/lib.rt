@@ -18,7 +18,7 @@ use rules::Word;
 use values::is_maybe;
 use values::is_plain;
 use values::pack;
-use values::value_from;
+use values::pack_from;
 use words::apply;
 
 // The arm that an if evaluates, with what its test counted.
@@ -120,7 +120,7 @@ pub fn given(v: Value) -> u64
 pub fn constant(t: u8, present: usize, word: u32) -> u64
     ensures { λ s. ⌜ (outcomeIn s ≡ rule (give (valueFrom t present word))) × IsOutcome s ⌝ }
 {
-    given(value_from(t, present, word))
+    pack_from(t, present, word) + 65536
 }
 
 // The value that a cell's content stands for, by one rule.

@@ -1,6 +1,6 @@
 // Values as one number, and counts.
 ghost use mathlib.Core.Path.{_≡_};
-ghost use Prim.Native.Nat.{_+_, _<_};
+ghost use Prim.Native.Nat.{_+_, _*_, _<_};
 ghost use Rattle.rules.specs.Bytes.{_and_};
 ghost use Rattle.rules.specs.Values.{isPlain, isMaybe, valueFrom, packed, unpacked};
 ghost use Rattle.rules.specs.Work.{_plus_};
@@ -67,6 +67,26 @@ pub fn value_from(t: u8, present: usize, word: u32) -> Value
         return Value::Absent(t);
     }
     Value::Present(t, word)
+}
+
+// A plain or present value as one number.
+fn full(t: u8, word: u32) -> u64
+    ensures { λ r. ⌜ r ≡ t + 256 + 4294967296 * word ⌝ }
+{
+    wide(t) + 256 + 4294967296 * wide_word(word)
+}
+
+// The value that a type, a present byte and a word stand for, as one number.
+pub fn pack_from(t: u8, present: usize, word: u32) -> u64
+    ensures { λ r. ⌜ r ≡ packed (valueFrom t present word) ⌝ }
+{
+    if is_plain(t) {
+        return full(t, word);
+    }
+    if present == 0 {
+        return wide(t);
+    }
+    full(t, word)
 }
 
 // The value of 8 bytes.

@@ -1,27 +1,25 @@
-use Rattle.rules.specs.declared.Value.{Value}
-use Rattle.rules.specs.Work.{rule, give}
-use mathlib.Core.Path.{ap, _∙_}
+use Rattle.rules.specs.Values.{packed, valueFrom}
 use native.Mathlib.Omega.{arith}
-use Rattle.outcomes.proofs.Numbers.{proper-from}
+use Rattle.outcomes.proofs.Numbers.{proper-from, proper-value}
+use Rattle.outcomes.proofs.Counted.{constant-gives, value-fits}
 use borrow.Author.Needs.{needs}
 use Rattle.outcomes.proofs.constant.Statement.{statement}
 use Rattle.outcomes.proofs.constant.Tie as tie
 use Rattle.outcomes.proofs.constant.Reads as reads
 use Rattle.outcomes.proofs.constant.Lts as lts
-use Rattle.outcomes.proofs.given.Reads as given-reads
-use Rattle.values.proofs.value_from.Reads as value-from-reads
-
--- src/lib.rt:123:11
-value-from-requires : tie.Need-value-from-requires
-value-from-requires c κs = search needs
+use Rattle.values.proofs.pack_from.Reads as pack-from-reads
 
 -- src/lib.rt:123:5
-given-requires : tie.Need-given-requires
-given-requires c κs = rw (c .value-from .ensures) (proper-from (c .before .args .t) (omega (arith, c .before .good .0)) _ _)
+pack-from-requires : tie.Need-pack-from-requires
+pack-from-requires c κs = search needs
+
+-- src/lib.rt:123:5
+add-result : tie.Need-add-result
+add-result c = let t = c .before .args .t in let v = valueFrom t (c .before .args .present) (c .before .args .word) in omega (arith, value-fits (packed v) 1 (proper-value v (proper-from t (omega (arith, c .before .good .0)) _ _)) (omega arith) (omega (arith, c .pack-from .ensures)), c .pack-from .ensures)
 
 -- src/lib.rt:120:1
 returns : tie.Need-returns
-returns c = (c .given .ensures .0 ∙ ap (λ (v : Value). rule (give v)) (c .before .value-from .ensures), c .given .ensures .1)
+returns c = constant-gives (c .before .args .t) (c .before .args .present) (c .before .args .word) (omega (arith, c .before .good .0)) (c .pack-from .ensures)
 
 pub constant-spec : {M : Type 1} → statement M
-constant-spec = tie.close (tie.spec value-from-requires given-requires returns)
+constant-spec = tie.close (tie.spec pack-from-requires add-result returns)

@@ -17,12 +17,12 @@ use borrow.Fn.Kinds.{In}
 use borrow.Fn.PlainCycle.{Measures, is, falls, and}
 use Rattle.evaluate.proofs.eval_e.Reads as eval-e
 use Rattle.evaluate.proofs.eval_e.Kinds as eval-e-kinds
-use Rattle.evaluate.proofs.+eval_e+inside_e.Lts-eval_e as eval-e-lts
+use Rattle.evaluate.proofs.+eval_e+inside_e+operand.Lts-eval_e as eval-e-lts
 use Rattle.evaluate.proofs.inside_e.Reads as inside-e
 use Rattle.evaluate.proofs.inside_e.Kinds as inside-e-kinds
-use Rattle.evaluate.proofs.+eval_e+inside_e.Lts-inside_e as inside-e-lts
-use Rattle.evaluate.proofs.+eval_e+inside_e.{statement}
-use Rattle.evaluate.proofs.+eval_e+inside_e.Tie.{close}
+use Rattle.evaluate.proofs.+eval_e+inside_e+operand.Lts-inside_e as inside-e-lts
+use Rattle.evaluate.proofs.+eval_e+inside_e+operand.{statement}
+use Rattle.evaluate.proofs.+eval_e+inside_e+operand.Tie.{close}
 use Rattle.outcomes.proofs.apart.Reads as apart-reads
 use Rattle.outcomes.proofs.chosen.Reads as chosen-reads
 use Rattle.outcomes.proofs.later.Reads as later-reads
@@ -32,6 +32,18 @@ use Rattle.outcomes.proofs.operated.Reads as operated-reads
 use Rattle.outcomes.proofs.variable.Reads as variable-reads
 use Rattle.table.proofs.node.Reads as node-reads
 use Rattle.outcomes.proofs.constant.Reads as constant-reads
+use Rattle.evaluate.proofs.operand.Reads as operand
+use Rattle.evaluate.proofs.operand.Kinds as operand-kinds
+use Rattle.evaluate.proofs.+eval_e+inside_e+operand.Lts-operand as operand-lts
+
+abbrev μ-operand : Measures 3 operand-kinds.ps ℕ
+μ-operand κs a = 2 * a .1 .1 .0 + 1
+
+abbrev operand-at : ℕ → In 3 operand-kinds.ps
+operand-at t = and 3 operand-kinds.ps (is 3 operand-kinds.ps μ-operand t) operand.Pre
+
+abbrev operand-below : ℕ → In 3 operand-kinds.ps
+operand-below t = and 3 operand-kinds.ps (falls 3 operand-kinds.ps _<_ μ-operand t) operand.Pre
 
 abbrev μ-eval-e : Measures 3 eval-e-kinds.ps ℕ
 μ-eval-e κs a = 2 * a .1 .1 .0
@@ -53,26 +65,29 @@ inside-e-below t =
     and 3 inside-e-kinds.ps (falls 3 inside-e-kinds.ps _<_ μ-inside-e t) inside-e.Pre
 
 abbrev eval-e-calls : ℕ → eval-e-lts.Claims
-eval-e-calls t = (node-reads.Asked, node-reads.Learnt, variable-reads.Asked, variable-reads.Learnt, constant-reads.Asked, constant-reads.Learnt, eval-e-below t, eval-e.Post, negated-reads.Asked, negated-reads.Learnt, chosen-reads.Asked, chosen-reads.Learnt, later-reads.Asked, later-reads.Learnt, lifted-reads.Asked, lifted-reads.Learnt, apart-reads.Asked, apart-reads.Learnt, inside-e-below t, inside-e.Post, operated-reads.Asked, operated-reads.Learnt)
+eval-e-calls t = (node-reads.Asked, node-reads.Learnt, variable-reads.Asked, variable-reads.Learnt, constant-reads.Asked, constant-reads.Learnt, operand-below t, operand.Post, negated-reads.Asked, negated-reads.Learnt, chosen-reads.Asked, chosen-reads.Learnt, eval-e-below t, eval-e.Post, later-reads.Asked, later-reads.Learnt, lifted-reads.Asked, lifted-reads.Learnt, apart-reads.Asked, apart-reads.Learnt, inside-e-below t, inside-e.Post, operated-reads.Asked, operated-reads.Learnt)
 
 abbrev inside-e-calls : ℕ → inside-e-lts.Claims
 inside-e-calls t = (eval-e-below t, eval-e.Post)
 
--- src/lib.rt:42:9
+abbrev operand-calls : ℕ → operand-lts.Claims
+operand-calls t = (node-reads.Asked, node-reads.Learnt, variable-reads.Asked, variable-reads.Learnt, constant-reads.Asked, constant-reads.Learnt, eval-e-below t, eval-e.Post)
+
+-- src/lib.rt:56:9
 eval-e-node-requires : (t : ℕ) → eval-e-lts.Need-node-requires (eval-e-calls t) (eval-e-at t) eval-e.Post
 eval-e-node-requires t c κs = (omega (arith, c .before .pre .1 .node .inside, c .before .pre .1 .node .shaped .within), omega (arith, c .before .pre .1 .node .inside, c .before .pre .1 .node .shaped .small))
 
--- src/lib.rt:45:15
+-- src/lib.rt:59:15
 eval-e-variable-requires : (t : ℕ) → eval-e-lts.Need-variable-requires (eval-e-calls t) (eval-e-at t) eval-e.Post
 eval-e-variable-requires t c κs = c .before .before .before .before .pre .1 .slots
 
--- src/lib.rt:46:15
+-- src/lib.rt:60:15
 eval-e-constant-requires : (t : ℕ) → eval-e-lts.Need-constant-requires (eval-e-calls t) (eval-e-at t) eval-e.Post
 eval-e-constant-requires t c κs = search needs
 
--- src/lib.rt:47:23
-eval-e-eval-e-requires : (t : ℕ) → eval-e-lts.Need-eval-e-requires (eval-e-calls t) (eval-e-at t) eval-e.Post
-eval-e-eval-e-requires t c κs =
+-- src/lib.rt:61:23
+eval-e-operand-requires : (t : ℕ) → eval-e-lts.Need-operand-requires (eval-e-calls t) (eval-e-at t) eval-e.Post
+eval-e-operand-requires t c κs =
     let p = c .before .before .before .before .args .p .now .now in
     let i = c .before .before .before .before .args .i in
     let w = c .before .before .before .before .pre .1 .node in
@@ -81,7 +96,7 @@ eval-e-eval-e-requires t c κs =
     let k = read (node .a-is) (negation-part p i w small (sym (node .kind-is) ∙ c .before .match .keys3)) in
     (omega (arith, k .less, c .before .before .before .before .pre .0), record { node = k .node; slots = c .before .before .before .before .pre .1 .slots; small = k .small })
 
--- src/lib.rt:47:15
+-- src/lib.rt:61:15
 eval-e-negated-requires : (t : ℕ) → eval-e-lts.Need-negated-requires (eval-e-calls t) (eval-e-at t) eval-e.Post
 eval-e-negated-requires t c κs =
     let p = c .before .before .before .before .before .args .p .now .now in
@@ -89,11 +104,11 @@ eval-e-negated-requires t c κs =
     let w = c .before .before .before .before .before .pre .1 .node in
     let small = c .before .before .before .before .before .pre .1 .small in
     let node = c .before .before .before .node .ensures in
-    (part-work _ (read (node .a-is) (negation-part p i w small (sym (node .kind-is) ∙ c .before .before .match .keys3))) (c .eval-e .ensures .0))
+    (part-work _ (read (node .a-is) (negation-part p i w small (sym (node .kind-is) ∙ c .before .before .match .keys3))) (c .operand .ensures .0))
 
--- src/lib.rt:49:17
-eval-e-eval-e-requires-2 : (t : ℕ) → eval-e-lts.Need-eval-e-requires-2 (eval-e-calls t) (eval-e-at t) eval-e.Post
-eval-e-eval-e-requires-2 t c κs =
+-- src/lib.rt:63:17
+eval-e-operand-requires-2 : (t : ℕ) → eval-e-lts.Need-operand-requires-2 (eval-e-calls t) (eval-e-at t) eval-e.Post
+eval-e-operand-requires-2 t c κs =
     let p = c .before .before .before .before .args .p .now .now in
     let i = c .before .before .before .before .args .i in
     let w = c .before .before .before .before .pre .1 .node in
@@ -102,19 +117,19 @@ eval-e-eval-e-requires-2 t c κs =
     let k = read (node .a-is) (choice-parts p i w small (sym (node .kind-is) ∙ c .before .match .keys4) .0) in
     (omega (arith, k .less, c .before .before .before .before .pre .0), record { node = k .node; slots = c .before .before .before .before .pre .1 .slots; small = k .small })
 
--- src/lib.rt:50:39
+-- src/lib.rt:64:39
 eval-e-chosen-requires : (t : ℕ) → eval-e-lts.Need-chosen-requires (eval-e-calls t) (eval-e-at t) eval-e.Post
 eval-e-chosen-requires t c κs = search needs
 
--- src/lib.rt:50:25
+-- src/lib.rt:64:25
 eval-e-enum-known-arm : (t : ℕ) → eval-e-lts.Need-enum-known-arm (eval-e-calls t) (eval-e-at t) eval-e.Post
 eval-e-enum-known-arm t c = search needs
 
--- src/lib.rt:51:17
+-- src/lib.rt:65:17
 eval-e-enum-told : (t : ℕ) → eval-e-lts.Need-enum-told (eval-e-calls t) (eval-e-at t) eval-e.Post
 eval-e-enum-told t c = search needs
 
--- src/lib.rt:51:17
+-- src/lib.rt:65:17
 eval-e-returns : (t : ℕ) → eval-e-lts.Need-returns (eval-e-calls t) (eval-e-at t) eval-e.Post
 eval-e-returns t c =
     let p = c .before .before .before .before .before .before .before .before .args .p .now .now in
@@ -122,21 +137,21 @@ eval-e-returns t c =
     let w = c .before .before .before .before .before .before .before .before .pre .1 .node in
     let env = c .before .before .before .before .before .before .before .before .args .env .now in
     let node = c .before .before .before .before .before .before .node .ensures in
-    let g = gives-stuck (choice-stuck p i w env (sym (node .kind-is) ∙ c .before .before .before .before .before .match .keys4) (c .before .before .before .before .before .before .node .result .b) (c .before .before .before .before .before .before .node .result .c) (node .a-is) (c .before .before .before .eval-e2 .ensures .0) (sym (c .before .before .chosen .ensures) ∙ c .enum-told .given .1)) in
-    (g .0, g .1, c .before .before .before .eval-e2 .ensures .2)
+    let g = gives-stuck (choice-stuck p i w env (sym (node .kind-is) ∙ c .before .before .before .before .before .match .keys4) (c .before .before .before .before .before .before .node .result .b) (c .before .before .before .before .before .before .node .result .c) (node .a-is) (c .before .before .before .operand2 .ensures .0) (sym (c .before .before .chosen .ensures) ∙ c .enum-told .given .1)) in
+    (g .0, g .1, c .before .before .before .operand2 .ensures .2)
 
--- src/lib.rt:53:17
-eval-e-eval-e-requires-3 : (t : ℕ) → eval-e-lts.Need-eval-e-requires-3 (eval-e-calls t) (eval-e-at t) eval-e.Post
-eval-e-eval-e-requires-3 t c κs =
+-- src/lib.rt:67:17
+eval-e-eval-e-requires : (t : ℕ) → eval-e-lts.Need-eval-e-requires (eval-e-calls t) (eval-e-at t) eval-e.Post
+eval-e-eval-e-requires t c κs =
     let p = c .before .before .before .before .before .before .before .before .before .before .args .p .now .now in
     let i = c .before .before .before .before .before .before .before .before .before .before .args .i in
     let w = c .before .before .before .before .before .before .before .before .before .before .pre .1 .node in
     let small = c .before .before .before .before .before .before .before .before .before .before .pre .1 .small in
     let node = c .before .before .before .before .before .before .before .before .node .ensures in
-    let k = (chosen-part p i w small (sym (node .kind-is) ∙ c .before .before .before .before .before .before .before .match .keys4) (outcomeIn (c .before .before .before .before .before .eval-e2 .result)) (node .b-is) (node .c-is) (sym (c .before .before .before .before .chosen .ensures) ∙ c .before .before .arm .given .1)) in
-    (omega (arith, k .less, c .before .before .before .before .before .before .before .before .before .before .pre .0), record { node = k .node; slots = subst Slots (sym (c .before .before .before .before .before .eval-e2 .ensures .2)) (c .before .before .before .before .before .before .before .before .before .before .pre .1 .slots); small = k .small })
+    let k = (chosen-part p i w small (sym (node .kind-is) ∙ c .before .before .before .before .before .before .before .match .keys4) (outcomeIn (c .before .before .before .before .before .operand2 .result)) (node .b-is) (node .c-is) (sym (c .before .before .before .before .chosen .ensures) ∙ c .before .before .arm .given .1)) in
+    (omega (arith, k .less, c .before .before .before .before .before .before .before .before .before .before .pre .0), record { node = k .node; slots = subst Slots (sym (c .before .before .before .before .before .operand2 .ensures .2)) (c .before .before .before .before .before .before .before .before .before .before .pre .1 .slots); small = k .small })
 
--- src/lib.rt:54:13
+-- src/lib.rt:68:13
 eval-e-later-requires : (t : ℕ) → eval-e-lts.Need-later-requires (eval-e-calls t) (eval-e-at t) eval-e.Post
 eval-e-later-requires t c κs =
     let p = c .before .before .before .before .before .before .before .before .before .before .before .args .p .now .now in
@@ -145,11 +160,11 @@ eval-e-later-requires t c κs =
     let small = c .before .before .before .before .before .before .before .before .before .before .before .pre .1 .small in
     let node = c .before .before .before .before .before .before .before .before .before .node .ensures in
     let go = sym (c .before .before .before .before .before .chosen .ensures) ∙ c .before .before .before .arm .given .1 in
-    (c .eval-e3 .ensures .1, omega (arith, arm-work _ _ (outcomeIn (c .before .before .before .before .before .before .eval-e2 .result)) go, pair-work p (c .before .before .before .before .before .before .before .before .before .node .result .a) (c .before .before .before .arm .given .0 .0) _ _ (choice-pair p i w small (sym (node .kind-is) ∙ c .before .before .before .before .before .before .before .before .match .keys4) (outcomeIn (c .before .before .before .before .before .before .eval-e2 .result)) (node .a-is) (node .b-is) (node .c-is) go) (c .before .before .before .before .before .before .eval-e2 .ensures .0) (c .eval-e3 .ensures .0)))
+    (c .eval-e .ensures .1, omega (arith, arm-work _ _ (outcomeIn (c .before .before .before .before .before .before .operand2 .result)) go, pair-work p (c .before .before .before .before .before .before .before .before .before .node .result .a) (c .before .before .before .arm .given .0 .0) _ _ (choice-pair p i w small (sym (node .kind-is) ∙ c .before .before .before .before .before .before .before .before .match .keys4) (outcomeIn (c .before .before .before .before .before .before .operand2 .result)) (node .a-is) (node .b-is) (node .c-is) go) (c .before .before .before .before .before .before .operand2 .ensures .0) (c .eval-e .ensures .0)))
 
--- src/lib.rt:56:22
-eval-e-eval-e-requires-4 : (t : ℕ) → eval-e-lts.Need-eval-e-requires-4 (eval-e-calls t) (eval-e-at t) eval-e.Post
-eval-e-eval-e-requires-4 t c κs =
+-- src/lib.rt:70:22
+eval-e-operand-requires-3 : (t : ℕ) → eval-e-lts.Need-operand-requires-3 (eval-e-calls t) (eval-e-at t) eval-e.Post
+eval-e-operand-requires-3 t c κs =
     let p = c .before .before .before .before .args .p .now .now in
     let i = c .before .before .before .before .args .i in
     let w = c .before .before .before .before .pre .1 .node in
@@ -158,7 +173,7 @@ eval-e-eval-e-requires-4 t c κs =
     let k = read (node .a-is) (just-part p i w small (sym (node .kind-is) ∙ c .before .match .keys5)) in
     (omega (arith, k .less, c .before .before .before .before .pre .0), record { node = k .node; slots = c .before .before .before .before .pre .1 .slots; small = k .small })
 
--- src/lib.rt:56:15
+-- src/lib.rt:70:15
 eval-e-lifted-requires : (t : ℕ) → eval-e-lts.Need-lifted-requires (eval-e-calls t) (eval-e-at t) eval-e.Post
 eval-e-lifted-requires t c κs =
     let p = c .before .before .before .before .before .args .p .now .now in
@@ -166,11 +181,11 @@ eval-e-lifted-requires t c κs =
     let w = c .before .before .before .before .before .pre .1 .node in
     let small = c .before .before .before .before .before .pre .1 .small in
     let node = c .before .before .before .node .ensures in
-    (part-work _ (read (node .a-is) (just-part p i w small (sym (node .kind-is) ∙ c .before .before .match .keys5))) (c .eval-e4 .ensures .0))
+    (part-work _ (read (node .a-is) (just-part p i w small (sym (node .kind-is) ∙ c .before .before .match .keys5))) (c .operand3 .ensures .0))
 
--- src/lib.rt:58:17
-eval-e-eval-e-requires-5 : (t : ℕ) → eval-e-lts.Need-eval-e-requires-5 (eval-e-calls t) (eval-e-at t) eval-e.Post
-eval-e-eval-e-requires-5 t c κs =
+-- src/lib.rt:72:17
+eval-e-operand-requires-4 : (t : ℕ) → eval-e-lts.Need-operand-requires-4 (eval-e-calls t) (eval-e-at t) eval-e.Post
+eval-e-operand-requires-4 t c κs =
     let p = c .before .before .before .before .args .p .now .now in
     let i = c .before .before .before .before .args .i in
     let w = c .before .before .before .before .pre .1 .node in
@@ -179,19 +194,19 @@ eval-e-eval-e-requires-5 t c κs =
     let k = read (node .a-is) (taking-parts p i w small (sym (node .kind-is) ∙ c .before .match .keys6) .0) in
     (omega (arith, k .less, c .before .before .before .before .pre .0), record { node = k .node; slots = c .before .before .before .before .pre .1 .slots; small = k .small })
 
--- src/lib.rt:59:46
+-- src/lib.rt:73:46
 eval-e-apart-requires : (t : ℕ) → eval-e-lts.Need-apart-requires (eval-e-calls t) (eval-e-at t) eval-e.Post
 eval-e-apart-requires t c κs = search needs
 
--- src/lib.rt:59:30
+-- src/lib.rt:73:30
 eval-e-enum-known-event : (t : ℕ) → eval-e-lts.Need-enum-known-event (eval-e-calls t) (eval-e-at t) eval-e.Post
 eval-e-enum-known-event t c = search needs
 
--- src/lib.rt:60:17
+-- src/lib.rt:74:17
 eval-e-enum-told-2 : (t : ℕ) → eval-e-lts.Need-enum-told-2 (eval-e-calls t) (eval-e-at t) eval-e.Post
 eval-e-enum-told-2 t c = search needs
 
--- src/lib.rt:60:17
+-- src/lib.rt:74:17
 eval-e-returns-2 : (t : ℕ) → eval-e-lts.Need-returns-2 (eval-e-calls t) (eval-e-at t) eval-e.Post
 eval-e-returns-2 t c =
     let p = c .before .before .before .before .before .before .before .before .args .p .now .now in
@@ -199,29 +214,29 @@ eval-e-returns-2 t c =
     let w = c .before .before .before .before .before .before .before .before .pre .1 .node in
     let env = c .before .before .before .before .before .before .before .before .args .env .now in
     let node = c .before .before .before .before .before .before .node .ensures in
-    let g = gives-stuck (taking-stuck p i w env (sym (node .kind-is) ∙ c .before .before .before .before .before .match .keys6) (node .a-is) (c .before .before .before .eval-e5 .ensures .0) (sym (c .before .before .apart .ensures) ∙ c .enum-told2 .given .1)) in
-    (g .0, g .1, c .before .before .before .eval-e5 .ensures .2)
+    let g = gives-stuck (taking-stuck p i w env (sym (node .kind-is) ∙ c .before .before .before .before .before .match .keys6) (node .a-is) (c .before .before .before .operand4 .ensures .0) (sym (c .before .before .apart .ensures) ∙ c .enum-told2 .given .1)) in
+    (g .0, g .1, c .before .before .before .operand4 .ensures .2)
 
--- src/lib.rt:62:31
+-- src/lib.rt:76:31
 eval-e-enum-known-event-2 : (t : ℕ) → eval-e-lts.Need-enum-known-event-2 (eval-e-calls t) (eval-e-at t) eval-e.Post
 eval-e-enum-known-event-2 t c = search needs
 
--- src/lib.rt:63:40
+-- src/lib.rt:77:40
 eval-e-enum-told-3 : (t : ℕ) → eval-e-lts.Need-enum-told-3 (eval-e-calls t) (eval-e-at t) eval-e.Post
 eval-e-enum-told-3 t c = search needs
 
--- src/lib.rt:63:21
-eval-e-eval-e-requires-6 : (t : ℕ) → eval-e-lts.Need-eval-e-requires-6 (eval-e-calls t) (eval-e-at t) eval-e.Post
-eval-e-eval-e-requires-6 t c κs =
+-- src/lib.rt:77:21
+eval-e-eval-e-requires-2 : (t : ℕ) → eval-e-lts.Need-eval-e-requires-2 (eval-e-calls t) (eval-e-at t) eval-e.Post
+eval-e-eval-e-requires-2 t c κs =
     let p = c .before .before .before .before .before .before .before .before .before .before .before .before .args .p .now .now in
     let i = c .before .before .before .before .before .before .before .before .before .before .before .before .args .i in
     let w = c .before .before .before .before .before .before .before .before .before .before .before .before .pre .1 .node in
     let small = c .before .before .before .before .before .before .before .before .before .before .before .before .pre .1 .small in
     let node = c .before .before .before .before .before .before .before .before .before .before .node .ensures in
     let k = read (node .b-is) (taking-parts p i w small (sym (node .kind-is) ∙ c .before .before .before .before .before .before .before .before .before .match .keys6) .1) in
-    (omega (arith, k .less, c .before .before .before .before .before .before .before .before .before .before .before .before .pre .0), record { node = k .node; slots = subst Slots (sym (c .before .before .before .before .before .before .before .eval-e5 .ensures .2)) (c .before .before .before .before .before .before .before .before .before .before .before .before .pre .1 .slots); small = k .small })
+    (omega (arith, k .less, c .before .before .before .before .before .before .before .before .before .before .before .before .pre .0), record { node = k .node; slots = subst Slots (sym (c .before .before .before .before .before .before .before .operand4 .ensures .2)) (c .before .before .before .before .before .before .before .before .before .before .before .before .pre .1 .slots); small = k .small })
 
--- src/lib.rt:64:17
+-- src/lib.rt:78:17
 eval-e-later-requires-2 : (t : ℕ) → eval-e-lts.Need-later-requires-2 (eval-e-calls t) (eval-e-at t) eval-e.Post
 eval-e-later-requires-2 t c κs =
     let p = c .before .before .before .before .before .before .before .before .before .before .before .before .before .args .p .now .now in
@@ -229,9 +244,9 @@ eval-e-later-requires-2 t c κs =
     let w = c .before .before .before .before .before .before .before .before .before .before .before .before .before .pre .1 .node in
     let small = c .before .before .before .before .before .before .before .before .before .before .before .before .before .pre .1 .small in
     let node = c .before .before .before .before .before .before .before .before .before .before .before .node .ensures in
-    (c .eval-e6 .ensures .1, omega (arith, take-work (outcomeIn (c .before .before .before .before .before .before .before .before .eval-e5 .result)) (sym (c .before .before .before .before .before .before .before .apart .ensures) ∙ c .before .before .before .before .before .event .given .1), pair-work p (c .before .before .before .before .before .before .before .before .before .before .before .node .result .a) (c .before .before .before .before .before .before .before .before .before .before .before .node .result .b) _ _ (taking-pairs p i w small (sym (node .kind-is) ∙ c .before .before .before .before .before .before .before .before .before .before .match .keys6) (node .a-is) (node .b-is) (node .c-is) .0) (c .before .before .before .before .before .before .before .before .eval-e5 .ensures .0) (c .eval-e6 .ensures .0)))
+    (c .eval-e2 .ensures .1, omega (arith, take-work (outcomeIn (c .before .before .before .before .before .before .before .before .operand4 .result)) (sym (c .before .before .before .before .before .before .before .apart .ensures) ∙ c .before .before .before .before .before .event .given .1), pair-work p (c .before .before .before .before .before .before .before .before .before .before .before .node .result .a) (c .before .before .before .before .before .before .before .before .before .before .before .node .result .b) _ _ (taking-pairs p i w small (sym (node .kind-is) ∙ c .before .before .before .before .before .before .before .before .before .before .match .keys6) (node .a-is) (node .b-is) (node .c-is) .0) (c .before .before .before .before .before .before .before .before .operand4 .ensures .0) (c .eval-e2 .ensures .0)))
 
--- src/lib.rt:64:17
+-- src/lib.rt:78:17
 eval-e-returns-3 : (t : ℕ) → eval-e-lts.Need-returns-3 (eval-e-calls t) (eval-e-at t) eval-e.Post
 eval-e-returns-3 t c =
     let p = c .before .before .before .before .before .before .before .before .before .before .before .before .before .before .args .p .now .now in
@@ -239,9 +254,9 @@ eval-e-returns-3 t c =
     let w = c .before .before .before .before .before .before .before .before .before .before .before .before .before .before .pre .1 .node in
     let env = c .before .before .before .before .before .before .before .before .before .before .before .before .before .before .args .env .now in
     let node = c .before .before .before .before .before .before .before .before .before .before .before .before .node .ensures in
-    (cc (taking-absent p i w env (sym (node .kind-is) ∙ c .before .before .before .before .before .before .before .before .before .before .before .match .keys6) (node .a-is) (c .before .before .before .before .before .before .before .before .before .eval-e5 .ensures .0) (sym (c .before .before .before .before .before .before .before .before .apart .ensures) ∙ c .before .before .before .before .before .before .event .given .1) (c .before .before .before .enum-told3 .given .1)), c .later2 .ensures .1, c .before .eval-e6 .ensures .2 ∙ c .before .before .before .before .before .before .before .before .before .eval-e5 .ensures .2)
+    (cc (taking-absent p i w env (sym (node .kind-is) ∙ c .before .before .before .before .before .before .before .before .before .before .before .match .keys6) (node .a-is) (c .before .before .before .before .before .before .before .before .before .operand4 .ensures .0) (sym (c .before .before .before .before .before .before .before .before .apart .ensures) ∙ c .before .before .before .before .before .before .event .given .1) (c .before .before .before .enum-told3 .given .1)), c .later2 .ensures .1, c .before .eval-e2 .ensures .2 ∙ c .before .before .before .before .before .before .before .before .before .operand4 .ensures .2)
 
--- src/lib.rt:66:17
+-- src/lib.rt:80:17
 eval-e-inside-e-requires : (t : ℕ) → eval-e-lts.Need-inside-e-requires (eval-e-calls t) (eval-e-at t) eval-e.Post
 eval-e-inside-e-requires t c κs =
     let p = c .before .before .before .before .before .before .before .before .before .before .before .before .before .args .p .now .now in
@@ -250,9 +265,9 @@ eval-e-inside-e-requires t c κs =
     let small = c .before .before .before .before .before .before .before .before .before .before .before .before .before .pre .1 .small in
     let node = c .before .before .before .before .before .before .before .before .before .before .before .node .ensures in
     let k = read (node .c-is) (taking-parts p i w small (sym (node .kind-is) ∙ c .before .before .before .before .before .before .before .before .before .before .match .keys6) .2) in
-    (omega (arith, k .less, c .before .before .before .before .before .before .before .before .before .before .before .before .before .pre .0), (record { node = k .node; slots = subst Slots (sym (c .before .before .before .before .before .before .before .before .eval-e5 .ensures .2)) (c .before .before .before .before .before .before .before .before .before .before .before .before .before .pre .1 .slots); small = k .small }, omega (arith, w .inside, w .shaped .small), take-value (outcomeIn (c .before .before .before .before .before .before .before .before .eval-e5 .result)) (sym (c .before .before .before .before .before .before .before .apart .ensures) ∙ c .before .before .before .before .before .event .given .1) (c .before .before .event2 .given .1)))
+    (omega (arith, k .less, c .before .before .before .before .before .before .before .before .before .before .before .before .before .pre .0), (record { node = k .node; slots = subst Slots (sym (c .before .before .before .before .before .before .before .before .operand4 .ensures .2)) (c .before .before .before .before .before .before .before .before .before .before .before .before .before .pre .1 .slots); small = k .small }, omega (arith, w .inside, w .shaped .small), take-value (outcomeIn (c .before .before .before .before .before .before .before .before .operand4 .result)) (sym (c .before .before .before .before .before .before .before .apart .ensures) ∙ c .before .before .before .before .before .event .given .1) (c .before .before .event2 .given .1)))
 
--- src/lib.rt:67:13
+-- src/lib.rt:81:13
 eval-e-later-requires-3 : (t : ℕ) → eval-e-lts.Need-later-requires-3 (eval-e-calls t) (eval-e-at t) eval-e.Post
 eval-e-later-requires-3 t c κs =
     let p = c .before .before .before .before .before .before .before .before .before .before .before .before .before .before .args .p .now .now in
@@ -260,11 +275,11 @@ eval-e-later-requires-3 t c κs =
     let w = c .before .before .before .before .before .before .before .before .before .before .before .before .before .before .pre .1 .node in
     let small = c .before .before .before .before .before .before .before .before .before .before .before .before .before .before .pre .1 .small in
     let node = c .before .before .before .before .before .before .before .before .before .before .before .before .node .ensures in
-    (c .inside-e .ensures .1, omega (arith, take-work (outcomeIn (c .before .before .before .before .before .before .before .before .before .eval-e5 .result)) (sym (c .before .before .before .before .before .before .before .before .apart .ensures) ∙ c .before .before .before .before .before .before .event .given .1), pair-work p (c .before .before .before .before .before .before .before .before .before .before .before .before .node .result .a) (c .before .before .before .before .before .before .before .before .before .before .before .before .node .result .c) _ _ (taking-pairs p i w small (sym (node .kind-is) ∙ c .before .before .before .before .before .before .before .before .before .before .before .match .keys6) (node .a-is) (node .b-is) (node .c-is) .1) (c .before .before .before .before .before .before .before .before .before .eval-e5 .ensures .0) (c .inside-e .ensures .0)))
+    (c .inside-e .ensures .1, omega (arith, take-work (outcomeIn (c .before .before .before .before .before .before .before .before .before .operand4 .result)) (sym (c .before .before .before .before .before .before .before .before .apart .ensures) ∙ c .before .before .before .before .before .before .event .given .1), pair-work p (c .before .before .before .before .before .before .before .before .before .before .before .before .node .result .a) (c .before .before .before .before .before .before .before .before .before .before .before .before .node .result .c) _ _ (taking-pairs p i w small (sym (node .kind-is) ∙ c .before .before .before .before .before .before .before .before .before .before .before .match .keys6) (node .a-is) (node .b-is) (node .c-is) .1) (c .before .before .before .before .before .before .before .before .before .operand4 .ensures .0) (c .inside-e .ensures .0)))
 
--- src/lib.rt:70:17
-eval-e-eval-e-requires-7 : (t : ℕ) → eval-e-lts.Need-eval-e-requires-7 (eval-e-calls t) (eval-e-at t) eval-e.Post
-eval-e-eval-e-requires-7 t c κs =
+-- src/lib.rt:84:17
+eval-e-operand-requires-5 : (t : ℕ) → eval-e-lts.Need-operand-requires-5 (eval-e-calls t) (eval-e-at t) eval-e.Post
+eval-e-operand-requires-5 t c κs =
     let p = c .before .before .before .before .args .p .now .now in
     let i = c .before .before .before .before .args .i in
     let w = c .before .before .before .before .pre .1 .node in
@@ -273,18 +288,18 @@ eval-e-eval-e-requires-7 t c κs =
     let k = read (node .a-is) (operation-parts p i w small (left (node .kind-is) (c .before .match .rest)) .0) in
     (omega (arith, k .less, c .before .before .before .before .pre .0), record { node = k .node; slots = c .before .before .before .before .pre .1 .slots; small = k .small })
 
--- src/lib.rt:71:17
-eval-e-eval-e-requires-8 : (t : ℕ) → eval-e-lts.Need-eval-e-requires-8 (eval-e-calls t) (eval-e-at t) eval-e.Post
-eval-e-eval-e-requires-8 t c κs =
+-- src/lib.rt:85:17
+eval-e-operand-requires-6 : (t : ℕ) → eval-e-lts.Need-operand-requires-6 (eval-e-calls t) (eval-e-at t) eval-e.Post
+eval-e-operand-requires-6 t c κs =
     let p = c .before .before .before .before .before .before .args .p .now .now in
     let i = c .before .before .before .before .before .before .args .i in
     let w = c .before .before .before .before .before .before .pre .1 .node in
     let small = c .before .before .before .before .before .before .pre .1 .small in
     let node = c .before .before .before .before .node .ensures in
     let k = read (node .b-is) (operation-parts p i w small (left (node .kind-is) (c .before .before .before .match .rest)) .1) in
-    (omega (arith, k .less, c .before .before .before .before .before .before .pre .0), record { node = k .node; slots = subst Slots (sym (c .before .eval-e7 .ensures .2)) (c .before .before .before .before .before .before .pre .1 .slots); small = k .small })
+    (omega (arith, k .less, c .before .before .before .before .before .before .pre .0), record { node = k .node; slots = subst Slots (sym (c .before .operand5 .ensures .2)) (c .before .before .before .before .before .before .pre .1 .slots); small = k .small })
 
--- src/lib.rt:72:13
+-- src/lib.rt:86:13
 eval-e-operated-requires : (t : ℕ) → eval-e-lts.Need-operated-requires (eval-e-calls t) (eval-e-at t) eval-e.Post
 eval-e-operated-requires t c κs =
     let p = c .before .before .before .before .before .before .before .args .p .now .now in
@@ -292,9 +307,9 @@ eval-e-operated-requires t c κs =
     let w = c .before .before .before .before .before .before .before .pre .1 .node in
     let small = c .before .before .before .before .before .before .before .pre .1 .small in
     let node = c .before .before .before .before .before .node .ensures in
-    pair-work p (c .before .before .before .before .before .node .result .a) (c .before .before .before .before .before .node .result .b) _ _ (operation-pair p i w small (left (node .kind-is) (c .before .before .before .before .match .rest)) (node .a-is) (node .b-is)) (c .before .before .eval-e7 .ensures .0) (c .eval-e8 .ensures .0)
+    pair-work p (c .before .before .before .before .before .node .result .a) (c .before .before .before .before .before .node .result .b) _ _ (operation-pair p i w small (left (node .kind-is) (c .before .before .before .before .match .rest)) (node .a-is) (node .b-is)) (c .before .before .operand5 .ensures .0) (c .operand6 .ensures .0)
 
--- src/lib.rt:38:1
+-- src/lib.rt:52:1
 eval-e-returns-4 : (t : ℕ) → eval-e-lts.Need-returns-4 (eval-e-calls t) (eval-e-at t) eval-e.Post
 eval-e-returns-4 t c =
     let p = c .before .before .before .before .before .args .p .now .now in
@@ -304,7 +319,7 @@ eval-e-returns-4 t c =
     let node = c .before .before .before .node .ensures in
     (cc (variable-eval p i w env (sym (node .kind-is) ∙ c .before .before .match .keys1)), c .variable .ensures .1, refl)
 
--- src/lib.rt:38:1
+-- src/lib.rt:52:1
 eval-e-returns-5 : (t : ℕ) → eval-e-lts.Need-returns-5 (eval-e-calls t) (eval-e-at t) eval-e.Post
 eval-e-returns-5 t c =
     let p = c .before .before .before .before .args .p .now .now in
@@ -314,7 +329,7 @@ eval-e-returns-5 t c =
     let node = c .before .before .node .ensures in
     (cc (constant-eval p i w env (sym (node .kind-is) ∙ c .before .match .keys2)), c .constant .ensures .1, refl)
 
--- src/lib.rt:38:1
+-- src/lib.rt:52:1
 eval-e-returns-6 : (t : ℕ) → eval-e-lts.Need-returns-6 (eval-e-calls t) (eval-e-at t) eval-e.Post
 eval-e-returns-6 t c =
     let p = c .before .before .before .before .before .before .args .p .now .now in
@@ -322,9 +337,9 @@ eval-e-returns-6 t c =
     let w = c .before .before .before .before .before .before .pre .1 .node in
     let env = c .before .before .before .before .before .before .args .env .now in
     let node = c .before .before .before .before .node .ensures in
-    (cc (negation-eval p i w env (sym (node .kind-is) ∙ c .before .before .before .match .keys3)), c .negated .ensures .1, c .before .eval-e .ensures .2)
+    (cc (negation-eval p i w env (sym (node .kind-is) ∙ c .before .before .before .match .keys3)), c .negated .ensures .1, c .before .operand .ensures .2)
 
--- src/lib.rt:38:1
+-- src/lib.rt:52:1
 eval-e-returns-7 : (t : ℕ) → eval-e-lts.Need-returns-7 (eval-e-calls t) (eval-e-at t) eval-e.Post
 eval-e-returns-7 t c =
     let p = c .before .before .before .before .before .before .before .before .before .before .before .before .args .p .now .now in
@@ -332,9 +347,9 @@ eval-e-returns-7 t c =
     let w = c .before .before .before .before .before .before .before .before .before .before .before .before .pre .1 .node in
     let env = c .before .before .before .before .before .before .before .before .before .before .before .before .args .env .now in
     let node = c .before .before .before .before .before .before .before .before .before .before .node .ensures in
-    (cc (choice-goes p i w env (sym (node .kind-is) ∙ c .before .before .before .before .before .before .before .before .before .match .keys4) (node .a-is) (node .b-is) (node .c-is) (c .before .before .before .before .before .before .before .eval-e2 .ensures .0) (sym (c .before .before .before .before .before .before .chosen .ensures) ∙ c .before .before .before .before .arm .given .1)), c .later .ensures .1, c .before .eval-e3 .ensures .2 ∙ c .before .before .before .before .before .before .before .eval-e2 .ensures .2)
+    (cc (choice-goes p i w env (sym (node .kind-is) ∙ c .before .before .before .before .before .before .before .before .before .match .keys4) (node .a-is) (node .b-is) (node .c-is) (c .before .before .before .before .before .before .before .operand2 .ensures .0) (sym (c .before .before .before .before .before .before .chosen .ensures) ∙ c .before .before .before .before .arm .given .1)), c .later .ensures .1, c .before .eval-e .ensures .2 ∙ c .before .before .before .before .before .before .before .operand2 .ensures .2)
 
--- src/lib.rt:38:1
+-- src/lib.rt:52:1
 eval-e-returns-8 : (t : ℕ) → eval-e-lts.Need-returns-8 (eval-e-calls t) (eval-e-at t) eval-e.Post
 eval-e-returns-8 t c =
     let p = c .before .before .before .before .before .before .args .p .now .now in
@@ -342,9 +357,9 @@ eval-e-returns-8 t c =
     let w = c .before .before .before .before .before .before .pre .1 .node in
     let env = c .before .before .before .before .before .before .args .env .now in
     let node = c .before .before .before .before .node .ensures in
-    (cc (just-eval p i w env (sym (node .kind-is) ∙ c .before .before .before .match .keys5)), c .lifted .ensures .1, c .before .eval-e4 .ensures .2)
+    (cc (just-eval p i w env (sym (node .kind-is) ∙ c .before .before .before .match .keys5)), c .lifted .ensures .1, c .before .operand3 .ensures .2)
 
--- src/lib.rt:38:1
+-- src/lib.rt:52:1
 eval-e-returns-9 : (t : ℕ) → eval-e-lts.Need-returns-9 (eval-e-calls t) (eval-e-at t) eval-e.Post
 eval-e-returns-9 t c =
     let p = c .before .before .before .before .before .before .before .before .before .before .before .before .before .before .before .args .p .now .now in
@@ -352,9 +367,9 @@ eval-e-returns-9 t c =
     let w = c .before .before .before .before .before .before .before .before .before .before .before .before .before .before .before .pre .1 .node in
     let env = c .before .before .before .before .before .before .before .before .before .before .before .before .before .before .before .args .env .now in
     let node = c .before .before .before .before .before .before .before .before .before .before .before .before .before .node .ensures in
-    (cc (taking-present p i w env (sym (node .kind-is) ∙ c .before .before .before .before .before .before .before .before .before .before .before .before .match .keys6) (node .a-is) (c .before .before .before .before .before .before .before .before .before .before .eval-e5 .ensures .0) (sym (c .before .before .before .before .before .before .before .before .before .apart .ensures) ∙ c .before .before .before .before .before .before .before .event .given .1) (c .before .before .before .before .event2 .given .1)), c .later3 .ensures .1, c .before .inside-e .ensures .2 ∙ c .before .before .before .before .before .before .before .before .before .before .eval-e5 .ensures .2)
+    (cc (taking-present p i w env (sym (node .kind-is) ∙ c .before .before .before .before .before .before .before .before .before .before .before .before .match .keys6) (node .a-is) (c .before .before .before .before .before .before .before .before .before .before .operand4 .ensures .0) (sym (c .before .before .before .before .before .before .before .before .before .apart .ensures) ∙ c .before .before .before .before .before .before .before .event .given .1) (c .before .before .before .before .event2 .given .1)), c .later3 .ensures .1, c .before .inside-e .ensures .2 ∙ c .before .before .before .before .before .before .before .before .before .before .operand4 .ensures .2)
 
--- src/lib.rt:38:1
+-- src/lib.rt:52:1
 eval-e-returns-10 : (t : ℕ) → eval-e-lts.Need-returns-10 (eval-e-calls t) (eval-e-at t) eval-e.Post
 eval-e-returns-10 t c =
     let p = c .before .before .before .before .before .before .before .before .args .p .now .now in
@@ -362,43 +377,43 @@ eval-e-returns-10 t c =
     let w = c .before .before .before .before .before .before .before .before .pre .1 .node in
     let env = c .before .before .before .before .before .before .before .before .args .env .now in
     let node = c .before .before .before .before .before .before .node .ensures in
-    (cc (operation-eval p i w env (left (node .kind-is) (c .before .before .before .before .before .match .rest))), c .operated .ensures .1, c .before .eval-e8 .ensures .2 ∙ c .before .before .before .eval-e7 .ensures .2)
+    (cc (operation-eval p i w env (left (node .kind-is) (c .before .before .before .before .before .match .rest))), c .operated .ensures .1, c .before .operand6 .ensures .2 ∙ c .before .before .before .operand5 .ensures .2)
 
--- src/lib.rt:82:15
+-- src/lib.rt:96:15
 inside-e-mul-old :
     (t : ℕ) →
     inside-e-lts.Need-mul-old (inside-e-calls t) (inside-e-at t) inside-e.Post
 inside-e-mul-old t c = search needs
 
--- src/lib.rt:82:15
+-- src/lib.rt:96:15
 inside-e-element-copy-out-old : (t : ℕ) → inside-e-lts.Need-element-copy-out-old (inside-e-calls t) (inside-e-at t) inside-e.Post
 inside-e-element-copy-out-old t c = c .pre .1 .1
 
--- src/lib.rt:83:5
+-- src/lib.rt:97:5
 inside-e-mul-env :
     (t : ℕ) →
     inside-e-lts.Need-mul-env (inside-e-calls t) (inside-e-at t) inside-e.Post
 inside-e-mul-env t c = search needs
 
--- src/lib.rt:83:5
+-- src/lib.rt:97:5
 inside-e-element-write-env : (t : ℕ) → inside-e-lts.Need-element-write-env (inside-e-calls t) (inside-e-at t) inside-e.Post
 inside-e-element-write-env t c = c .before .pre .1 .1
 
--- src/lib.rt:84:9
+-- src/lib.rt:98:9
 inside-e-eval-e-requires : (t : ℕ) → inside-e-lts.Need-eval-e-requires (inside-e-calls t) (inside-e-at t) inside-e.Post
 inside-e-eval-e-requires t c κs = (omega (arith, c .before .before .pre .0), record { node = c .before .before .pre .1 .0 .node; slots = slots-set (c .before .before .args .env .now) (c .before .before .args .i) (c .before .before .args .v) (c .before .before .pre .1 .0 .slots) (c .before .before .pre .1 .2); small = c .before .before .pre .1 .0 .small })
 
--- src/lib.rt:85:5
+-- src/lib.rt:99:5
 inside-e-mul-env-2 :
     (t : ℕ) →
     inside-e-lts.Need-mul-env-2 (inside-e-calls t) (inside-e-at t) inside-e.Post
 inside-e-mul-env-2 t c = search needs
 
--- src/lib.rt:85:5
+-- src/lib.rt:99:5
 inside-e-element-write-env-2 : (t : ℕ) → inside-e-lts.Need-element-write-env-2 (inside-e-calls t) (inside-e-at t) inside-e.Post
 inside-e-element-write-env-2 t c = c .before .before .before .pre .1 .1
 
--- src/lib.rt:78:1
+-- src/lib.rt:92:1
 inside-e-returns :
     (t : ℕ) →
     inside-e-lts.Need-returns (inside-e-calls t) (inside-e-at t) inside-e.Post
@@ -408,37 +423,77 @@ inside-e-returns t c =
     let v = c .before .before .before .args .v in
     (c .eval-e .ensures .0 ∙ ap (λ (l : List ℕ). evalE l (exprAt (c .before .before .before .args .p .now .now) (c .before .before .before .args .k))) (sym (bind-value env i v (c .before .before .before .pre .1 .2))), c .eval-e .ensures .1, ap (λ (l : List ℕ). set l i (getD env i 0)) (c .eval-e .ensures .2) ∙ put-back _ _ v)
 
-pub +eval-e+inside-e-spec : {M : Type 1} → statement M
-+eval-e+inside-e-spec = close μ-eval-e μ-inside-e (λ t. eval-e-lts.spec (eval-e-calls t) (eval-e-at t)
+-- src/lib.rt:42:9
+operand-node-requires : (t : ℕ) → operand-lts.Need-node-requires (operand-calls t) (operand-at t) operand.Post
+operand-node-requires t c κs = (omega (arith, c .before .pre .1 .node .inside, c .before .pre .1 .node .shaped .within), omega (arith, c .before .pre .1 .node .inside, c .before .pre .1 .node .shaped .small))
+
+-- src/lib.rt:45:15
+operand-variable-requires : (t : ℕ) → operand-lts.Need-variable-requires (operand-calls t) (operand-at t) operand.Post
+operand-variable-requires t c κs = c .before .before .before .before .pre .1 .slots
+
+-- src/lib.rt:46:15
+operand-constant-requires : (t : ℕ) → operand-lts.Need-constant-requires (operand-calls t) (operand-at t) operand.Post
+operand-constant-requires t c κs = search needs
+
+-- src/lib.rt:47:14
+operand-eval-e-requires : (t : ℕ) → operand-lts.Need-eval-e-requires (operand-calls t) (operand-at t) operand.Post
+operand-eval-e-requires t c κs = (omega (arith, c .before .before .before .before .pre .0), c .before .before .before .before .pre .1)
+
+-- src/lib.rt:38:1
+operand-returns : (t : ℕ) → operand-lts.Need-returns (operand-calls t) (operand-at t) operand.Post
+operand-returns t c =
+    let p = c .before .before .before .before .before .args .p .now .now in
+    let i = c .before .before .before .before .before .args .i in
+    let w = c .before .before .before .before .before .pre .1 .node in
+    let env = c .before .before .before .before .before .args .env .now in
+    let node = c .before .before .before .node .ensures in
+    (cc (variable-eval p i w env (sym (node .kind-is) ∙ c .before .before .match .keys1)), c .variable .ensures .1, refl)
+
+-- src/lib.rt:38:1
+operand-returns-2 : (t : ℕ) → operand-lts.Need-returns-2 (operand-calls t) (operand-at t) operand.Post
+operand-returns-2 t c =
+    let p = c .before .before .before .before .args .p .now .now in
+    let i = c .before .before .before .before .args .i in
+    let w = c .before .before .before .before .pre .1 .node in
+    let env = c .before .before .before .before .args .env .now in
+    let node = c .before .before .node .ensures in
+    (cc (constant-eval p i w env (sym (node .kind-is) ∙ c .before .match .keys2)), c .constant .ensures .1, refl)
+
+-- src/lib.rt:38:1
+operand-returns-3 : (t : ℕ) → operand-lts.Need-returns-3 (operand-calls t) (operand-at t) operand.Post
+operand-returns-3 t c = c .eval-e .ensures
+
+pub +eval-e+inside-e+operand-spec : {M : Type 1} → statement M
++eval-e+inside-e+operand-spec = close μ-eval-e μ-inside-e μ-operand (λ t. eval-e-lts.spec (eval-e-calls t) (eval-e-at t)
     eval-e.Post
     (eval-e-node-requires t)
     (eval-e-variable-requires t)
     (eval-e-constant-requires t)
-    (eval-e-eval-e-requires t)
+    (eval-e-operand-requires t)
     (eval-e-negated-requires t)
-    (eval-e-eval-e-requires-2 t)
+    (eval-e-operand-requires-2 t)
     (eval-e-chosen-requires t)
     (eval-e-enum-known-arm t)
     (eval-e-enum-told t)
     (eval-e-returns t)
-    (eval-e-eval-e-requires-3 t)
+    (eval-e-eval-e-requires t)
     (eval-e-later-requires t)
-    (eval-e-eval-e-requires-4 t)
+    (eval-e-operand-requires-3 t)
     (eval-e-lifted-requires t)
-    (eval-e-eval-e-requires-5 t)
+    (eval-e-operand-requires-4 t)
     (eval-e-apart-requires t)
     (eval-e-enum-known-event t)
     (eval-e-enum-told-2 t)
     (eval-e-returns-2 t)
     (eval-e-enum-known-event-2 t)
     (eval-e-enum-told-3 t)
-    (eval-e-eval-e-requires-6 t)
+    (eval-e-eval-e-requires-2 t)
     (eval-e-later-requires-2 t)
     (eval-e-returns-3 t)
     (eval-e-inside-e-requires t)
     (eval-e-later-requires-3 t)
-    (eval-e-eval-e-requires-7 t)
-    (eval-e-eval-e-requires-8 t)
+    (eval-e-operand-requires-5 t)
+    (eval-e-operand-requires-6 t)
     (eval-e-operated-requires t)
     (eval-e-returns-4 t)
     (eval-e-returns-5 t)
@@ -447,7 +502,7 @@ pub +eval-e+inside-e-spec : {M : Type 1} → statement M
     (eval-e-returns-8 t)
     (eval-e-returns-9 t)
     (eval-e-returns-10 t))
-    λ t. inside-e-lts.spec (inside-e-calls t) (inside-e-at t)
+    (λ t. inside-e-lts.spec (inside-e-calls t) (inside-e-at t)
     inside-e.Post
     (inside-e-mul-old t)
     (inside-e-element-copy-out-old t)
@@ -456,4 +511,13 @@ pub +eval-e+inside-e-spec : {M : Type 1} → statement M
     (inside-e-eval-e-requires t)
     (inside-e-mul-env-2 t)
     (inside-e-element-write-env-2 t)
-    (inside-e-returns t)
+    (inside-e-returns t))
+    λ t. operand-lts.spec (operand-calls t) (operand-at t)
+    operand.Post
+    (operand-node-requires t)
+    (operand-variable-requires t)
+    (operand-constant-requires t)
+    (operand-eval-e-requires t)
+    (operand-returns t)
+    (operand-returns-2 t)
+    (operand-returns-3 t)

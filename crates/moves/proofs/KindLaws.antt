@@ -295,6 +295,13 @@ module _ (p : Bytes) (i : ℕ) (w : NodeOf isSignal p i) (rec : Bytes) (env : En
       two : (m : ℕ) → (m ≡ 1 → ⊥) → (m ≡ 3 → ⊥) → 1 ≤ m → m ≤ 3 → m ≡ 2
       two m x y l u = omega (arith, x, y)
 
+  -- a kind up to 3, and any that is none of the others
+  pub low-updates : {m : ℕ} → m ≡ kindAt p i → m ≤ 3 → moved (Stay (record { work = 1 })) st ≡ updS rec env (signalAt p i) st
+  unfolding isSignal moved
+  low-updates e u =
+      let l = leb-true 1 (kindAt p i) (and-both _ _ (w .sorted) .0) in
+      one-rule st ∙ three (eqb (kindAt p i) 1) (eqb (kindAt p i) 3) refl refl l (omega (arith, e))
+
   pub leaf-updates : {A : Type 0} {m : ℕ} → m ≡ kindAt p i
       → (((((A × (m ≡ 4 → ⊥)) × (m ≡ 5 → ⊥)) × (m ≡ 6 → ⊥)) × (m ≡ 7 → ⊥)) × (m ≡ 8 → ⊥))
       → moved (Stay (record { work = 1 })) st ≡ updS rec env (signalAt p i) st

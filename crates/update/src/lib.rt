@@ -15,6 +15,7 @@ ghost use Rattle.moves.specs.Outcomes.{workOf, occurred, walked, walkedOn, next
 ghost use Rattle.moves.specs.Parts.{inSwitch, switched, inGroup, entered};
 ghost use Rattle.moves.specs.Lent.{Ready, ReadyAs, Placed, ReadyC, CaseAs};
 use branches::has_branch;
+use cells::kind_of;
 use evaluate::branch_in;
 use evaluate::content;
 use evaluate::evaluated;
@@ -84,6 +85,25 @@ fn catches(p: &&[u8], index: &[u16; 1008], st: &mut [u8], i: usize, n: Node, r: 
     }
 }
 
+// Signal i goes one step on; input, time and ext, which do nothing, without a call.
+fn goes(
+    p: &&[u8],
+    index: &[u16; 1008],
+    rec: &&[u8],
+    st: &mut [u8],
+    env: &mut [u64; 1008],
+    i: usize,
+) -> Moved
+    requires { ⌜ Ready (now (now p)) (now index) (length (now st)) (now env) i ⌝ }
+    ensures { λ r. ⌜ (moved r (now (st .exit)) ≡ updS (now (now (rec .entry))) (now (env .entry)) (signalAt (now (now (p .entry))) i) (now (st .entry))) × (now (env .exit) ≡ now (env .entry)) ⌝ }
+{
+    let kind = kind_of(*p, i);
+    if kind <= 3 {
+        return Moved::Stay(Tally { work: 1 });
+    }
+    update_s(p, index, rec, st, env, i)
+}
+
 // Signal i goes one step on. Input, time and ext do nothing.
 pub fn update_s(
     p: &&[u8],
@@ -124,7 +144,7 @@ fn inside(
 {
     let old = env[i];
     env[i] = v;
-    let r = update_s(p, index, rec, st, env, k);
+    let r = goes(p, index, rec, st, env, k);
     env[i] = old;
     r
 }
@@ -146,7 +166,7 @@ fn update_delay(
     let Shown::Value(v, u) = show(e) else {
         return Moved::Stuck;
     };
-    let r = update_s(p, index, rec, st, env, n.a);
+    let r = goes(p, index, rec, st, env, n.a);
     let Calm::Still(w) = settled(r) else {
         return Moved::Stuck;
     };
@@ -196,7 +216,7 @@ fn update_switch(
     let Parts::Maybe(event, u) = apart(e) else {
         return Moved::Stuck;
     };
-    let r = update_s(p, index, rec, st, env, n.b);
+    let r = goes(p, index, rec, st, env, n.b);
     let Calm::Still(w) = settled(r) else {
         return Moved::Stuck;
     };
@@ -224,7 +244,7 @@ fn in_switch(
     let m = content(index, st, i);
     if m == 0 {
         let first = n.a;
-        return update_s(p, index, rec, st, env, first);
+        return goes(p, index, rec, st, env, first);
     }
     inside(p, index, rec, st, env, i, exactly(m), n.c)
 }
@@ -261,7 +281,7 @@ fn in_group(
 {
     let m = content(index, st, i);
     if m == 0 {
-        return update_s(p, index, rec, st, env, n.a);
+        return goes(p, index, rec, st, env, n.a);
     }
     let which = branch_in(m);
     if has_branch(*p, index, n.b, which) {
@@ -288,7 +308,7 @@ fn update_until(
     match o {
         Occurrence::Took(target, v, u) => ruled(Moved::Jump(target, v, u)),
         Occurrence::Quiet(u) => {
-            let r = update_s(p, index, rec, st, env, n.a);
+            let r = goes(p, index, rec, st, env, n.a);
             ruled(after(u, stay(r)))
         }
         Occurrence::Stuck => Moved::Stuck,
@@ -333,14 +353,14 @@ fn walk_on(
     ensures { λ r. ⌜ (occurred r (now (st .exit)) ≡ walkedOn (walked (now (now (rec .entry))) (now (env .entry)) (nextCases (now (now (p .entry))) j) (now (st .entry))) (λ s. stays (updS (now (now (rec .entry))) (now (env .entry)) (signalAt (now (now (p .entry))) (aAt (now (now (p .entry))) j)) s))) × (now (env .exit) ≡ now (env .entry)) ⌝ }
 {
     if n.b == 65535 {
-        let last = update_s(p, index, rec, st, env, n.a);
+        let last = goes(p, index, rec, st, env, n.a);
         return quiet_after(Tally { work: 0 }, last);
     }
     let rest = walk(p, index, rec, st, env, n.b);
     match rest {
         Occurrence::Took(_, _, _) => rest,
         Occurrence::Quiet(w) => {
-            let r = update_s(p, index, rec, st, env, n.a);
+            let r = goes(p, index, rec, st, env, n.a);
             quiet_after(w, r)
         }
         Occurrence::Stuck => rest,

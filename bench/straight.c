@@ -332,3 +332,16 @@ uint32_t straight_run(const uint8_t *program, size_t program_length, uint8_t *st
     return steps(program, program_length, state, state_length, records, records_length, output, output_length, COUPLERFINCH_RECORDS,
                  answer);
 }
+
+/* One more record of a program that was read before, for a caller that prints each step when it is done. */
+uint32_t straight_next(const struct tree *t, uint8_t *state, const uint8_t *record, uint8_t *output, couplerfinch_answer *answer)
+{
+    struct run r;
+    r.tree = t;
+    r.state = state;
+    r.record = record;
+    r.work = 0;
+    uint32_t code = one_record(&r, 1, output);
+    *answer = (couplerfinch_answer){.code = code, .steps = !code, .work = r.work};
+    return code;
+}

@@ -28,5 +28,6 @@ static inline struct node node_at(const uint8_t *program, unsigned i)
 
 uint32_t straight_refuse(couplerfinch_answer *answer, uint32_t code, uint32_t place);
 uint32_t straight_read(struct tree *t, const uint8_t *program, size_t length, couplerfinch_answer *answer);
+uint32_t straight_next(const struct tree *t, uint8_t *state, const uint8_t *record, uint8_t *output, couplerfinch_answer *answer);
 
 #endif

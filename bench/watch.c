@@ -1,6 +1,5 @@
 /* watchrun over the straightforward baseline: the same lines, each as soon as its step is done. Standard input: blocks, then records. */
-#include "baselines.h"
-#include "table.h"
+#include "straight.h"
 
 #include <stdio.h>
 
@@ -46,7 +45,7 @@ static size_t take_program(uint8_t *program)
 }
 
 /* One record after another. A step's refusal has the number of steps printed as its place. */
-static int steps(const uint8_t *program, size_t length, uint8_t *state, size_t state_length)
+static int steps(const struct tree *t, uint8_t *state)
 {
     uint8_t record[COUPLERFINCH_RECORD], value[COUPLERFINCH_VALUE];
     couplerfinch_answer answer;
@@ -57,7 +56,7 @@ static int steps(const uint8_t *program, size_t length, uint8_t *state, size_t s
             break;
         if (got < sizeof record || done == COUPLERFINCH_RECORDS)
             return refused(COUPLERFINCH_RECORDS_LENGTH, 0);
-        if (straight_run(program, length, state, state_length, record, sizeof record, value, sizeof value, &answer))
+        if (straight_next(t, state, record, value, &answer))
             return refused(answer.code, done);
         total += answer.work;
         print_step(get32(record), value, answer.work);
@@ -69,6 +68,7 @@ static int steps(const uint8_t *program, size_t length, uint8_t *state, size_t s
 int main(void)
 {
     static uint8_t program[COUPLERFINCH_BLOCKS * COUPLERFINCH_BLOCK], state[COUPLERFINCH_LONGEST_STATE];
+    static struct tree t;
     couplerfinch_answer answer;
     size_t length = take_program(program);
     if (straight_check(program, length, &answer))
@@ -78,5 +78,7 @@ int main(void)
     size_t state_length = COUPLERFINCH_STATE(answer.cells);
     if (straight_start(program, length, state, state_length, &answer))
         return refused(answer.code, answer.place);
-    return steps(program, length, state, state_length);
+    if (straight_read(&t, program, length, &answer))
+        return refused(answer.code, answer.place);
+    return steps(&t, state);
 }

@@ -2,7 +2,8 @@
 -- Assumes nothing.
 use mathlib.Core.Path.{_≡_, refl, sym, ap, _∙_}
 use mathlib.Core.List.{List}
-use Prim.Native.Nat.{ℕ}
+use Prim.Native.Nat.{ℕ, _≤_}
+use native.Mathlib.Omega.{arith}
 use lib.ListN.{getD}
 use Rattle.rules.specs.Bytes.{Bytes}
 use Rattle.rules.specs.Values.{packed, valueFrom}
@@ -45,6 +46,10 @@ module _ (p : Bytes) (index : List ℕ) (size n : ℕ) (w : Stated isSignal p in
       → st ≡ resetS (signalAt p n) st
   unfolding resetS
   quiet-reset e r = quiet p n (w .node) (λ s. st ≡ resetS s st) (λ c. refl) refl (λ x. refl) e r
+
+  pub low-reset : {m : ℕ} → m ≡ kindAt p n → m ≤ 3 → st ≡ resetS (signalAt p n) st
+  low-reset e u =
+      quiet-reset e (((((e, (λ h. omega (arith, h, u))), (λ h. omega (arith, h, u))), (λ h. omega (arith, h, u))), (λ h. omega (arith, h, u))), (λ h. omega (arith, h, u)))
 
 module _ (p : Bytes) (n : ℕ) (w : NodeOf isBranch p n) (st : Bytes) where
   pub branch-reset-end : bAt p n ≡ 65535 → resetB (branchesAt p n) st ≡ resetS (signalAt p (aAt p n)) st

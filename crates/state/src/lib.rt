@@ -12,6 +12,7 @@ ghost use Rattle.rules.specs.Reset.{resetS, resetB, resetC, startState};
 ghost use Rattle.cells.specs.Indexed.{Indexed};
 ghost use Rattle.state.specs.Stated.{Stated};
 use cells::cell;
+use cells::kind_of;
 use cells::number_of;
 use cells::put32;
 use cells::set_cell;
@@ -45,8 +46,19 @@ fn set_own(index: &[u16], st: &mut [u8], i: usize, m: u64)
     set_cell(st, k, m);
 }
 
+// All cells of the signal at node i put to start; input, time and ext, which have none, without a call.
+pub fn resets(p: &&[u8], index: &[u16; 1008], st: &mut [u8], i: usize)
+    requires { ⌜ Stated isSignal (now (now p)) (now index) (length (now st)) i ⌝ }
+    ensures { λ _. ⌜ now (st .exit) ≡ resetS (signalAt (now (now (p .entry))) i) (now (st .entry)) ⌝ }
+{
+    let kind = kind_of(*p, i);
+    if kind > 3 {
+        reset_s(p, index, st, i);
+    }
+}
+
 // All cells of the signal at node i put to start.
-pub fn reset_s(p: &&[u8], index: &[u16; 1008], st: &mut [u8], i: usize)
+fn reset_s(p: &&[u8], index: &[u16; 1008], st: &mut [u8], i: usize)
     requires { ⌜ Stated isSignal (now (now p)) (now index) (length (now st)) i ⌝ }
     ensures { λ _. ⌜ now (st .exit) ≡ resetS (signalAt (now (now (p .entry))) i) (now (st .entry)) ⌝ }
 {
@@ -55,25 +67,25 @@ pub fn reset_s(p: &&[u8], index: &[u16; 1008], st: &mut [u8], i: usize)
     match k {
         4 => {
             set_own(index, st, i, first_value(n));
-            reset_s(p, index, st, n.a);
+            resets(p, index, st, n.a);
         }
         5 => {
-            reset_s(p, index, st, n.a);
-            reset_s(p, index, st, n.b);
+            resets(p, index, st, n.a);
+            resets(p, index, st, n.b);
         }
         6 => {
             set_own(index, st, i, 0);
-            reset_s(p, index, st, n.a);
-            reset_s(p, index, st, n.b);
-            reset_s(p, index, st, n.c);
+            resets(p, index, st, n.a);
+            resets(p, index, st, n.b);
+            resets(p, index, st, n.c);
         }
         7 => {
             set_own(index, st, i, 0);
-            reset_s(p, index, st, n.a);
+            resets(p, index, st, n.a);
             reset_b(p, index, st, n.b);
         }
         8 => {
-            reset_s(p, index, st, n.a);
+            resets(p, index, st, n.a);
             reset_c(p, index, st, n.b);
         }
         _ => {}
@@ -86,7 +98,7 @@ pub fn reset_b(p: &&[u8], index: &[u16; 1008], st: &mut [u8], j: usize)
     ensures { λ _. ⌜ now (st .exit) ≡ resetB (branchesAt (now (now (p .entry))) j) (now (st .entry)) ⌝ }
 {
     let n = node(*p, j);
-    reset_s(p, index, st, n.a);
+    resets(p, index, st, n.a);
     if n.b != 65535 {
         reset_b(p, index, st, n.b);
     }
@@ -98,7 +110,7 @@ pub fn reset_c(p: &&[u8], index: &[u16; 1008], st: &mut [u8], j: usize)
     ensures { λ _. ⌜ now (st .exit) ≡ resetC (casesAt (now (now (p .entry))) j) (now (st .entry)) ⌝ }
 {
     let n = node(*p, j);
-    reset_s(p, index, st, n.a);
+    resets(p, index, st, n.a);
     if n.b != 65535 {
         reset_c(p, index, st, n.b);
     }
@@ -130,5 +142,5 @@ pub fn fill_start(p: &[u8], index: &[u16; 1008], st: &mut [u8], count: usize)
 {
     clear_all(st);
     put_header(p, st);
-    reset_s(&p, index, st, count - 1);
+    resets(&p, index, st, count - 1);
 }

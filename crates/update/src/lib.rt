@@ -42,7 +42,7 @@ use rules::Occurrence;
 use rules::Tally;
 use rules::Value;
 use state::reset_b;
-use state::reset_s;
+use state::resets;
 use table::node;
 use values::unpack;
 
@@ -52,8 +52,8 @@ fn switches(p: &&[u8], index: &[u16; 1008], st: &mut [u8], i: usize, n: Node, v:
     ensures { λ _. ⌜ now (st .exit) ≡ switched (now (now (p .entry))) i (now (st .entry)) (unpacked v) ⌝ }
 {
     hold(index, st, i, v);
-    reset_s(p, index, st, n.a);
-    reset_s(p, index, st, n.c);
+    resets(p, index, st, n.a);
+    resets(p, index, st, n.c);
 }
 
 // Group i takes the branch and the value v: all cells below it go to start.
@@ -62,7 +62,7 @@ fn enters(p: &&[u8], index: &[u16; 1008], st: &mut [u8], i: usize, n: Node, whic
     ensures { λ _. ⌜ now (st .exit) ≡ entered (now (now (p .entry))) i (now (st .entry)) which v ⌝ }
 {
     hold_branch(index, st, i, which, v);
-    reset_s(p, index, st, n.a);
+    resets(p, index, st, n.a);
     reset_b(p, index, st, n.b);
 }
 

@@ -120,7 +120,7 @@ fn make_step(
     seen + moved
 }
 
-// The records of a run, one after the other, until one is refused.
+// The records of a run, one after the other, until one is refused. More records may follow in another run.
 pub fn run_records(
     p: &[u8],
     index: &[u16; 1008],
@@ -132,7 +132,7 @@ pub fn run_records(
     most: u32,
 ) -> Ran
     requires { ⌜ Going (now p) (now index) (now st) (now env) count × (most ≡ bound (now p)) × (length (now recs) ≤ 163840) × (length (now out) ≡ 8 * (length (now recs) / inputLength)) ⌝ }
-    ensures { λ r. ⌜ Leaves (runFrom (now (p .entry)) (now (recs .entry)) (length (now (recs .entry)) / inputLength) 0 0 (now (st .entry)) (now (out .entry))) r (now (st .exit)) (now (out .exit)) ⌝ }
+    ensures { λ r. ⌜ Leaves (runFrom (now (p .entry)) (now (recs .entry)) (length (now (recs .entry)) / inputLength) 0 0 (now (st .entry)) (now (out .entry))) r (now (st .exit)) (now (out .exit)) × Going (now (p .entry)) (now (index .entry)) (now (st .exit)) (now (env .exit)) count ⌝ }
 {
     let left = recs.len() / 40;
     let mut done: usize = 0;

@@ -2,6 +2,7 @@
 -- Assumes nothing.
 use mathlib.Core.Path.{_≡_, refl, sym, ap, _∙_}
 use mathlib.Core.Bool.{Bool, true, not}
+use mathlib.Core.List.{List}
 use Prim.Native.Nat.{ℕ, suc, _-_, _*_, _/_, _%_, _<_, _≤_}
 use native.Mathlib.Omega.{arith}
 use lib.Dec.{eqb}
@@ -17,7 +18,7 @@ use Rattle.rules.specs.Tree.{root}
 use Rattle.rules.specs.Typing.{typeS}
 use Rattle.rules.specs.Bound.{bound}
 use Rattle.rules.specs.Accepted.{Accepted}
-use Rattle.rules.specs.Calls.{_otherwise_, refuseIf, programVerdict, checkAnswer, checkCall, startOutcome, startCall, lentVerdict, runFrom, runOutcome, runCall, stepVerdict, stepOutcome, stepCall}
+use Rattle.rules.specs.Calls.{_otherwise_, refuseIf, programVerdict, checkAnswer, checkCall, StartOutcome, startOutcome, startCall, lentVerdict, runFrom, runOutcome, runCall, stepVerdict, stepOutcome, stepCall}
 use Rattle.rules.specs.Reset.{startState}
 use Rattle.rules.specs.WellFormed.{wellFormed}
 use Rattle.rules.specs.Update.{Stepped, stepOf}
@@ -34,9 +35,13 @@ use Rattle.rules.proofs.Kids.{or-none, not-not}
 use Rattle.rules.proofs.ByKind.{choose}
 use Rattle.rules.proofs.Established.{nowhere-from}
 use Rattle.rules.proofs.Verdicts.{both-fine, if-fine}
-use Rattle.cells.specs.Indexed.{ListedOnce}
+use Rattle.cells.specs.Indexed.{ListedOnce, Indexed}
 use Rattle.cells.proofs.Listed.{not-signal}
 use Rattle.steps.specs.Going.{Leaves}
+use Rattle.promises.specs.Small.{Small}
+use Rattle.promises.proofs.FromTable.{seated}
+use Rattle.promises.proofs.Start.{start-well-formed}
+use Rattle.watch.specs.Begun.{Begun}
 use Rattle.watch.specs.Lent.{lentRest, runFits}
 use Rattle.rules.proofs.Rooted.{some-node, root-of, shaped-of}
 use Rattle.rules.proofs.Once.{tree-small}
@@ -119,6 +124,25 @@ pub start-made : (p st : Bytes) → length st ≡ stateLength p
     → startOutcome p st (refuseIf (not (eqb (length st) (stateLength p))) StateFault) ≡ record { answer = Ready; state = startState p }
 unfolding refuseIf startOutcome
 start-made p st e = rw (eq-eqb _ _ e)
+
+-- what a start leaves: nothing changed but the table, or the start state, which is well-formed
+pub begun-short : (p st : Bytes) {index : List ℕ} → Indexed p index → (length st ≡ stateLength p → ⊥)
+    → Begun p index st st (Started.Refused StateFault)
+begun-short p st x d = record {
+  answer-is = ap (λ (o : StartOutcome). o .answer) (sym (start-short p st d));
+  state-is = ap (λ (o : StartOutcome). o .state) (sym (start-short p st d));
+  indexed = x;
+  well = λ e. absurd (let z : _≡_ {A = ℕ} 0 1 = cc in omega arith);
+}
+
+pub begun-made : (p st st₁ : Bytes) {index : List ℕ} → Small p → Accepted p → Indexed p index → length st ≡ stateLength p → st₁ ≡ startState p
+    → Begun p index st st₁ Ready
+begun-made p st st₁ s a x l e = record {
+  answer-is = ap (λ (o : StartOutcome). o .answer) (sym (start-made p st l));
+  state-is = e ∙ ap (λ (o : StartOutcome). o .state) (sym (start-made p st l));
+  indexed = x;
+  well = λ _. rw e (start-well-formed p (seated p s a));
+}
 
 -- run and step, by the verdict
 pub run-refused : (p st recs out : Bytes) (r : Refusal) → programVerdict p ≡ Refuse r

@@ -1,10 +1,9 @@
-// The four public calls. Each answers for every byte string that it is handed: none has a requires.
+// The four public calls. Each answers for every byte string that it is handed: none has a requires. (`begin` is for a program that was accepted.)
 ghost use mathlib.Core.Path.{_≡_};
-ghost use mathlib.Core.Bool.{Bool, not};
 ghost use Prim.Native.Nat.{_-_};
 ghost use lib.Dec.{eqb};
 ghost use lib.ListN.{length};
-ghost use Rattle.rules.specs.Layout.{nodes, cells as cellsOf, stateLength, inputLength};
+ghost use Rattle.rules.specs.Layout.{nodes, cells as cellsOf, inputLength};
 ghost use Rattle.rules.specs.Bound.{bound as boundOf};
 ghost use Rattle.rules.specs.Kinds.{isSignal};
 ghost use Rattle.rules.specs.Shaped.{NodeOf};
@@ -12,9 +11,10 @@ ghost use Rattle.rules.specs.Tree.{root};
 ghost use Rattle.rules.specs.Typing.{typeS};
 ghost use Rattle.rules.specs.Accepted.{Accepted};
 ghost use Rattle.rules.specs.Update.{stepOf};
-ghost use Rattle.rules.specs.Calls.{checkCall, startCall, stepCall, runCall, startOutcome, stepOutcome, runOutcome, stepVerdict, refuseIf, _otherwise_};
+ghost use Rattle.rules.specs.Calls.{checkCall, startCall, stepCall, runCall, stepOutcome, runOutcome, stepVerdict, _otherwise_};
 ghost use Rattle.cells.specs.Indexed.{Indexed};
 ghost use Rattle.steps.specs.Going.{Leaves};
+ghost use Rattle.watch.specs.Begun.{Begun, startRest};
 ghost use Rattle.watch.specs.Lent.{lentRest, runFits};
 use answers::otherwise;
 use answers::refuse_if;
@@ -69,18 +69,27 @@ pub fn check(program: &[u8]) -> Checked
     }
 }
 
-// The start state of an accepted program, if the room for it is of the right length.
-fn start_accepted(p: &[u8], st: &mut [u8], count: usize) -> Started
+// The start of an accepted program, for a caller that makes its steps one by one: the table of its cells and the start state, if the room for it
+// is of the right length.
+pub fn begin(p: &[u8], index: &mut [u16; 1008], st: &mut [u8], count: usize) -> Started
     requires { ⌜ Accepted (now p) × (count ≡ nodes (now p)) ⌝ }
-    ensures { λ r. ⌜ (r ≡ startOutcome (now (p .entry)) (now (st .entry)) (refuseIf (not (eqb (length (now (st .entry))) (stateLength (now (p .entry))))) Refusal.StateFault) .answer) × (now (st .exit) ≡ startOutcome (now (p .entry)) (now (st .entry)) (refuseIf (not (eqb (length (now (st .entry))) (stateLength (now (p .entry))))) Refusal.StateFault) .state) ⌝ }
+    ensures { λ r. ⌜ Begun (now (p .entry)) (now (index .exit)) (now (st .entry)) (now (st .exit)) r ⌝ }
 {
-    let mut index: [u16; 1008] = [0; 1008];
-    let held = index_cells(p, &mut index, count);
+    let held = index_cells(p, index, count);
     if st.len() != cell_at(held) {
         return Started::Refused(Refusal::StateFault);
     }
-    fill_start(p, &index, st, count);
+    fill_start(p, index, st, count);
     Started::Ready
+}
+
+// The start state of an accepted program, if the room for it is of the right length.
+fn start_accepted(p: &[u8], st: &mut [u8], count: usize) -> Started
+    requires { ⌜ Accepted (now p) × (count ≡ nodes (now p)) ⌝ }
+    ensures { λ r. ⌜ (r ≡ startRest (now (p .entry)) (now (st .entry)) .answer) × (now (st .exit) ≡ startRest (now (p .entry)) (now (st .entry)) .state) ⌝ }
+{
+    let mut index: [u16; 1008] = [0; 1008];
+    begin(p, &mut index, st, count)
 }
 
 // Start a state: the room becomes the start state, or is as before where the call refuses.

@@ -1,13 +1,19 @@
-// Standard input: blocks, then records. Prints a line for the program, one for each step as soon as it is done, and a last line.
+// Standard input: blocks, then records. The program is checked and started once, and each record costs its step. Prints a line for the program, one for each step as soon as it is done, and a last line.
 mod say;
 
+ghost use mathlib.Core.Path.{_≡_};
 ghost use Prim.Native.Nat.{_≤_};
+ghost use Rattle.rules.specs.Layout.{nodes};
+ghost use Rattle.rules.specs.Bound.{bound};
+ghost use Rattle.rules.specs.Accepted.{Accepted};
+ghost use Rattle.steps.specs.Going.{Going};
 use feed::Got;
 use feed::Place;
 use rules::Checked;
 use rules::Ran;
 use rules::Refusal;
 use rules::Started;
+use steps::run_records;
 
 const BLOCK: usize = 512;
 
@@ -103,15 +109,22 @@ fn finished(
     }
 }
 
-// Takes one record.
+// Takes one record: a run of one step.
 fn step(
     place: Place,
     done: u32,
     total: u32,
     program: &[u8],
+    index: &[u16; 1008],
     state: &mut [u8],
+    env: &mut [u64; 1008],
     input: &mut [u8],
-) -> After {
+    count: usize,
+    most: u32,
+) -> After
+    requires { ⌜ Going (now program) (now index) (now state) (now env) count × (most ≡ bound (now program)) ⌝ }
+    ensures { λ _. ⌜ Going (now (program .entry)) (now (index .entry)) (now (state .exit)) (now (env .exit)) count ⌝ }
+{
     let mut record = [0u8; 40];
     let got = feed::gather(place, input, &mut record, 0, RECORD);
     if got.count == 0 {
@@ -123,7 +136,7 @@ fn step(
     }
     let after = got.place;
     let mut value = [0u8; 8];
-    match watch::run(program, state, &record, &mut value) {
+    match run_records(program, index, &record, state, env, &mut value, count, most) {
         Ran::Finished(_, work) => finished(after, &record, &value, work, done, total),
         Ran::Refused(r, _) => stop_refused(placed(r, done)),
     }
@@ -141,7 +154,18 @@ fn no_more(place: Place, done: u32, total: u32, input: &mut [u8]) {
 }
 
 // Takes one record after another, at most 4,096.
-fn steps(place: Place, program: &[u8], state: &mut [u8], input: &mut [u8]) {
+fn steps(
+    place: Place,
+    program: &[u8],
+    index: &[u16; 1008],
+    state: &mut [u8],
+    env: &mut [u64; 1008],
+    input: &mut [u8],
+    count: usize,
+    most: u32,
+)
+    requires { ⌜ Going (now program) (now index) (now state) (now env) count × (most ≡ bound (now program)) ⌝ }
+{
     let mut at = place.at;
     let mut end = place.end;
     let mut done: u32 = 0;
@@ -152,8 +176,12 @@ fn steps(place: Place, program: &[u8], state: &mut [u8], input: &mut [u8]) {
             done,
             total,
             program,
+            index,
             state,
+            env,
             input,
+            count,
+            most,
         );
         if !t.more {
             return;
@@ -166,16 +194,40 @@ fn steps(place: Place, program: &[u8], state: &mut [u8], input: &mut [u8]) {
     no_more(Place { at: at, end: end }, done, total, input);
 }
 
-// Starts an accepted program, and steps it.
-fn started(place: Place, program: &[u8], state: &mut [u8], input: &mut [u8]) {
-    match watch::start(program, state) {
-        Started::Ready => steps(place, program, state, input),
+// Starts an accepted program, and steps it: the table of its cells and the room for its variables are made once.
+fn started(
+    place: Place,
+    program: &[u8],
+    state: &mut [u8],
+    input: &mut [u8],
+    count: usize,
+    most: u32,
+)
+    requires { ⌜ Accepted (now program) × (count ≡ nodes (now program)) × (most ≡ bound (now program)) ⌝ }
+{
+    let mut index: [u16; 1008] = [0; 1008];
+    let ready = watch::begin(program, &mut index, state, count);
+    match ready {
+        Started::Ready => {
+            let mut env: [u64; 1008] = [0; 1008];
+            steps(place, program, &index, state, &mut env, input, count, most);
+        }
         Started::Refused(r) => say::refused(r),
     }
 }
 
 // A program of so many cells runs in a state of 4 bytes and 8 for each. (No program has more than 1,008: the tests are for the proof.)
-fn accepted(place: Place, held: u32, program: &[u8], state: &mut [u8], input: &mut [u8]) {
+fn accepted(
+    place: Place,
+    held: u32,
+    program: &[u8],
+    state: &mut [u8],
+    input: &mut [u8],
+    count: usize,
+    most: u32,
+)
+    requires { ⌜ Accepted (now program) × (count ≡ nodes (now program)) × (most ≡ bound (now program)) ⌝ }
+{
     if held > 1008 {
         return;
     }
@@ -183,15 +235,16 @@ fn accepted(place: Place, held: u32, program: &[u8], state: &mut [u8], input: &m
     if n > state.len() {
         return;
     }
-    started(place, program, &mut state[..n], input);
+    started(place, program, &mut state[..n], input, count, most);
 }
 
 // Checks what was read; prints the first line, or the refusal as the only one.
 fn watched(place: Place, program: &[u8], state: &mut [u8], input: &mut [u8]) {
-    match watch::check(program) {
+    let found = watch::check(program);
+    match found {
         Checked::Accepted(n, held, bound, ty) => {
             say::first(n, held, bound, ty);
-            accepted(place, held, program, state, input);
+            accepted(place, held, program, state, input, n as usize, bound);
         }
         Checked::Refused(r) => say::refused(r),
     }

@@ -66,7 +66,9 @@ same-length-2 c = omega (arith, c .before .before .before .before)
 
 -- src/lib.rt:139:13
 returns : tie.Need-returns Inv-loop μ-loop
-returns c = stopped (c .before .before .before .before .before .before .before .loop .inv) (c .before .before .before .before .before .before .loop-test .taken) (c .before .before .before .record-verdict .ensures) (c .before .found .given .1)
+returns c =
+    let way = c .before .before .before .before .before .before .before .loop .inv in
+    (stopped way (c .before .before .before .before .before .before .loop-test .taken) (c .before .before .before .record-verdict .ensures) (c .before .found .given .1), way .going)
 
 enum-told : tie.Need-enum-told Inv-loop μ-loop
 enum-told c = search needs
@@ -109,7 +111,7 @@ same-length-4 c = c .before .loop .inv .room
 
 -- src/lib.rt:117:1
 returns-2 : tie.Need-returns-2 Inv-loop μ-loop
-returns-2 c = ended (c .before .loop .inv) (omega (arith, c .loop-test .left))
+returns-2 c = (ended (c .before .loop .inv) (omega (arith, c .loop-test .left)), c .before .loop .inv .going)
 
 pub run-records-spec : {M : Type 1} → statement M
 run-records-spec =

@@ -1,10 +1,13 @@
 -- `watchrun::accepted` meets its contract: a part is lent. Assumes nothing.
 use Prim.Native.Nat.{_+_, _*_}
 use native.Mathlib.Omega.{arith}
-use borrow.Author.Needs.{needs}
 use Rattle.feed.proofs.CountLaws.{counts}
+use borrow.Author.Needs.{needs}
 use Rattle.watchrun.proofs.accepted.Statement.{statement}
 use Rattle.watchrun.proofs.accepted.Tie as tie
+use Rattle.watchrun.proofs.accepted.Reads as reads
+use Rattle.watchrun.proofs.accepted.Lts as lts
+use Rattle.watchrun.proofs.started.Reads as started-reads
 
 returns : tie.Need-returns
 returns c = search needs

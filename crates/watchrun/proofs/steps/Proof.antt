@@ -1,22 +1,29 @@
--- `watchrun::steps` meets its contract: the records that may still come are fewer. Assumes nothing.
+-- `watchrun::steps` meets its contract: the run may go on, and the records that may still come are fewer. Assumes nothing.
 use Prim.Native.Nat.{_-_, _≤_}
-use mathlib.Core.Path.{_≡_}
+use mathlib.Core.Path.{_≡_, refl}
+use native.Mathlib.Omega.{arith}
 use lib.ListN.{length}
 use borrow.Author.Needs.{needs}
+use Rattle.steps.specs.Going.{Going}
 use Rattle.watchrun.proofs.steps.Statement.{statement}
 use Rattle.watchrun.proofs.steps.Tie as tie
+use Rattle.watchrun.proofs.steps.Reads as reads
+use Rattle.watchrun.proofs.steps.Lts as lts
+use Rattle.watchrun.proofs.no_more.Reads as no-more-reads
+use Rattle.watchrun.proofs.step.Reads as step-reads
 
 abbrev Inv-loop : tie.InvT-loop
-Inv-loop program state₀ input₀ at₀ end₀ done₀ total₀ state input at end done total = (length state ≡ length state₀) × (length input ≡ length input₀) × (done ≤ 4096)
+Inv-loop program index state₀ env₀ input₀ count most at₀ end₀ done₀ total₀ state env input at end done total =
+    (length state ≡ length state₀) × (length input ≡ length input₀) × (done ≤ 4096) × Going program index state env count
 
 abbrev μ-loop : tie.MeasureT-loop
-μ-loop program state₀ input₀ at₀ end₀ done₀ total₀ state input at end done total = 4096 - done
+μ-loop program index state₀ env₀ input₀ count most at₀ end₀ done₀ total₀ state env input at end done total = 4096 - done
 
 loop-holds : tie.Need-loop-holds Inv-loop μ-loop
-loop-holds c = search needs
+loop-holds c = (refl, refl, omega arith, c .before .before .before .pre .0)
 
 step-requires : tie.Need-step-requires Inv-loop μ-loop
-step-requires c κs = search needs
+step-requires c κs = (c .before .before .before .before .loop .inv .3, c .before .before .before .before .before .before .before .before .pre .1)
 
 same-length : tie.Need-same-length Inv-loop μ-loop
 same-length c = search needs
@@ -34,7 +41,7 @@ loop-less : tie.Need-loop-less Inv-loop μ-loop
 loop-less c = search needs
 
 loop-again : tie.Need-loop-again Inv-loop μ-loop
-loop-again c = search needs
+loop-again c = (search needs, search needs, search needs, c .before .before .before .before .before .before .step .ensures)
 
 no-more-requires : tie.Need-no-more-requires Inv-loop μ-loop
 no-more-requires c κs = search needs

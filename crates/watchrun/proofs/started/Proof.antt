@@ -1,0 +1,61 @@
+-- `watchrun::started` meets its contract: a program that is started may make its steps. Assumes nothing.
+use mathlib.Core.Path.{refl}
+use Rattle.rules.specs.Evaluate.{unbound}
+use borrow.Author.Needs.{needs}
+use Rattle.watchrun.proofs.started.Statement.{statement}
+use Rattle.watchrun.proofs.started.Tie as tie
+use Rattle.watchrun.proofs.started.Reads as reads
+use Rattle.watchrun.proofs.started.Lts as lts
+use Rattle.watch.proofs.begin.Reads as begin-reads
+use Rattle.watchrun.proofs.say.refused.Reads as refused-reads
+use Rattle.watchrun.proofs.steps.Reads as steps-reads
+
+begin-requires : tie.Need-begin-requires
+begin-requires c κs = search needs
+
+enum-told : tie.Need-enum-told
+enum-told c = search needs
+
+steps-requires : tie.Need-steps-requires
+unfolding unbound
+steps-requires c κs =
+    let told = c .before .before .before .before in
+    let begun = told .before .before .before .before .begin .ensures in
+    let pre = told .before .before .before .before .before .before .before .before .before .before .pre in
+    (record { accepted = pre .0; indexed = begun .indexed; counted = pre .1; well = begun .well (told .enum-told .given .1); blank = refl }, pre .2)
+
+enum-known-ready : tie.Need-enum-known-ready
+enum-known-ready c = search needs
+
+refused-requires : tie.Need-refused-requires
+refused-requires c κs = search needs
+
+same-length : tie.Need-same-length
+same-length c = search needs
+
+same-length-2 : tie.Need-same-length-2
+same-length-2 c = search needs
+
+returns : tie.Need-returns
+returns c = search needs
+
+same-length-3 : tie.Need-same-length-3
+same-length-3 c = search needs
+
+returns-2 : tie.Need-returns-2
+returns-2 c = search needs
+
+pub started-spec : {M : Type 1} → statement M
+started-spec =
+    tie.close
+    (tie.spec
+    begin-requires
+    enum-told
+    steps-requires
+    enum-known-ready
+    refused-requires
+    same-length
+    same-length-2
+    returns
+    same-length-3
+    returns-2)

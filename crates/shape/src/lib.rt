@@ -20,11 +20,11 @@ use kinds::may_stop;
 use rules::Field;
 use rules::Node;
 use rules::Place;
-use table::fields;
+use table::node;
 
 // The child x that a field of node i names is out of range or of the wrong sort.
 fn child_wrong(p: &[u8], i: usize, f: Field, x: usize) -> bool
-    requires { ⌜ i < records (now p) ⌝ }
+    requires { ⌜ (i < records (now p)) × (i < 1008) ⌝ }
     ensures { λ r. ⌜ r ≡ childWrong (now (p .entry)) i f x ⌝ }
 {
     if !is_child(f) {
@@ -34,7 +34,7 @@ fn child_wrong(p: &[u8], i: usize, f: Field, x: usize) -> bool
         return false;
     }
     if x < i {
-        let n = fields(p, x);
+        let n = node(p, x);
         return !may_be(f, n.kind);
     }
     true
@@ -42,7 +42,7 @@ fn child_wrong(p: &[u8], i: usize, f: Field, x: usize) -> bool
 
 // One of the children that the fields of node i name is.
 fn children_wrong(p: &[u8], i: usize, n: Node) -> bool
-    requires { ⌜ (i < records (now p)) × IsNode (now p) i n ⌝ }
+    requires { ⌜ (i < records (now p)) × (i < 1008) × IsNode (now p) i n ⌝ }
     ensures { λ r. ⌜ r ≡ childrenWrong (now (p .entry)) i ⌝ }
 {
     let row = fields_of(n.kind);
@@ -75,10 +75,10 @@ fn counted(counts: &mut [u8], f: Field, x: usize)
 
 // The fields of node m, counted.
 fn count_node(p: &[u8], counts: &mut [u8], m: usize)
-    requires { ⌜ m < records (now p) ⌝ }
+    requires { ⌜ (m < records (now p)) × (m < 1008) ⌝ }
     ensures { λ _. ⌜ now (counts .exit) ≡ countedIn (now (p .entry)) (now (counts .entry)) m ⌝ }
 {
-    let n = fields(p, m);
+    let n = node(p, m);
     let row = fields_of(n.kind);
     let fa = row.a;
     let fb = row.b;
@@ -90,7 +90,7 @@ fn count_node(p: &[u8], counts: &mut [u8], m: usize)
 
 // The fields of all nodes, counted in one pass.
 fn count_all(p: &[u8], counts: &mut [u8], count: usize)
-    requires { ⌜ count ≤ records (now p) ⌝ }
+    requires { ⌜ (count ≤ records (now p)) × (count ≤ 1008) ⌝ }
     ensures { λ _. ⌜ now (counts .exit) ≡ countedTo (now (p .entry)) (now (counts .entry)) count ⌝ }
 {
     let mut m: usize = 0;
@@ -105,7 +105,7 @@ fn shape_wrong(p: &[u8], i: usize, count: usize, times: u8) -> bool
     requires { ⌜ Sized (now p) count × (i < count) × (times ≡ cap (named (now p) i)) ⌝ }
     ensures { λ r. ⌜ r ≡ shapeWrong (now (p .entry)) i ⌝ }
 {
-    let n = fields(p, i);
+    let n = node(p, i);
     let k = n.kind;
     let wrong = children_wrong(p, i, n);
     if i + 1 == count {

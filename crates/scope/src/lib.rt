@@ -25,6 +25,20 @@ fn marked(marks: &[u8; 1008], n: usize) -> bool
     false
 }
 
+// Expression i as a child: a variable or a constant is answered at once, without a call.
+fn leaf(p: &&[u8], marks: &mut [u8; 1008], i: usize) -> Place
+    requires { ⌜ NodeOf isExpression (now (now p)) i ⌝ }
+    ensures { λ r. ⌜ (r ≡ scopeE (now (marks .entry)) (exprAt (now (now (p .entry))) i)) × (now (marks .exit) ≡ now (marks .entry)) ⌝ }
+{
+    let n = node(*p, i);
+    let k = n.kind;
+    match k {
+        16 => wrong_unless(marked(marks, n.a), i),
+        17 => Place::Nowhere,
+        _ => scope_e(p, marks, i),
+    }
+}
+
 pub fn scope_e(p: &&[u8], marks: &mut [u8; 1008], i: usize) -> Place
     requires { ⌜ NodeOf isExpression (now (now p)) i ⌝ }
     ensures { λ r. ⌜ (r ≡ scopeE (now (marks .entry)) (exprAt (now (now (p .entry))) i)) × (now (marks .exit) ≡ now (marks .entry)) ⌝ }
@@ -34,23 +48,23 @@ pub fn scope_e(p: &&[u8], marks: &mut [u8; 1008], i: usize) -> Place
     match k {
         16 => wrong_unless(marked(marks, n.a), i),
         17 => Place::Nowhere,
-        24 => scope_e(p, marks, n.a),
+        24 => leaf(p, marks, n.a),
         27 => {
-            let test = scope_e(p, marks, n.a);
-            let x = scope_e(p, marks, n.b);
-            let y = scope_e(p, marks, n.c);
+            let test = leaf(p, marks, n.a);
+            let x = leaf(p, marks, n.b);
+            let y = leaf(p, marks, n.c);
             sooner(test, sooner(x, y))
         }
-        28 => scope_e(p, marks, n.a),
+        28 => leaf(p, marks, n.a),
         29 => {
-            let m = scope_e(p, marks, n.a);
-            let x = scope_e(p, marks, n.b);
+            let m = leaf(p, marks, n.a);
+            let x = leaf(p, marks, n.b);
             let y = inside_e(p, marks, i, n.c);
             sooner(m, sooner(x, y))
         }
         _ => {
-            let x = scope_e(p, marks, n.a);
-            let y = scope_e(p, marks, n.b);
+            let x = leaf(p, marks, n.a);
+            let y = leaf(p, marks, n.b);
             sooner(x, y)
         }
     }

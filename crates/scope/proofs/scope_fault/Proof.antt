@@ -8,15 +8,15 @@ use Rattle.scope.proofs.scope_fault.Reads as reads
 use Rattle.scope.proofs.scope_fault.Lts as lts
 use Rattle.scope.proofs.scope_s.Reads as scope-s-reads
 
--- src/lib.rt:176:29
+-- src/lib.rt:190:29
 sub-scope-s : tie.Need-sub-scope-s
 sub-scope-s c = search needs
 
--- src/lib.rt:176:5
+-- src/lib.rt:190:5
 scope-s-requires : tie.Need-scope-s-requires
 scope-s-requires c κs = (c .before .before .before .pre .2, no-offer _)
 
--- src/lib.rt:171:1
+-- src/lib.rt:185:1
 returns : tie.Need-returns
 returns c = c .scope-s .ensures .0 ∙ root-scope _ _ (c .before .before .before .before .pre .0)
 

@@ -212,6 +212,26 @@ fn grouping(i: usize, body: Typed, brs: Bodies) -> Typed
     }
 }
 
+// The type of expression i as a child: a variable or a constant is answered at once, without a call.
+fn leaf(p: &&[u8], i: usize) -> Typed
+    requires { ⌜ NodeOf isExpression (now (now p)) i ⌝ }
+    ensures { λ r. ⌜ (r .ty ≡ typeE (exprAt (now (now (p .entry))) i)) × (r .place ≡ typesE (exprAt (now (now (p .entry))) i)) ⌝ }
+{
+    let n = node(*p, i);
+    let k = n.kind;
+    match k {
+        16 => Typed {
+            ty: declared(*p, n.a),
+            place: Place::Nowhere,
+        },
+        17 => Typed {
+            ty: n.ty,
+            place: Place::Nowhere,
+        },
+        _ => type_e(p, i),
+    }
+}
+
 pub fn type_e(p: &&[u8], i: usize) -> Typed
     requires { ⌜ NodeOf isExpression (now (now p)) i ⌝ }
     ensures { λ r. ⌜ (r .ty ≡ typeE (exprAt (now (now (p .entry))) i)) × (r .place ≡ typesE (exprAt (now (now (p .entry))) i)) ⌝ }
@@ -227,23 +247,23 @@ pub fn type_e(p: &&[u8], i: usize) -> Typed
             ty: n.ty,
             place: Place::Nowhere,
         },
-        24 => negation(i, type_e(p, n.a)),
+        24 => negation(i, leaf(p, n.a)),
         27 => {
-            let test = type_e(p, n.a);
-            let x = type_e(p, n.b);
-            let y = type_e(p, n.c);
+            let test = leaf(p, n.a);
+            let x = leaf(p, n.b);
+            let y = leaf(p, n.c);
             choice(i, test, x, y)
         }
-        28 => justly(i, type_e(p, n.a)),
+        28 => justly(i, leaf(p, n.a)),
         29 => {
-            let m = type_e(p, n.a);
-            let x = type_e(p, n.b);
-            let y = type_e(p, n.c);
+            let m = leaf(p, n.a);
+            let x = leaf(p, n.b);
+            let y = leaf(p, n.c);
             taking(i, n.ty, m, x, y)
         }
         _ => {
-            let x = type_e(p, n.a);
-            let y = type_e(p, n.b);
+            let x = leaf(p, n.a);
+            let y = leaf(p, n.b);
             operation(i, k, x, y)
         }
     }

@@ -10,15 +10,15 @@ use Rattle.types.proofs.type_root.Reads as reads
 use Rattle.types.proofs.type_root.Lts as lts
 use Rattle.types.proofs.type_s.Reads as type-s-reads
 
--- src/lib.rt:340:16
+-- src/lib.rt:360:16
 sub-type-s : tie.Need-sub-type-s
 sub-type-s c = search needs
 
--- src/lib.rt:340:5
+-- src/lib.rt:360:5
 type-s-requires : tie.Need-type-s-requires
 type-s-requires c κs = c .before .before .pre .2
 
--- src/lib.rt:336:1
+-- src/lib.rt:356:1
 returns : tie.Need-returns
 unfolding typeFault root
 returns c =

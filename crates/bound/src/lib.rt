@@ -134,6 +134,20 @@ fn sum(event: Bounds, rest: Bounds) -> Bounds
     }
 }
 
+// Expression i as a part: a variable or a constant is one rule, answered without a call.
+fn leaf(p: &&[u8], i: usize) -> u32
+    requires { ⌜ Small isExpression nodesE (now (now p)) i ⌝ }
+    ensures { λ r. ⌜ (r ≡ boundE (exprAt (now (now (p .entry))) i)) × (r ≤ 1008) ⌝ }
+{
+    let n = node(*p, i);
+    let k = n.kind;
+    match k {
+        16 => 1,
+        17 => 1,
+        _ => bound_e(p, i),
+    }
+}
+
 // Expression i.
 pub fn bound_e(p: &&[u8], i: usize) -> u32
     requires { ⌜ Small isExpression nodesE (now (now p)) i ⌝ }
@@ -144,23 +158,23 @@ pub fn bound_e(p: &&[u8], i: usize) -> u32
     match k {
         16 => 1,
         17 => 1,
-        24 => over(bound_e(p, n.a)),
+        24 => over(leaf(p, n.a)),
         27 => {
-            let test = bound_e(p, n.a);
-            let x = bound_e(p, n.b);
-            let y = bound_e(p, n.c);
+            let test = leaf(p, n.a);
+            let x = leaf(p, n.b);
+            let y = leaf(p, n.c);
             over_arms(test, x, y)
         }
-        28 => over(bound_e(p, n.a)),
+        28 => over(leaf(p, n.a)),
         29 => {
-            let m = bound_e(p, n.a);
-            let x = bound_e(p, n.b);
-            let y = bound_e(p, n.c);
+            let m = leaf(p, n.a);
+            let x = leaf(p, n.b);
+            let y = leaf(p, n.c);
             over_arms(m, x, y)
         }
         _ => {
-            let x = bound_e(p, n.a);
-            let y = bound_e(p, n.b);
+            let x = leaf(p, n.a);
+            let y = leaf(p, n.b);
             over_both(x, y)
         }
     }

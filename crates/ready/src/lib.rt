@@ -41,6 +41,20 @@ fn needed(marks: &[u16; 1008], region: usize, x: usize) -> Place
     Place::Nowhere
 }
 
+// What pass_e finds in expression i, as a part: a variable or a constant is answered here, without calling it.
+fn leaf(p: &&[u8], marks: &[u16; 1008], region: usize, i: usize) -> Place
+    requires { ⌜ Entered isExpression (now (now p)) (now marks) region i ⌝ }
+    ensures { λ r. ⌜ r ≡ foundE (markedIn (now (marks .entry)) region) (exprAt (now (now (p .entry))) i) ⌝ }
+{
+    let n = node(*p, i);
+    let k = n.kind;
+    match k {
+        16 => needed(marks, region, n.a),
+        17 => Place::Nowhere,
+        _ => pass_e(p, marks, region, i),
+    }
+}
+
 // The smallest let marked with the region that expression i needs at once.
 fn pass_e(p: &&[u8], marks: &[u16; 1008], region: usize, i: usize) -> Place
     requires { ⌜ Entered isExpression (now (now p)) (now marks) region i ⌝ }
@@ -51,23 +65,23 @@ fn pass_e(p: &&[u8], marks: &[u16; 1008], region: usize, i: usize) -> Place
     match k {
         16 => needed(marks, region, n.a),
         17 => Place::Nowhere,
-        24 => pass_e(p, marks, region, n.a),
+        24 => leaf(p, marks, region, n.a),
         27 => {
-            let test = pass_e(p, marks, region, n.a);
-            let x = pass_e(p, marks, region, n.b);
-            let y = pass_e(p, marks, region, n.c);
+            let test = leaf(p, marks, region, n.a);
+            let x = leaf(p, marks, region, n.b);
+            let y = leaf(p, marks, region, n.c);
             sooner(test, sooner(x, y))
         }
-        28 => pass_e(p, marks, region, n.a),
+        28 => leaf(p, marks, region, n.a),
         29 => {
-            let m = pass_e(p, marks, region, n.a);
-            let x = pass_e(p, marks, region, n.b);
-            let y = pass_e(p, marks, region, n.c);
+            let m = leaf(p, marks, region, n.a);
+            let x = leaf(p, marks, region, n.b);
+            let y = leaf(p, marks, region, n.c);
             sooner(m, sooner(x, y))
         }
         _ => {
-            let x = pass_e(p, marks, region, n.a);
-            let y = pass_e(p, marks, region, n.b);
+            let x = leaf(p, marks, region, n.a);
+            let y = leaf(p, marks, region, n.b);
             sooner(x, y)
         }
     }

@@ -65,163 +65,163 @@ bound-c-calls t = (node-reads.Asked, node-reads.Learnt, bound-s-below t, bound-s
 abbrev bound-s-calls : ℕ → bound-s-lts.Claims
 bound-s-calls t = (node-reads.Asked, node-reads.Learnt, bound-e-reads.Asked, bound-e-reads.Learnt, evaluated-reads.Asked, evaluated-reads.Learnt, bound-s-below t, bound-s.Post, delayed-reads.Asked, delayed-reads.Learnt, letting-reads.Asked, letting-reads.Learnt, switching-reads.Asked, switching-reads.Learnt, bound-b-below t, bound-b.Post, grouping-reads.Asked, grouping-reads.Learnt, bound-c-below t, bound-c.Post, leaving-reads.Asked, leaving-reads.Learnt)
 
--- src/lib.rt:210:9
+-- src/lib.rt:224:9
 bound-b-node-requires : (t : ℕ) → bound-b-lts.Need-node-requires (bound-b-calls t) (bound-b-at t) bound-b.Post
 bound-b-node-requires t c κs = let w = c .before .pre .1 .node in (omega (arith, w .inside, w .shaped .within), omega (arith, w .inside, w .shaped .small))
 
--- src/lib.rt:211:9
+-- src/lib.rt:225:9
 bound-b-bound-s-requires : (t : ℕ) → bound-b-lts.Need-bound-s-requires (bound-b-calls t) (bound-b-at t) bound-b.Post
 bound-b-bound-s-requires t c κs = let k = read (c .node .ensures .a-is) (branch-part (c .before .before .args .p .now .now) (c .before .before .args .j) (c .before .before .pre .1)) in (omega (arith, k .less, c .before .before .pre .0), k .node)
 
--- src/lib.rt:213:9
+-- src/lib.rt:227:9
 bound-b-largest-requires : (t : ℕ) → bound-b-lts.Need-largest-requires (bound-b-calls t) (bound-b-at t) bound-b.Post
 bound-b-largest-requires t c κs = search needs
 
--- src/lib.rt:213:9
+-- src/lib.rt:227:9
 bound-b-returns : (t : ℕ) → bound-b-lts.Need-returns (bound-b-calls t) (bound-b-at t) bound-b.Post
 bound-b-returns t c = let e = branch-last-bound (c .before .before .before .before .before .before .args .p .now .now) (c .before .before .before .before .before .before .args .j) (c .before .before .before .before .before .before .pre .1) (sym (c .before .before .before .before .node .ensures .b-is) ∙ c .before .if1 .taken) in bounded-b (c .before .before .before .before .before .before .args .p .now .now) (c .before .before .before .before .before .before .args .j) (c .before .before .before .before .before .before .pre .1) (cc (e .0)) (cc (e .1))
 
--- src/lib.rt:215:9
+-- src/lib.rt:229:9
 bound-b-bound-b-requires : (t : ℕ) → bound-b-lts.Need-bound-b-requires (bound-b-calls t) (bound-b-at t) bound-b.Post
 bound-b-bound-b-requires t c κs = let k = read (c .before .before .before .node .ensures .b-is) (branch-more (c .before .before .before .before .before .args .p .now .now) (c .before .before .before .before .before .args .j) (c .before .before .before .before .before .pre .1) (λ h. c .if1 .left (c .before .before .before .node .ensures .b-is ∙ h))) in (omega (arith, k .less, c .before .before .before .before .before .pre .0), k .node)
 
--- src/lib.rt:216:5
+-- src/lib.rt:230:5
 bound-b-largest-requires-2 : (t : ℕ) → bound-b-lts.Need-largest-requires-2 (bound-b-calls t) (bound-b-at t) bound-b.Post
 bound-b-largest-requires-2 t c κs = search needs
 
--- src/lib.rt:206:1
+-- src/lib.rt:220:1
 bound-b-returns-2 : (t : ℕ) → bound-b-lts.Need-returns-2 (bound-b-calls t) (bound-b-at t) bound-b.Post
 bound-b-returns-2 t c = let e = branch-more-bound (c .before .before .before .before .before .before .before .args .p .now .now) (c .before .before .before .before .before .before .before .args .j) (c .before .before .before .before .before .before .before .pre .1) (λ h. c .before .before .if1 .left (c .before .before .before .before .before .node .ensures .b-is ∙ h)) in bounded-b (c .before .before .before .before .before .before .before .args .p .now .now) (c .before .before .before .before .before .before .before .args .j) (c .before .before .before .before .before .before .before .pre .1) (cc (e .0)) (cc (e .1))
 
--- src/lib.rt:224:9
+-- src/lib.rt:238:9
 bound-c-node-requires : (t : ℕ) → bound-c-lts.Need-node-requires (bound-c-calls t) (bound-c-at t) bound-c.Post
 bound-c-node-requires t c κs = let w = c .before .pre .1 .node in (omega (arith, w .inside, w .shaped .within), omega (arith, w .inside, w .shaped .small))
 
--- src/lib.rt:225:9
+-- src/lib.rt:239:9
 bound-c-bound-s-requires : (t : ℕ) → bound-c-lts.Need-bound-s-requires (bound-c-calls t) (bound-c-at t) bound-c.Post
 bound-c-bound-s-requires t c κs = let k = read (c .node .ensures .a-is) (case-part (c .before .before .args .p .now .now) (c .before .before .args .j) (c .before .before .pre .1)) in (omega (arith, k .less, c .before .before .pre .0), k .node)
 
--- src/lib.rt:227:9
+-- src/lib.rt:241:9
 bound-c-sum-requires : (t : ℕ) → bound-c-lts.Need-sum-requires (bound-c-calls t) (bound-c-at t) bound-c.Post
 bound-c-sum-requires t c κs = (c .before .before .bound-s .ensures .most, record { eval-most = omega arith; update-most = omega arith })
 
--- src/lib.rt:227:9
+-- src/lib.rt:241:9
 bound-c-returns : (t : ℕ) → bound-c-lts.Need-returns (bound-c-calls t) (bound-c-at t) bound-c.Post
 bound-c-returns t c = let e = case-last-bound (c .before .before .before .before .before .before .args .p .now .now) (c .before .before .before .before .before .before .args .j) (c .before .before .before .before .before .before .pre .1) (sym (c .before .before .before .before .node .ensures .b-is) ∙ c .before .if1 .taken) in bounded-c (c .before .before .before .before .before .before .args .p .now .now) (c .before .before .before .before .before .before .args .j) (c .before .before .before .before .before .before .pre .1) (cc (e .0)) (cc (e .1))
 
--- src/lib.rt:229:9
+-- src/lib.rt:243:9
 bound-c-bound-c-requires : (t : ℕ) → bound-c-lts.Need-bound-c-requires (bound-c-calls t) (bound-c-at t) bound-c.Post
 bound-c-bound-c-requires t c κs = let k = read (c .before .before .before .node .ensures .b-is) (case-more (c .before .before .before .before .before .args .p .now .now) (c .before .before .before .before .before .args .j) (c .before .before .before .before .before .pre .1) (λ h. c .if1 .left (c .before .before .before .node .ensures .b-is ∙ h))) in (omega (arith, k .less, c .before .before .before .before .before .pre .0), k .node)
 
--- src/lib.rt:230:5
+-- src/lib.rt:244:5
 bound-c-sum-requires-2 : (t : ℕ) → bound-c-lts.Need-sum-requires-2 (bound-c-calls t) (bound-c-at t) bound-c.Post
 bound-c-sum-requires-2 t c κs = (c .before .before .before .bound-s .ensures .most, c .bound-c .ensures .most)
 
--- src/lib.rt:220:1
+-- src/lib.rt:234:1
 bound-c-returns-2 : (t : ℕ) → bound-c-lts.Need-returns-2 (bound-c-calls t) (bound-c-at t) bound-c.Post
 bound-c-returns-2 t c = let e = case-more-bound (c .before .before .before .before .before .before .before .args .p .now .now) (c .before .before .before .before .before .before .before .args .j) (c .before .before .before .before .before .before .before .pre .1) (λ h. c .before .before .if1 .left (c .before .before .before .before .before .node .ensures .b-is ∙ h)) in bounded-c (c .before .before .before .before .before .before .before .args .p .now .now) (c .before .before .before .before .before .before .before .args .j) (c .before .before .before .before .before .before .before .pre .1) (cc (e .0)) (cc (e .1))
 
--- src/lib.rt:174:9
+-- src/lib.rt:188:9
 bound-s-node-requires : (t : ℕ) → bound-s-lts.Need-node-requires (bound-s-calls t) (bound-s-at t) bound-s.Post
 bound-s-node-requires t c κs = let w = c .before .pre .1 .node in (omega (arith, w .inside, w .shaped .within), omega (arith, w .inside, w .shaped .small))
 
--- src/lib.rt:178:24
+-- src/lib.rt:192:24
 bound-s-bound-e-requires : (t : ℕ) → bound-s-lts.Need-bound-e-requires (bound-s-calls t) (bound-s-at t) bound-s.Post
 bound-s-bound-e-requires t c κs = let k = read (c .before .node .ensures .a-is) (ext-part (c .before .before .before .args .p .now .now) (c .before .before .before .args .i) (c .before .before .before .pre .1) (sym (c .before .node .ensures .kind-is) ∙ c .match .keys2)) in k .node
 
--- src/lib.rt:178:14
+-- src/lib.rt:192:14
 bound-s-evaluated-requires : (t : ℕ) → bound-s-lts.Need-evaluated-requires (bound-s-calls t) (bound-s-at t) bound-s.Post
 bound-s-evaluated-requires t c κs = c .bound-e .ensures .1
 
--- src/lib.rt:179:22
+-- src/lib.rt:193:22
 bound-s-bound-s-requires : (t : ℕ) → bound-s-lts.Need-bound-s-requires (bound-s-calls t) (bound-s-at t) bound-s.Post
 bound-s-bound-s-requires t c κs = let k = read (c .before .node .ensures .a-is) (delay-part (c .before .before .before .args .p .now .now) (c .before .before .before .args .i) (c .before .before .before .pre .1) (sym (c .before .node .ensures .kind-is) ∙ c .match .keys3)) in (omega (arith, k .less, c .before .before .before .pre .0), k .node)
 
--- src/lib.rt:179:14
+-- src/lib.rt:193:14
 bound-s-delayed-requires : (t : ℕ) → bound-s-lts.Need-delayed-requires (bound-s-calls t) (bound-s-at t) bound-s.Post
 bound-s-delayed-requires t c κs = c .bound-s .ensures .most
 
--- src/lib.rt:181:17
+-- src/lib.rt:195:17
 bound-s-bound-s-requires-2 : (t : ℕ) → bound-s-lts.Need-bound-s-requires-2 (bound-s-calls t) (bound-s-at t) bound-s.Post
 bound-s-bound-s-requires-2 t c κs = let k = read (c .before .node .ensures .a-is) (let-parts (c .before .before .before .args .p .now .now) (c .before .before .before .args .i) (c .before .before .before .pre .1) (sym (c .before .node .ensures .kind-is) ∙ c .match .keys4) .0) in (omega (arith, k .less, c .before .before .before .pre .0), k .node)
 
--- src/lib.rt:182:17
+-- src/lib.rt:196:17
 bound-s-bound-s-requires-3 : (t : ℕ) → bound-s-lts.Need-bound-s-requires-3 (bound-s-calls t) (bound-s-at t) bound-s.Post
 bound-s-bound-s-requires-3 t c κs = let k = read (c .before .before .node .ensures .b-is) (let-parts (c .before .before .before .before .args .p .now .now) (c .before .before .before .before .args .i) (c .before .before .before .before .pre .1) (sym (c .before .before .node .ensures .kind-is) ∙ c .before .match .keys4) .1) in (omega (arith, k .less, c .before .before .before .before .pre .0), k .node)
 
--- src/lib.rt:183:13
+-- src/lib.rt:197:13
 bound-s-letting-requires : (t : ℕ) → bound-s-lts.Need-letting-requires (bound-s-calls t) (bound-s-at t) bound-s.Post
 bound-s-letting-requires t c κs = (c .before .bound-s2 .ensures .most, c .bound-s3 .ensures .most)
 
--- src/lib.rt:186:17
+-- src/lib.rt:200:17
 bound-s-bound-s-requires-4 : (t : ℕ) → bound-s-lts.Need-bound-s-requires-4 (bound-s-calls t) (bound-s-at t) bound-s.Post
 bound-s-bound-s-requires-4 t c κs = let k = read (c .before .node .ensures .a-is) (switch-parts (c .before .before .before .args .p .now .now) (c .before .before .before .args .i) (c .before .before .before .pre .1) (sym (c .before .node .ensures .kind-is) ∙ c .match .keys5) .0) in (omega (arith, k .less, c .before .before .before .pre .0), k .node)
 
--- src/lib.rt:187:17
+-- src/lib.rt:201:17
 bound-s-bound-s-requires-5 : (t : ℕ) → bound-s-lts.Need-bound-s-requires-5 (bound-s-calls t) (bound-s-at t) bound-s.Post
 bound-s-bound-s-requires-5 t c κs = let k = read (c .before .before .node .ensures .b-is) (switch-parts (c .before .before .before .before .args .p .now .now) (c .before .before .before .before .args .i) (c .before .before .before .before .pre .1) (sym (c .before .before .node .ensures .kind-is) ∙ c .before .match .keys5) .1) in (omega (arith, k .less, c .before .before .before .before .pre .0), k .node)
 
--- src/lib.rt:188:17
+-- src/lib.rt:202:17
 bound-s-bound-s-requires-6 : (t : ℕ) → bound-s-lts.Need-bound-s-requires-6 (bound-s-calls t) (bound-s-at t) bound-s.Post
 bound-s-bound-s-requires-6 t c κs = let k = read (c .before .before .before .node .ensures .c-is) (switch-parts (c .before .before .before .before .before .args .p .now .now) (c .before .before .before .before .before .args .i) (c .before .before .before .before .before .pre .1) (sym (c .before .before .before .node .ensures .kind-is) ∙ c .before .before .match .keys5) .2) in (omega (arith, k .less, c .before .before .before .before .before .pre .0), k .node)
 
--- src/lib.rt:189:13
+-- src/lib.rt:203:13
 bound-s-switching-requires : (t : ℕ) → bound-s-lts.Need-switching-requires (bound-s-calls t) (bound-s-at t) bound-s.Post
 bound-s-switching-requires t c κs = (c .before .before .bound-s4 .ensures .most, c .before .bound-s5 .ensures .most, c .bound-s6 .ensures .most)
 
--- src/lib.rt:192:17
+-- src/lib.rt:206:17
 bound-s-bound-s-requires-7 : (t : ℕ) → bound-s-lts.Need-bound-s-requires-7 (bound-s-calls t) (bound-s-at t) bound-s.Post
 bound-s-bound-s-requires-7 t c κs = let k = read (c .before .node .ensures .a-is) (group-parts (c .before .before .before .args .p .now .now) (c .before .before .before .args .i) (c .before .before .before .pre .1) (sym (c .before .node .ensures .kind-is) ∙ c .match .keys6) .0) in (omega (arith, k .less, c .before .before .before .pre .0), k .node)
 
--- src/lib.rt:193:17
+-- src/lib.rt:207:17
 bound-s-bound-b-requires : (t : ℕ) → bound-s-lts.Need-bound-b-requires (bound-s-calls t) (bound-s-at t) bound-s.Post
 bound-s-bound-b-requires t c κs = let k = read (c .before .before .node .ensures .b-is) (group-parts (c .before .before .before .before .args .p .now .now) (c .before .before .before .before .args .i) (c .before .before .before .before .pre .1) (sym (c .before .before .node .ensures .kind-is) ∙ c .before .match .keys6) .1) in (omega (arith, k .less, c .before .before .before .before .pre .0), k .node)
 
--- src/lib.rt:194:13
+-- src/lib.rt:208:13
 bound-s-grouping-requires : (t : ℕ) → bound-s-lts.Need-grouping-requires (bound-s-calls t) (bound-s-at t) bound-s.Post
 bound-s-grouping-requires t c κs = (c .before .bound-s7 .ensures .most, c .bound-b .ensures .most)
 
--- src/lib.rt:197:17
+-- src/lib.rt:211:17
 bound-s-bound-s-requires-8 : (t : ℕ) → bound-s-lts.Need-bound-s-requires-8 (bound-s-calls t) (bound-s-at t) bound-s.Post
 bound-s-bound-s-requires-8 t c κs = let k = read (c .before .node .ensures .a-is) (until-parts (c .before .before .before .args .p .now .now) (c .before .before .before .args .i) (c .before .before .before .pre .1) (sym (c .before .node .ensures .kind-is) ∙ c .match .keys7) .0) in (omega (arith, k .less, c .before .before .before .pre .0), k .node)
 
--- src/lib.rt:198:17
+-- src/lib.rt:212:17
 bound-s-bound-c-requires : (t : ℕ) → bound-s-lts.Need-bound-c-requires (bound-s-calls t) (bound-s-at t) bound-s.Post
 bound-s-bound-c-requires t c κs = let k = read (c .before .before .node .ensures .b-is) (until-parts (c .before .before .before .before .args .p .now .now) (c .before .before .before .before .args .i) (c .before .before .before .before .pre .1) (sym (c .before .before .node .ensures .kind-is) ∙ c .before .match .keys7) .1) in (omega (arith, k .less, c .before .before .before .before .pre .0), k .node)
 
--- src/lib.rt:199:13
+-- src/lib.rt:213:13
 bound-s-leaving-requires : (t : ℕ) → bound-s-lts.Need-leaving-requires (bound-s-calls t) (bound-s-at t) bound-s.Post
 bound-s-leaving-requires t c κs = (c .before .bound-s8 .ensures .most, c .bound-c .ensures .most)
 
--- src/lib.rt:170:1
+-- src/lib.rt:184:1
 bound-s-returns : (t : ℕ) → bound-s-lts.Need-returns (bound-s-calls t) (bound-s-at t) bound-s.Post
 bound-s-returns t c = let e = input-bound (c .before .before .before .args .p .now .now) (c .before .before .before .args .i) (c .before .before .before .pre .1) (sym (c .before .node .ensures .kind-is) ∙ c .match .keys1) in bounded-s (c .before .before .before .args .p .now .now) (c .before .before .before .args .i) (c .before .before .before .pre .1) (cc (e .0)) (cc (e .1))
 
--- src/lib.rt:170:1
+-- src/lib.rt:184:1
 bound-s-returns-2 : (t : ℕ) → bound-s-lts.Need-returns-2 (bound-s-calls t) (bound-s-at t) bound-s.Post
 bound-s-returns-2 t c = let e = ext-bound (c .before .before .before .before .before .args .p .now .now) (c .before .before .before .before .before .args .i) (c .before .before .before .before .before .pre .1) (sym (c .before .before .before .node .ensures .kind-is) ∙ c .before .before .match .keys2) in bounded-s (c .before .before .before .before .before .args .p .now .now) (c .before .before .before .before .before .args .i) (c .before .before .before .before .before .pre .1) (cc (e .0)) (cc (e .1))
 
--- src/lib.rt:170:1
+-- src/lib.rt:184:1
 bound-s-returns-3 : (t : ℕ) → bound-s-lts.Need-returns-3 (bound-s-calls t) (bound-s-at t) bound-s.Post
 bound-s-returns-3 t c = let e = delay-bound (c .before .before .before .before .before .args .p .now .now) (c .before .before .before .before .before .args .i) (c .before .before .before .before .before .pre .1) (sym (c .before .before .before .node .ensures .kind-is) ∙ c .before .before .match .keys3) in bounded-s (c .before .before .before .before .before .args .p .now .now) (c .before .before .before .before .before .args .i) (c .before .before .before .before .before .pre .1) (cc (e .0)) (cc (e .1))
 
--- src/lib.rt:170:1
+-- src/lib.rt:184:1
 bound-s-returns-4 : (t : ℕ) → bound-s-lts.Need-returns-4 (bound-s-calls t) (bound-s-at t) bound-s.Post
 bound-s-returns-4 t c = let e = let-bound (c .before .before .before .before .before .before .args .p .now .now) (c .before .before .before .before .before .before .args .i) (c .before .before .before .before .before .before .pre .1) (sym (c .before .before .before .before .node .ensures .kind-is) ∙ c .before .before .before .match .keys4) in bounded-s (c .before .before .before .before .before .before .args .p .now .now) (c .before .before .before .before .before .before .args .i) (c .before .before .before .before .before .before .pre .1) (cc (e .0)) (cc (e .1))
 
--- src/lib.rt:170:1
+-- src/lib.rt:184:1
 bound-s-returns-5 : (t : ℕ) → bound-s-lts.Need-returns-5 (bound-s-calls t) (bound-s-at t) bound-s.Post
 bound-s-returns-5 t c = let e = switch-bound (c .before .before .before .before .before .before .before .args .p .now .now) (c .before .before .before .before .before .before .before .args .i) (c .before .before .before .before .before .before .before .pre .1) (sym (c .before .before .before .before .before .node .ensures .kind-is) ∙ c .before .before .before .before .match .keys5) in bounded-s (c .before .before .before .before .before .before .before .args .p .now .now) (c .before .before .before .before .before .before .before .args .i) (c .before .before .before .before .before .before .before .pre .1) (cc (e .0)) (cc (e .1))
 
--- src/lib.rt:170:1
+-- src/lib.rt:184:1
 bound-s-returns-6 : (t : ℕ) → bound-s-lts.Need-returns-6 (bound-s-calls t) (bound-s-at t) bound-s.Post
 bound-s-returns-6 t c = let e = group-bound (c .before .before .before .before .before .before .args .p .now .now) (c .before .before .before .before .before .before .args .i) (c .before .before .before .before .before .before .pre .1) (sym (c .before .before .before .before .node .ensures .kind-is) ∙ c .before .before .before .match .keys6) in bounded-s (c .before .before .before .before .before .before .args .p .now .now) (c .before .before .before .before .before .before .args .i) (c .before .before .before .before .before .before .pre .1) (cc (e .0)) (cc (e .1))
 
--- src/lib.rt:170:1
+-- src/lib.rt:184:1
 bound-s-returns-7 : (t : ℕ) → bound-s-lts.Need-returns-7 (bound-s-calls t) (bound-s-at t) bound-s.Post
 bound-s-returns-7 t c = let e = until-bound (c .before .before .before .before .before .before .args .p .now .now) (c .before .before .before .before .before .before .args .i) (c .before .before .before .before .before .before .pre .1) (sym (c .before .before .before .before .node .ensures .kind-is) ∙ c .before .before .before .match .keys7) in bounded-s (c .before .before .before .before .before .before .args .p .now .now) (c .before .before .before .before .before .before .args .i) (c .before .before .before .before .before .before .pre .1) (cc (e .0)) (cc (e .1))
 
--- src/lib.rt:170:1
+-- src/lib.rt:184:1
 bound-s-returns-8 : (t : ℕ) → bound-s-lts.Need-returns-8 (bound-s-calls t) (bound-s-at t) bound-s.Post
 bound-s-returns-8 t c = let e = time-bound (c .before .before .before .args .p .now .now) (c .before .before .before .args .i) (c .before .before .before .pre .1) (time-left (c .before .before .before .args .p .now .now) (c .before .before .before .args .i) (c .before .before .before .pre .1 .node) (c .before .node .ensures .kind-is) (c .match .rest)) in bounded-s (c .before .before .before .args .p .now .now) (c .before .before .before .args .i) (c .before .before .before .pre .1) (cc (e .0)) (cc (e .1))
 

@@ -6,19 +6,19 @@ use Rattle.bound.proofs.bound_of.Reads as reads
 use Rattle.bound.proofs.bound_of.Lts as lts
 use Rattle.bound.proofs.bound_s.Reads as bound-s-reads
 
--- src/lib.rt:238:25
+-- src/lib.rt:252:25
 sub-bound-s : tie.Need-sub-bound-s
 sub-bound-s c = search needs
 
--- src/lib.rt:238:9
+-- src/lib.rt:252:9
 bound-s-requires : tie.Need-bound-s-requires
 bound-s-requires c κs = root-small _ _ (c .before .before .pre .0) (c .before .before .pre .2) (c .before .before .pre .3)
 
--- src/lib.rt:239:5
+-- src/lib.rt:253:5
 add-result : tie.Need-add-result
 add-result c = search needs
 
--- src/lib.rt:234:1
+-- src/lib.rt:248:1
 returns : tie.Need-returns
 returns c = root-bound _ _ (c .before .before .before .before .pre .0) _ (c .before .bound-s .ensures)
 

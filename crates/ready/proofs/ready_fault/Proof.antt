@@ -7,15 +7,15 @@ use Rattle.ready.proofs.ready_fault.Reads as reads
 use Rattle.ready.proofs.ready_fault.Lts as lts
 use Rattle.ready.proofs.pass_s.Reads as pass-s-reads
 
--- src/lib.rt:161:35
+-- src/lib.rt:175:35
 sub-pass-s : tie.Need-sub-pass-s
 sub-pass-s c = search needs
 
--- src/lib.rt:161:5
+-- src/lib.rt:175:5
 pass-s-requires : tie.Need-pass-s-requires
 pass-s-requires c κs = root-entered _ _ (c .before .before .before .pre .0) (c .before .before .before .pre .1) (c .before .before .before .pre .2)
 
--- src/lib.rt:156:1
+-- src/lib.rt:170:1
 returns : tie.Need-returns
 returns c = c .pass-s .ensures .0 ∙ root-ready _ _ (c .before .before .before .before .pre .0) (c .before .before .before .before .pre .1)
 

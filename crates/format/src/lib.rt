@@ -16,8 +16,8 @@ use kinds::is_signal;
 use rules::Field;
 use rules::Place;
 use rules::TypeField;
-use table::node;
-use table::node_at;
+use table::fields;
+use table::record_at;
 use table::u16_at;
 use table::u32_at;
 
@@ -175,10 +175,10 @@ fn is_kind(k: u8) -> bool
 
 // A record of a kind is not as the table says.
 fn node_wrong(p: &[u8], r: usize) -> bool
-    requires { ⌜ (r < records (now p)) × (r < 1008) ⌝ }
+    requires { ⌜ r < records (now p) ⌝ }
     ensures { λ wrong. ⌜ wrong ≡ nodeWrong (now (p .entry)) r ⌝ }
 {
-    let n = node(p, r);
+    let n = fields(p, r);
     let row = fields_of(n.kind);
     let ft = row.ty;
     let fa = row.a;
@@ -194,10 +194,10 @@ fn node_wrong(p: &[u8], r: usize) -> bool
 
 // All 12 bytes of a record are zero.
 fn is_zero(p: &[u8], r: usize) -> bool
-    requires { ⌜ (r < records (now p)) × (r < 1008) ⌝ }
+    requires { ⌜ r < records (now p) ⌝ }
     ensures { λ zero. ⌜ zero ≡ isZero (now (p .entry)) r ⌝ }
 {
-    let at = node_at(p, r);
+    let at = record_at(p, r);
     both(
         both(u32_at(p, at) == 0, u32_at(p, at + 4) == 0),
         u32_at(p, at + 8) == 0,
@@ -214,16 +214,16 @@ fn may_end(p: &[u8], r: usize) -> bool
 
 // The kind of record r.
 fn kind_at(p: &[u8], r: usize) -> u8
-    requires { ⌜ (r < records (now p)) × (r < 1008) ⌝ }
+    requires { ⌜ r < records (now p) ⌝ }
     ensures { λ k. ⌜ k ≡ kindAt (now (p .entry)) r ⌝ }
 {
-    let at = node_at(p, r);
+    let at = record_at(p, r);
     p[at]
 }
 
 // The record before is of kind 0.
 fn after_end(p: &[u8], r: usize) -> bool
-    requires { ⌜ (r < records (now p)) × (r < 1008) ⌝ }
+    requires { ⌜ r < records (now p) ⌝ }
     ensures { λ ended. ⌜ ended ≡ afterEnd (now (p .entry)) r ⌝ }
 {
     if r == 0 {
@@ -234,7 +234,7 @@ fn after_end(p: &[u8], r: usize) -> bool
 
 // Code 4 at record r. A record of kind 0, and every later one, is all zero.
 fn record_wrong(p: &[u8], r: usize) -> bool
-    requires { ⌜ (r < records (now p)) × (r < 1008) ⌝ }
+    requires { ⌜ r < records (now p) ⌝ }
     ensures { λ wrong. ⌜ wrong ≡ recordWrong (now (p .entry)) r ⌝ }
 {
     if kind_at(p, r) == 0 {

@@ -32,9 +32,7 @@ loop-holds c = (omega arith, first-starts _ _)
 
 kind-at-requires : tie.Need-kind-at-requires Inv-loop μ-loop
 unfolding blocks records
-kind-at-requires c κs =
-    let small = most-bytes _ (c .before .before .before .pre) in
-    (omega arith, omega (arith, small))
+kind-at-requires c κs = omega arith
 
 returns : tie.Need-returns Inv-loop μ-loop
 unfolding blocks records

@@ -5,10 +5,11 @@ use mathlib.Core.Bool.{Bool, true, false}
 use Prim.Native.Nat.{ℕ, _+_, _-_, _*_, _<_, _≤_}
 use native.Mathlib.Omega.{arith}
 use lib.Dec.{eqb}
-use borrow.Author.Tests.{leb-true, eq-eqb, ne-eqb}
+use borrow.Author.Tests.{leb-true, le-leb, lt-leb, eqb-true, eqb-false, eq-eqb, ne-eqb}
 use Rattle.rules.specs.Bytes.{if_then_else_}
 use Rattle.rules.specs.Values.{boolT, maybeOf, isPlain, isMaybe, valueFrom, packed, unpacked, typeIn, presentIn, middleIn, wordIn}
-use Rattle.rules.specs.Operations.{truth, isTrue, operandType, meaning}
+use Rattle.rules.specs.Words.{quotientOf}
+use Rattle.rules.specs.Operations.{truth, isTrue, operandType, numberOf, truthOf, meaning}
 use Rattle.rules.specs.Work.{nothing, oneRule, _plus_, give, after, rule}
 use Rattle.rules.specs.Evaluate.{plainWord, opened, onWords, operate, operated, notOf, negated, justOf, lifted}
 use Rattle.rules.specs.declared.Value.{Value}
@@ -20,14 +21,14 @@ use Rattle.rules.specs.declared.Opened.the-variants.{Here, Gone, Amiss}
 use Rattle.rules.specs.declared.Evaluated.{Evaluated}
 use Rattle.rules.specs.declared.Evaluated.the-variants.{Done, Stuck}
 use Rattle.rules.proofs.Static.{and-both}
-use Rattle.rules.proofs.Round.{plain-no}
+use Rattle.rules.proofs.Round.{plain-yes, plain-no}
 use Rattle.outcomes.specs.Combine.{workOf, wordBy, armBy, armOf, partsBy, partsOf}
 use Rattle.outcomes.specs.Outcome.{outcomeIn, IsOutcome, IsProper}
 use Rattle.outcomes.specs.declared.Arm.the-variants.{Go, Neither}
 use Rattle.outcomes.specs.declared.Event.the-variants.{Occurs, Quiet}
 use Rattle.outcomes.specs.declared.Parts.the-variants.{Maybe, Wrong}
-use Rattle.outcomes.proofs.Numbers.{plain-in, absent-in, present-in, proper-present}
-use Rattle.outcomes.proofs.Counted.{Gives, gives-stuck, outcome-done, outcome-stuck, work-is}
+use Rattle.outcomes.proofs.Numbers.{plain-in, absent-in, present-in, proper-plain, proper-present, type-small}
+use Rattle.outcomes.proofs.Counted.{Gives, gives-stuck, outcome-done, outcome-stuck, outcome-exact, outcome-gives, work-is}
 
 pub plain-most : (t : ℕ) → isPlain t ≡ true → t ≤ 3
 unfolding isPlain
@@ -69,6 +70,61 @@ word-no t m n = go (eqb m 0) (isPlain (typeIn m)) (eqb (presentIn m) 0)
     go false false true = refl
     go false false false = refl
 
+-- An outcome that has a word of a plain type has that type, and its present byte is 1.
+words-apart : {a : ℕ} → Not ≡ Is a → ⊥
+words-apart e = let z : _≡_ {A = ℕ} 0 1 = cc in omega arith
+
+word-type : (t m : ℕ) {x : Word} {a : ℕ} → x ≡ wordBy t (outcomeIn m) → x ≡ Is a → typeIn m ≡ t
+word-type t m f h = go (eqb (typeIn m) t) refl
+  where
+    go : (b : Bool) → eqb (typeIn m) t ≡ b → typeIn m ≡ t
+    go true e = eqb-true _ _ e
+    go false e = absurd (words-apart (word-no t m (eqb-false _ _ e) ∙ sym f ∙ h))
+
+present-one : (t w k : ℕ) → t < 256 → k < 65536 → presentIn ((t + 256 + 4294967296 * w) + 65536 * k) ≡ 1
+unfolding presentIn
+present-one t w k h g = omega arith
+
+middle-small : (m : ℕ) → middleIn m < 65536
+unfolding middleIn
+middle-small m = omega arith
+
+plain-present : (m : ℕ) → isPlain (typeIn m) ≡ true → IsOutcome m → presentIn m ≡ 1
+unfolding packed
+plain-present m p o =
+    let e : (typeIn m + 256 + 4294967296 * wordIn m) + 65536 * middleIn m ≡ m
+    = sym (ap (λ v. packed v + 65536 * middleIn m) (plain-in m p)) ∙ outcome-exact m (plain-some m p) o in
+    sym (ap presentIn e) ∙ present-one (typeIn m) (wordIn m) (middleIn m) (type-small m) (middle-small m)
+
+-- The number of a plain value with what was counted.
+plain-gives : (t w k : ℕ) {m : ℕ} → isPlain t ≡ true → 0 < k → k < 65536 → m ≡ (t + 256 + 4294967296 * w) + 65536 * k
+    → Gives m (Done (Plain t w) (record { work = k }))
+unfolding packed
+plain-gives t w k p l g e = rw e (outcome-gives (Plain t w) k refl (proper-plain t (omega (arith, plain-most t p)) w p) l g)
+
+-- The low half of a result is below 2 to the 32nd, and the word of a truth value at most 1.
+pub half-small : (r s : ℕ) {h : ℕ} → workOf (outcomeIn r) + workOf (outcomeIn s) < 65535
+    → h ≡ typeIn r + 256 * presentIn r + 65536 * (middleIn r + middleIn s + 1) → h < 4294967296
+unfolding typeIn presentIn
+half-small r s l d = omega (arith, work-is r, work-is s)
+
+pub truth-small : {b z : Bool} {w : ℕ} → z ≡ b → w ≡ (if z then 1 else 0) → w ≤ 1
+truth-small {z = z} q = go z
+  where
+    go : (c : Bool) {w : ℕ} → w ≡ (if c then 1 else 0) → w ≤ 1
+    go true e = omega arith
+    go false e = omega arith
+
+pub meaning-divide : (k a b : ℕ) → k ≡ 21 → meaning k a b ≡ quotientOf a b
+unfolding meaning
+meaning-divide k a b z = simp (lt-leb k 20 (omega arith), eq-eqb k 21 z)
+
+meaning-test : (k a b : ℕ) {z : Bool} {w : ℕ} → 20 < k → (k ≡ 21 → ⊥) → z ≡ truthOf k a b → w ≡ (if z then 1 else 0)
+    → meaning k a b ≡ Plain boolT w
+unfolding meaning truth
+meaning-test k a b l n q v =
+    simp (lt-leb k 20 l, ne-eqb k 21 n) (ap (Plain boolT) (sym (v ∙ ap (λ c. if c then 1 else 0) q)))
+
 -- A combinator of one outcome or two, by their words and what they counted.
 abbrev counted : ℕ → Tally
 counted n = record { work = n }
@@ -109,6 +165,40 @@ module _ (k r s : ℕ) {t : ℕ} {x y : Word} (e : t ≡ operandType k) (f : x �
   operated-done {i = i} {j = j} h l q u w d =
       let n : i + j + 1 ≡ 1 + ((workOf (outcomeIn r) + workOf (outcomeIn s)) + 0) = omega (arith, work-is r, work-is s) in
       (d .0 ∙ rw (operated-by k (outcomeIn r) (outcomeIn s), ← e, ← f, h, ← g, l, q, n), d .1)
+
+  -- a result that is plain, made from the low half of the left operand's number: what was counted, and the type exchanged
+  module _ {a b h : ℕ} (i : x ≡ Is a) (j : y ≡ Is b) (o : IsOutcome r) (l : workOf (outcomeIn r) + workOf (outcomeIn s) < 65535)
+      (p : isPlain t ≡ true) (d : h ≡ typeIn r + 256 * presentIn r + 65536 * (middleIn r + middleIn s + 1)) where
+    operated-plain : {m u w : ℕ} → meaning k a b ≡ Plain u w → isPlain u ≡ true → m + t ≡ (h + u) + 4294967296 * w
+        → Gives m (rule (operated k (outcomeIn r) (outcomeIn s)))
+    operated-plain {m} {u} {w} q n v =
+        let z : typeIn r ≡ t = word-type t r f i in
+        let c : presentIn r ≡ 1 = plain-present r (rw z p) o in
+        let m-is : m ≡ (u + 256 + 4294967296 * w) + 65536 * (middleIn r + middleIn s + 1) = omega arith in
+        let count = middleIn r + middleIn s + 1 in
+        operated-done i j (sym q) refl refl (plain-gives u w count n (omega arith) (omega (arith, work-is r, work-is s)) m-is)
+
+    pub operated-number : {n w : ℕ} → k ≤ 20 → n ≡ numberOf k a b → w ≡ n
+        → Gives (h + 4294967296 * w) (rule (operated k (outcomeIn r) (outcomeIn s)))
+    unfolding meaning operandType
+    operated-number {n} {w} g q v =
+        let t-is : t ≡ 3 = e ∙ simp (le-leb k 23 (omega arith)) in
+        let number-is : meaning k a b ≡ Plain 3 w = simp (le-leb k 20 g) (ap (Plain 3) (sym (v ∙ q))) in
+        operated-plain number-is (plain-yes 3 (omega arith) (omega arith)) (omega arith)
+
+    pub operated-compare : {z : Bool} {w : ℕ} → 20 < k → (k ≡ 21 → ⊥) → k ≤ 23 → z ≡ truthOf k a b → w ≡ (if z then 1 else 0)
+        → Gives ((h - 1) + 4294967296 * w) (rule (operated k (outcomeIn r) (outcomeIn s)))
+    unfolding operandType
+    operated-compare g n u q v =
+        let t-is : t ≡ 3 = e ∙ simp (le-leb k 23 u) in
+        operated-plain (meaning-test k a b g n q v) (plain-yes 2 (omega arith) (omega arith)) (omega arith)
+
+    pub operated-test : {z : Bool} {w : ℕ} → 23 < k → z ≡ truthOf k a b → w ≡ (if z then 1 else 0)
+        → Gives (h + 4294967296 * w) (rule (operated k (outcomeIn r) (outcomeIn s)))
+    unfolding operandType
+    operated-test u q v =
+        let t-is : t ≡ 2 = e ∙ simp (lt-leb k 23 u) in
+        operated-plain (meaning-test k a b (omega arith) (λ z. omega arith) q v) (plain-yes 2 (omega arith) (omega arith)) (omega arith)
 
 module _ (r : ℕ) {x : Word} (f : x ≡ wordBy boolT (outcomeIn r)) where
   pub negated-none : x ≡ Not → Gives 0 (rule (negated (outcomeIn r)))

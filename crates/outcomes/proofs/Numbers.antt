@@ -4,12 +4,11 @@ use mathlib.Core.Path.{_≡_, refl, ap, sym, _∙_}
 use mathlib.Core.Bool.{Bool, true, false}
 use Prim.Native.Nat.{ℕ, _+_, _*_, _<_, _-_}
 use native.Mathlib.Omega.{arith}
-use lib.Dec.{eqb, ltb, leb}
+use lib.Dec.{eqb, ltb}
 use borrow.Author.Tests.{eq-eqb, ne-eqb}
 use Rattle.rules.specs.Bytes.{Bytes, if_then_else_}
 use Rattle.rules.specs.Values.{intT, boolT, maybeOf, isPlain, valueFrom, packed, unpacked, typeIn, presentIn, middleIn, wordIn}
 use Rattle.rules.specs.Words.{quotientOf}
-use Rattle.rules.specs.Operations.{truth, truthOf, numberOf, meaning}
 use Rattle.rules.specs.Layout.{channelValue, wordOn, flagOn, eventOn}
 use Rattle.rules.specs.declared.Value.{Value}
 use Rattle.rules.specs.declared.Value.the-variants.{Plain, Absent, Present}
@@ -137,19 +136,10 @@ proper-channel rec c = go (ltb c 4) (eqb (flagOn rec (c - 4)) 1)
     go false true = proper-present 7 (omega arith) _ (plain-no 7 (omega arith))
     go false false = proper-absent 7 (omega arith) (plain-no 7 (omega arith))
 
-proper-quotient : (x y : ℕ) → IsProper (quotientOf x y)
+pub proper-quotient : (x y : ℕ) → IsProper (quotientOf x y)
 unfolding quotientOf maybeOf
 proper-quotient x y = go (eqb y 0) _
   where
     go : (p : Bool) (w : ℕ) → IsProper (if p then Absent 7 else Present 7 w)
     go true w = proper-absent 7 (omega arith) (plain-no 7 (omega arith))
     go false w = proper-present 7 (omega arith) w (plain-no 7 (omega arith))
-
-pub proper-meaning : (k x y : ℕ) → IsProper (meaning k x y)
-unfolding meaning truth
-proper-meaning k x y = go (leb k 20) (eqb k 21)
-  where
-    go : (p q : Bool) → IsProper (if p then Plain intT (numberOf k x y) else if q then quotientOf x y else truth (truthOf k x y))
-    go true q = proper-int _
-    go false true = proper-quotient x y
-    go false false = proper-bool _

@@ -33,7 +33,7 @@ use Rattle.outcomes.specs.declared.Parts.the-variants.{Maybe, Wrong}
 use Rattle.outcomes.specs.declared.Shown.{Shown}
 use Rattle.outcomes.proofs.Numbers.{proper-plain, exact-value}
 use Rattle.outcomes.proofs.Counted.{outcome-done, work-is, outcome-exact}
-pub use Rattle.outcomes.proofs.Numbers.{proper-from, proper-int, proper-channel, proper-meaning, proper-value, exact-same, exact-value}
+pub use Rattle.outcomes.proofs.Numbers.{proper-from, proper-int, proper-channel, proper-value, exact-same, exact-value}
 pub use Rattle.outcomes.proofs.Slots.{slots-none, slots-set, bind-value}
 pub use Rattle.outcomes.proofs.Counted.{work-is}
 

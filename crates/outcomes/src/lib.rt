@@ -2,6 +2,7 @@
 ghost use mathlib.Core.Path.{_≡_};
 ghost use mathlib.Core.Bool.{true};
 ghost use Prim.Native.Nat.{_+_, _*_, _<_};
+ghost use Rattle.rules.specs.Bytes.{if_then_else_};
 ghost use Rattle.rules.specs.Values.{isPlain, valueFrom, packed, unpacked, typeIn, presentIn, middleIn, wordIn};
 ghost use Rattle.rules.specs.Operations.{operandType};
 ghost use Rattle.rules.specs.Work.{give, after as afterOf, rule};
@@ -19,7 +20,9 @@ use values::is_maybe;
 use values::is_plain;
 use values::pack;
 use values::pack_from;
-use words::apply;
+use words::divide;
+use words::number;
+use words::test;
 
 // The arm that an if evaluates, with what its test counted.
 pub enum Arm {
@@ -194,9 +197,32 @@ fn operand_type(k: u8) -> u8
     if k <= 23 { INT } else { BOOL }
 }
 
-// An operation on two outcomes, by one rule.
+// A word as a 64-bit number.
+fn wide(x: u32) -> u64
+    ensures { λ r. ⌜ (r ≡ x) × (r < 4294967296) ⌝ }
+{
+    x as u64
+}
+
+// The word of a truth value.
+fn truth(x: bool) -> u64
+    ensures { λ r. ⌜ r ≡ (if x then 1 else 0) ⌝ }
+{
+    if x { 1 } else { 0 }
+}
+
+// The low half of an operation's result that has its operands' type: that type and the present byte as one operand has them, and both
+// counts and one more.
+fn low_half(r: u64, s: u64) -> u64
+    requires { ⌜ middleIn r + middleIn s < 65535 ⌝ }
+    ensures { λ h. ⌜ h ≡ typeIn r + 256 * presentIn r + 65536 * (middleIn r + middleIn s + 1) ⌝ }
+{
+    r % 4294967296 + 65536 * (work_in(s) + 1)
+}
+
+// An operation on two outcomes, by one rule. (The type of a comparison of ints, bool, is one below theirs.)
 pub fn operated(k: u8, r: u64, s: u64) -> u64
-    requires { ⌜ workOf (outcomeIn r) + workOf (outcomeIn s) < 65535 ⌝ }
+    requires { ⌜ IsOutcome r × (workOf (outcomeIn r) + workOf (outcomeIn s) < 65535) ⌝ }
     ensures { λ e. ⌜ (outcomeIn e ≡ rule (operatedOf k (outcomeIn r) (outcomeIn s))) × IsOutcome e ⌝ }
 {
     let t = operand_type(k);
@@ -206,7 +232,17 @@ pub fn operated(k: u8, r: u64, s: u64) -> u64
     let Word::Is(y) = plain_word(t, s) else {
         return 0;
     };
-    outcome(apply(k, x, y), work_in(r) + work_in(s) + 1)
+    if k <= 20 {
+        return low_half(r, s) + 4294967296 * wide(number(k, x, y));
+    }
+    if k == 21 {
+        return outcome(divide(x, y), work_in(r) + work_in(s) + 1);
+    }
+    let w = truth(test(k, x, y));
+    if k <= 23 {
+        return low_half(r, s) - 1 + 4294967296 * w;
+    }
+    low_half(r, s) + 4294967296 * w
 }
 
 // Not of an outcome, by one rule.

@@ -2,10 +2,9 @@
 ghost use mathlib.Core.Path.{_≡_};
 ghost use Prim.Native.Nat.{_<_};
 ghost use lib.IntN.{pos, negℤ, natAbs};
-ghost use Rattle.rules.specs.Operations.{numberOf, truthOf, meaning};
+ghost use Rattle.rules.specs.Operations.{numberOf, truthOf};
 ghost use Rattle.rules.specs.Words.{signed, wordOf, sumOf, differenceOf, productOf, quotientOf, isLess};
 ghost use Rattle.words.specs.Signs.{agreeZ};
-use rules::BOOL;
 use rules::INT;
 use rules::MAYBE;
 use rules::Value;
@@ -81,7 +80,7 @@ pub fn divide(x: u32, y: u32) -> Value
 }
 
 // Kinds 18-20: the number.
-fn number(k: u8, x: u32, y: u32) -> u32
+pub fn number(k: u8, x: u32, y: u32) -> u32
     ensures { λ r. ⌜ r ≡ numberOf k x y ⌝ }
 {
     if k == 18 {
@@ -94,7 +93,7 @@ fn number(k: u8, x: u32, y: u32) -> u32
 }
 
 // Kinds 22, 23, 25 and 26: the truth value.
-fn test(k: u8, x: u32, y: u32) -> bool
+pub fn test(k: u8, x: u32, y: u32) -> bool
     ensures { λ r. ⌜ r ≡ truthOf k x y ⌝ }
 {
     if k == 22 {
@@ -107,20 +106,4 @@ fn test(k: u8, x: u32, y: u32) -> bool
         return x == 1 && y == 1;
     }
     x == 1 || y == 1
-}
-
-// What an operation of kind k answers for two words.
-pub fn apply(k: u8, x: u32, y: u32) -> Value
-    ensures { λ r. ⌜ r ≡ meaning k x y ⌝ }
-{
-    if k <= 20 {
-        return Value::Plain(INT, number(k, x, y));
-    }
-    if k == 21 {
-        return divide(x, y);
-    }
-    if test(k, x, y) {
-        return Value::Plain(BOOL, 1);
-    }
-    Value::Plain(BOOL, 0)
 }

@@ -2,6 +2,7 @@
 ghost use mathlib.Core.Path.{_≡_};
 ghost use Prim.Native.Nat.{_<_};
 ghost use lib.ListN.{length};
+ghost use Rattle.rules.specs.Bytes.{Bytes};
 ghost use Rattle.rules.specs.Values.{unpacked};
 ghost use Rattle.rules.specs.Kinds.{isBranch};
 ghost use Rattle.rules.specs.Shaped.{NodeOf};
@@ -11,8 +12,9 @@ ghost use Rattle.rules.specs.Work.{moved, stays, ruleᵘ};
 ghost use Rattle.rules.specs.Evaluate.{bind};
 ghost use Rattle.rules.specs.Update.{caught, updS};
 ghost use Rattle.outcomes.specs.Outcome.{IsValue};
-ghost use Rattle.moves.specs.Outcomes.{workOf, occurred, walked, walkedOn, nextCases};
+ghost use Rattle.moves.specs.Outcomes.{workOf, countOf, occurred, walked, walkedOn, nextCases};
 ghost use Rattle.moves.specs.Parts.{inSwitch, switched, inGroup, entered};
+ghost use Rattle.update.specs.Passes.{quietly, IsQuiet, Passes};
 ghost use Rattle.moves.specs.Lent.{Ready, ReadyAs, Placed, ReadyC, CaseAs};
 use branches::has_branch;
 use cells::kind_of;
@@ -82,6 +84,97 @@ fn catches(p: &&[u8], index: &[u16; 1008], st: &mut [u8], i: usize, n: Node, r: 
             ruled(r)
         }
         Moved::Stuck => ruled(r),
+    }
+}
+
+// How far a loop brings a walk: the case where it stands, what the events before counted, and how many they are.
+pub struct Passed {
+    pub at: usize,
+    pub seen: u64,
+    pub kept: u64,
+}
+
+// What the event of case j counted, if it is absent, if its update does nothing (input, time and ext) and if a case follows; else 0.
+fn quiet(
+    p: &&[u8],
+    index: &[u16; 1008],
+    rec: &&[u8],
+    st: &[u8],
+    env: &mut [u64; 1008],
+    j: usize,
+    n: Node,
+) -> u64
+    requires { ⌜ CaseAs (now (now p)) (now index) (length (now st)) (now env) j n ⌝ }
+    ensures { λ u. ⌜ IsQuiet (now (now (p .entry))) (now (now (rec .entry))) (now (st .entry)) (now (env .entry)) j u × (now (env .exit) ≡ now (env .entry)) ⌝ }
+{
+    if n.b == 65535 {
+        return 0;
+    }
+    let kind = kind_of(*p, n.a);
+    if kind > 3 {
+        return 0;
+    }
+    let e = evaluated(p, index, rec, st, env, n.a);
+    let Parts::Maybe(event, u) = apart(e) else {
+        return 0;
+    };
+    let Event::Occurs(_) = event else {
+        return u.work;
+    };
+    0
+}
+
+// The cases from case j on that are quiet so are passed in a loop, each without a level of the walk's recursion.
+fn pass(
+    p: &&[u8],
+    index: &[u16; 1008],
+    rec: &&[u8],
+    st: &[u8],
+    env: &mut [u64; 1008],
+    j: usize,
+) -> Passed
+    requires { ⌜ ReadyC (now (now p)) (now index) (length (now st)) (now env) j ⌝ }
+    ensures { λ s. ⌜ Passes (now (now (p .entry))) (now (index .entry)) (now (now (rec .entry))) (now (st .entry)) (now (env .entry)) j s × (now (env .exit) ≡ now (env .entry)) ⌝ }
+{
+    let mut at = j;
+    let mut seen: u64 = 0;
+    let mut kept: u64 = 0;
+    let mut on = true;
+    while on {
+        let n = node(*p, at);
+        let next = n.b;
+        let u = quiet(p, index, rec, st, env, at, n);
+        on = u > 0;
+        if on {
+            seen += u;
+            kept += 1;
+            at = next;
+        }
+    }
+    Passed {
+        at: at,
+        seen: seen,
+        kept: kept,
+    }
+}
+
+// The walk's outcome with what was passed before it: the passed events' updates, a rule each, count only where none was present.
+fn added(s: Passed, o: Occurrence) -> Occurrence
+    requires { ⌜ (s .seen < 4294967296) × (s .kept < 4294967296) × (countOf o < 4294967296) ⌝ }
+    ensures { λ r. ⌜ ((st : Bytes) → occurred r st ≡ quietly (s .seen) (s .kept) (occurred o st)) ⌝ }
+{
+    match o {
+        Occurrence::Took(target, v, w) => Occurrence::Took(
+            target,
+            v,
+            Tally {
+                work: s.seen + w.work,
+            },
+        ),
+        Occurrence::Quiet(w) => Occurrence::Quiet(Tally {
+            work: s.seen + (s.kept + w.work),
+        }),
+        Occurrence::Stuck => Occurrence::Stuck,
     }
 }
 
@@ -315,8 +408,26 @@ fn update_until(
     }
 }
 
-// The cases from case j on: events in list order up to the first present one.
+// The cases from case j on: the quiet ones by a loop, then one that is not.
 fn walk(
+    p: &&[u8],
+    index: &[u16; 1008],
+    rec: &&[u8],
+    st: &mut [u8],
+    env: &mut [u64; 1008],
+    j: usize,
+) -> Occurrence
+    requires { ⌜ ReadyC (now (now p)) (now index) (length (now st)) (now env) j ⌝ }
+    ensures { λ r. ⌜ (occurred r (now (st .exit)) ≡ walked (now (now (rec .entry))) (now (env .entry)) (casesAt (now (now (p .entry))) j) (now (st .entry))) × (now (env .exit) ≡ now (env .entry)) ⌝ }
+{
+    let s = pass(p, index, rec, st, env, j);
+    let at = s.at;
+    let o = walk_case(p, index, rec, st, env, at);
+    added(s, o)
+}
+
+// The cases from case j on: events in list order up to the first present one.
+fn walk_case(
     p: &&[u8],
     index: &[u16; 1008],
     rec: &&[u8],

@@ -11,8 +11,7 @@ use Rattle.rules.specs.Tree.{exprAt, signalAt, branchesAt, casesAt}
 use Rattle.rules.specs.Bound.{boundE, boundS, boundSB, boundSC, boundU, boundUB, boundUC}
 use Rattle.rules.proofs.Bounds.{boundE≤, boundS≤, boundSB≤, boundSC≤, boundU≤, boundUB≤, boundUC≤}
 use Rattle.rules.proofs.Kids.{Child}
-use Rattle.bound.specs.declared.Bounds.{Bounds}
-use Rattle.bound.specs.Small.{nodesE, nodesS, nodesB, nodesC, Small, Most, BoundsOf}
+use Rattle.bound.specs.Small.{nodesE, nodesS, nodesB, nodesC, evalIn, updateIn, Small, Most, BoundsOf}
 
 -- A child that is small.
 pub record Part (sort : ℕ → Bool) (size : Bytes → ℕ → ℕ) (p : Bytes) (n x : ℕ) : Type 0 where
@@ -28,7 +27,7 @@ pub read : {sort : ℕ → Bool} {size : Bytes → ℕ → ℕ} {p : Bytes} {n x
 read {sort} {size} {p} {n} e k = subst (Part sort size p n) (sym e) k
 
 -- The bounds of a tree of a size: at most the size, and at most its square.
-bounded : (b : Bounds) (eval update size : ℕ) → size ≤ 1008 → eval ≤ size → update ≤ size * size → b .eval ≡ eval → b .update ≡ update
+bounded : (b : ℕ) (eval update size : ℕ) → size ≤ 1008 → eval ≤ size → update ≤ size * size → evalIn b ≡ eval → updateIn b ≡ update
     → BoundsOf eval update b
 bounded b eval update size h e u p q =
     let s : size * size ≤ 1008 * 1008 = mul-le-mul h h in
@@ -38,14 +37,14 @@ module _ (p : Bytes) (n : ℕ) where
   pub bounded-e : Small isExpression nodesE p n → {r : ℕ} → r ≡ boundE (exprAt p n) → (r ≡ boundE (exprAt p n)) × (r ≤ 1008)
   bounded-e w e = (e, omega (arith, boundE≤ (exprAt p n), w .small))
 
-  pub bounded-s : Small isSignal nodesS p n → {b : Bounds} → b .eval ≡ boundS (signalAt p n) → b .update ≡ boundU (signalAt p n)
+  pub bounded-s : Small isSignal nodesS p n → {b : ℕ} → evalIn b ≡ boundS (signalAt p n) → updateIn b ≡ boundU (signalAt p n)
       → BoundsOf (boundS (signalAt p n)) (boundU (signalAt p n)) b
   bounded-s w = bounded _ _ _ _ (w .small) (boundS≤ (signalAt p n)) (boundU≤ (signalAt p n))
 
-  pub bounded-b : Small isBranch nodesB p n → {b : Bounds} → b .eval ≡ boundSB (branchesAt p n) → b .update ≡ boundUB (branchesAt p n)
+  pub bounded-b : Small isBranch nodesB p n → {b : ℕ} → evalIn b ≡ boundSB (branchesAt p n) → updateIn b ≡ boundUB (branchesAt p n)
       → BoundsOf (boundSB (branchesAt p n)) (boundUB (branchesAt p n)) b
   bounded-b w = bounded _ _ _ _ (w .small) (boundSB≤ (branchesAt p n)) (boundUB≤ (branchesAt p n))
 
-  pub bounded-c : Small isCase nodesC p n → {b : Bounds} → b .eval ≡ boundSC (casesAt p n) → b .update ≡ boundUC (casesAt p n)
+  pub bounded-c : Small isCase nodesC p n → {b : ℕ} → evalIn b ≡ boundSC (casesAt p n) → updateIn b ≡ boundUC (casesAt p n)
       → BoundsOf (boundSC (casesAt p n)) (boundUC (casesAt p n)) b
   bounded-c w = bounded _ _ _ _ (w .small) (boundSC≤ (casesAt p n)) (boundUC≤ (casesAt p n))

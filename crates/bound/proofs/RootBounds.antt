@@ -9,8 +9,7 @@ use Rattle.rules.specs.Shaped.{NodeOf}
 use Rattle.rules.specs.Size.{sizeS}
 use Rattle.rules.specs.Tree.{signalAt, root}
 use Rattle.rules.specs.Bound.{boundS, boundU, bound}
-use Rattle.bound.specs.declared.Bounds.{Bounds}
-use Rattle.bound.specs.Small.{nodesS, Small, BoundsOf}
+use Rattle.bound.specs.Small.{nodesS, evalIn, updateIn, Small, BoundsOf}
 
 module _ (p : Bytes) (count : ℕ) (e : count ≡ nodes p) where
   root-at : signalAt p (count - 1) ≡ root p
@@ -20,6 +19,6 @@ module _ (p : Bytes) (count : ℕ) (e : count ≡ nodes p) where
   pub root-small : NodeOf isSignal p (count - 1) → sizeS (root p) ≤ 1008 → Small isSignal nodesS p (count - 1)
   root-small w h = record { node = w; small = rw root-at h }
 
-  pub root-bound : (b : Bounds) → BoundsOf (boundS (signalAt p (count - 1))) (boundU (signalAt p (count - 1))) b → b .eval + b .update ≡ bound p
+  pub root-bound : (b : ℕ) → BoundsOf (boundS (signalAt p (count - 1))) (boundU (signalAt p (count - 1))) b → evalIn b + updateIn b ≡ bound p
   unfolding bound
   root-bound b k = rw (k .eval-is, k .update-is, root-at)

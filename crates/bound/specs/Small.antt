@@ -2,12 +2,11 @@
 -- Assumes nothing: these are definitions.
 use mathlib.Core.Path.{_≡_}
 use mathlib.Core.Bool.{Bool}
-use Prim.Native.Nat.{ℕ, _≤_}
+use Prim.Native.Nat.{ℕ, _/_, _%_, _≤_}
 use Rattle.rules.specs.Bytes.{Bytes}
 use Rattle.rules.specs.Shaped.{NodeOf}
 use Rattle.rules.specs.Size.{sizeE, sizeS, sizeB, sizeC}
 use Rattle.rules.specs.Tree.{exprAt, signalAt, branchesAt, casesAt}
-use Rattle.bound.specs.declared.Bounds.{Bounds}
 
 -- The number of nodes of the tree at a node, by sort.
 abbrev pub nodesE : Bytes → ℕ → ℕ
@@ -27,13 +26,20 @@ pub record Small (sort : ℕ → Bool) (size : Bytes → ℕ → ℕ) (p : Bytes
   pub node : NodeOf sort p i
   pub small : size p i ≤ 1008
 
+-- Both bounds as one number: that of the evaluation in the low half, that of the update in the high one.
+unfoldable pub evalIn : ℕ → ℕ
+evalIn m = m % 4294967296
+
+unfoldable pub updateIn : ℕ → ℕ
+updateIn m = m / 4294967296
+
 -- Bounds of a tree of at most 1008 nodes.
-pub record Most (b : Bounds) : Type 0 where
-  pub eval-most : b .eval ≤ 1008
-  pub update-most : b .update ≤ 1016064
+pub record Most (m : ℕ) : Type 0 where
+  pub eval-most : evalIn m ≤ 1008
+  pub update-most : updateIn m ≤ 1016064
 
 -- Both bounds of a tree, and that they are small.
-pub record BoundsOf (eval update : ℕ) (b : Bounds) : Type 0 where
-  pub eval-is : b .eval ≡ eval
-  pub update-is : b .update ≡ update
-  pub most : Most b
+pub record BoundsOf (eval update : ℕ) (m : ℕ) : Type 0 where
+  pub eval-is : evalIn m ≡ eval
+  pub update-is : updateIn m ≡ update
+  pub most : Most m

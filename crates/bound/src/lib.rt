@@ -7,13 +7,28 @@ ghost use Rattle.rules.specs.Tree.{exprAt, signalAt, branchesAt, casesAt, root}
 ghost use Rattle.rules.specs.Size.{sizeS};
 ghost use Rattle.rules.specs.Bound.{boundE, boundS, boundSB, boundSC, boundU, boundUB, boundUC, bound};
 ghost use Rattle.rules.specs.Shaped.{NodeOf};
-ghost use Rattle.bound.specs.Small.{nodesE, nodesS, nodesB, nodesC, Small, Most, BoundsOf};
+ghost use Rattle.bound.specs.Small.{nodesE, nodesS, nodesB, nodesC, evalIn, updateIn, Small, Most, BoundsOf};
 use table::node;
 
-// The bounds of a signal's evaluation and of its update.
-pub struct Bounds {
-    pub eval: u32,
-    pub update: u32,
+// The bounds of a signal's evaluation and of its update as one number, so that a recursion answers both in a register.
+fn bounds(eval: u32, update: u32) -> u64
+    ensures { λ r. ⌜ (evalIn r ≡ eval) × (updateIn r ≡ update) ⌝ }
+{
+    (eval as u64) + 4294967296 * (update as u64)
+}
+
+// The bound of its evaluation.
+fn eval_in(m: u64) -> u32
+    ensures { λ r. ⌜ r ≡ evalIn m ⌝ }
+{
+    (m % 4294967296) as u32
+}
+
+// The bound of its update.
+fn update_in(m: u64) -> u32
+    ensures { λ r. ⌜ r ≡ updateIn m ⌝ }
+{
+    (m / 4294967296) as u32
 }
 
 // The larger of two bounds: either part or arm may be the one that runs.
@@ -48,90 +63,84 @@ fn over_arms(test: u32, x: u32, y: u32) -> u32
 }
 
 // An evaluation alone: the update of such a signal is one rule.
-fn evaluated(x: u32) -> Bounds
+fn evaluated(x: u32) -> u64
     requires { ⌜ x ≤ 1008 ⌝ }
-    ensures { λ r. ⌜ (r .eval ≡ 1 + x) × (r .update ≡ 1) ⌝ }
+    ensures { λ r. ⌜ (evalIn r ≡ 1 + x) × (updateIn r ≡ 1) ⌝ }
 {
-    Bounds {
-        eval: 1 + x,
-        update: 1,
-    }
+    bounds(1 + x, 1)
 }
 
 // A delay answers at once; its update evaluates and updates what it delays.
-fn delayed(s: Bounds) -> Bounds
+fn delayed(s: u64) -> u64
     requires { ⌜ Most s ⌝ }
-    ensures { λ r. ⌜ (r .eval ≡ 1) × (r .update ≡ 1 + (s .eval + s .update)) ⌝ }
+    ensures { λ r. ⌜ (evalIn r ≡ 1) × (updateIn r ≡ 1 + (evalIn s + updateIn s)) ⌝ }
 {
-    Bounds {
-        eval: 1,
-        update: 1 + (s.eval + s.update),
-    }
+    bounds(1, 1 + (eval_in(s) + update_in(s)))
 }
 
 // A let runs its definition and its body.
-fn letting(d: Bounds, b: Bounds) -> Bounds
+fn letting(d: u64, b: u64) -> u64
     requires { ⌜ Most d × Most b ⌝ }
-    ensures { λ r. ⌜ (r .eval ≡ 1 + (d .eval + b .eval)) × (r .update ≡ 1 + (d .eval + (d .update + b .update))) ⌝ }
+    ensures { λ r. ⌜ (evalIn r ≡ 1 + (evalIn d + evalIn b)) × (updateIn r ≡ 1 + (evalIn d + (updateIn d + updateIn b))) ⌝ }
 {
-    Bounds {
-        eval: 1 + (d.eval + b.eval),
-        update: 1 + (d.eval + (d.update + b.update)),
-    }
+    bounds(
+        1 + (eval_in(d) + eval_in(b)),
+        1 + (eval_in(d) + (update_in(d) + update_in(b))),
+    )
 }
 
 // A switch runs either part, and its event at the update.
-fn switching(x: Bounds, e: Bounds, y: Bounds) -> Bounds
+fn switching(x: u64, e: u64, y: u64) -> u64
     requires { ⌜ Most x × Most e × Most y ⌝ }
-    ensures { λ r. ⌜ (r .eval ≡ 1 + max (x .eval) (y .eval)) × (r .update ≡ 1 + (e .eval + (e .update + max (x .update) (y .update)))) ⌝ }
+    ensures { λ r. ⌜ (evalIn r ≡ 1 + max (evalIn x) (evalIn y)) × (updateIn r ≡ 1 + (evalIn e + (updateIn e + max (updateIn x) (updateIn y)))) ⌝ }
 {
-    Bounds {
-        eval: 1 + larger(x.eval, y.eval),
-        update: 1 + (e.eval + (e.update + larger(x.update, y.update))),
-    }
+    bounds(
+        1 + larger(eval_in(x), eval_in(y)),
+        1 + (eval_in(e) + (update_in(e) + larger(update_in(x), update_in(y)))),
+    )
 }
 
 // A group runs its body or one of its branches.
-fn grouping(body: Bounds, brs: Bounds) -> Bounds
+fn grouping(body: u64, brs: u64) -> u64
     requires { ⌜ Most body × Most brs ⌝ }
-    ensures { λ r. ⌜ (r .eval ≡ 1 + max (body .eval) (brs .eval)) × (r .update ≡ 1 + max (body .update) (brs .update)) ⌝ }
+    ensures { λ r. ⌜ (evalIn r ≡ 1 + max (evalIn body) (evalIn brs)) × (updateIn r ≡ 1 + max (updateIn body) (updateIn brs)) ⌝ }
 {
-    Bounds {
-        eval: 1 + larger(body.eval, brs.eval),
-        update: 1 + larger(body.update, brs.update),
-    }
+    bounds(
+        1 + larger(eval_in(body), eval_in(brs)),
+        1 + larger(update_in(body), update_in(brs)),
+    )
 }
 
 // An until runs its signal, and all its events at the update.
-fn leaving(s: Bounds, cases: Bounds) -> Bounds
+fn leaving(s: u64, cases: u64) -> u64
     requires { ⌜ Most s × Most cases ⌝ }
-    ensures { λ r. ⌜ (r .eval ≡ 1 + s .eval) × (r .update ≡ 1 + (cases .eval + (cases .update + s .update))) ⌝ }
+    ensures { λ r. ⌜ (evalIn r ≡ 1 + evalIn s) × (updateIn r ≡ 1 + (evalIn cases + (updateIn cases + updateIn s))) ⌝ }
 {
-    Bounds {
-        eval: 1 + s.eval,
-        update: 1 + (cases.eval + (cases.update + s.update)),
-    }
+    bounds(
+        1 + eval_in(s),
+        1 + (eval_in(cases) + (update_in(cases) + update_in(s))),
+    )
 }
 
 // The largest of a list's branches.
-fn largest(body: Bounds, rest: Bounds) -> Bounds
-    ensures { λ r. ⌜ (r .eval ≡ max (body .eval) (rest .eval)) × (r .update ≡ max (body .update) (rest .update)) ⌝ }
+fn largest(body: u64, rest: u64) -> u64
+    ensures { λ r. ⌜ (evalIn r ≡ max (evalIn body) (evalIn rest)) × (updateIn r ≡ max (updateIn body) (updateIn rest)) ⌝ }
 {
-    Bounds {
-        eval: larger(body.eval, rest.eval),
-        update: larger(body.update, rest.update),
-    }
+    bounds(
+        larger(eval_in(body), eval_in(rest)),
+        larger(update_in(body), update_in(rest)),
+    )
 }
 
 // The sum over a list's events.
-fn sum(event: Bounds, rest: Bounds) -> Bounds
+fn sum(event: u64, rest: u64) -> u64
     requires { ⌜ Most event × Most rest ⌝ }
-    ensures { λ r. ⌜ (r .eval ≡ event .eval + rest .eval) × (r .update ≡ event .update + rest .update) ⌝ }
+    ensures { λ r. ⌜ (evalIn r ≡ evalIn event + evalIn rest) × (updateIn r ≡ updateIn event + updateIn rest) ⌝ }
 {
-    Bounds {
-        eval: event.eval + rest.eval,
-        update: event.update + rest.update,
-    }
+    bounds(
+        eval_in(event) + eval_in(rest),
+        update_in(event) + update_in(rest),
+    )
 }
 
 // Expression i as a part: a variable or a constant is one rule, answered without a call.
@@ -181,14 +190,14 @@ pub fn bound_e(p: &&[u8], i: usize) -> u32
 }
 
 // Signal i.
-pub fn bound_s(p: &&[u8], i: usize) -> Bounds
+pub fn bound_s(p: &&[u8], i: usize) -> u64
     requires { ⌜ Small isSignal nodesS (now (now p)) i ⌝ }
     ensures { λ r. ⌜ BoundsOf (boundS (signalAt (now (now (p .entry))) i)) (boundU (signalAt (now (now (p .entry))) i)) r ⌝ }
 {
     let n = node(*p, i);
     let k = n.kind;
     match k {
-        1 => Bounds { eval: 1, update: 1 },
+        1 => bounds(1, 1),
         3 => evaluated(bound_e(p, n.a)),
         4 => delayed(bound_s(p, n.a)),
         5 => {
@@ -212,33 +221,33 @@ pub fn bound_s(p: &&[u8], i: usize) -> Bounds
             let cases = bound_c(p, n.b);
             leaving(s, cases)
         }
-        _ => Bounds { eval: 1, update: 1 },
+        _ => bounds(1, 1),
     }
 }
 
 // The list of branches at node j: the largest of both.
-pub fn bound_b(p: &&[u8], j: usize) -> Bounds
+pub fn bound_b(p: &&[u8], j: usize) -> u64
     requires { ⌜ Small isBranch nodesB (now (now p)) j ⌝ }
     ensures { λ r. ⌜ BoundsOf (boundSB (branchesAt (now (now (p .entry))) j)) (boundUB (branchesAt (now (now (p .entry))) j)) r ⌝ }
 {
     let n = node(*p, j);
     let body = bound_s(p, n.a);
     if n.b == 65535 {
-        return largest(body, Bounds { eval: 0, update: 0 });
+        return largest(body, bounds(0, 0));
     }
     let rest = bound_b(p, n.b);
     largest(body, rest)
 }
 
 // The list of cases at node j: the sum of both.
-pub fn bound_c(p: &&[u8], j: usize) -> Bounds
+pub fn bound_c(p: &&[u8], j: usize) -> u64
     requires { ⌜ Small isCase nodesC (now (now p)) j ⌝ }
     ensures { λ r. ⌜ BoundsOf (boundSC (casesAt (now (now (p .entry))) j)) (boundUC (casesAt (now (now (p .entry))) j)) r ⌝ }
 {
     let n = node(*p, j);
     let event = bound_s(p, n.a);
     if n.b == 65535 {
-        return sum(event, Bounds { eval: 0, update: 0 });
+        return sum(event, bounds(0, 0));
     }
     let rest = bound_c(p, n.b);
     sum(event, rest)
@@ -250,5 +259,5 @@ pub fn bound_of(p: &[u8], count: usize) -> u32
     ensures { λ r. ⌜ r ≡ bound (now (p .entry)) ⌝ }
 {
     let b = bound_s(&p, count - 1);
-    b.eval + b.update
+    eval_in(b) + update_in(b)
 }

@@ -162,6 +162,22 @@ fn index_branches(p: &[u8], index: &mut [u16], count: usize)
     }
 }
 
+// How many cells the nodes have.
+pub fn count_cells(p: &[u8], count: usize) -> usize
+    requires { ⌜ Shaped (now p) × (count ≡ nodes (now p)) ⌝ }
+    ensures { λ r. ⌜ r ≡ cellsBefore (now (p .entry)) count ⌝ }
+{
+    let mut seen: usize = 0;
+    let mut i: usize = 0;
+    while i < count {
+        if has_cell(kind_of(p, i)) {
+            seen += 1;
+        }
+        i += 1;
+    }
+    seen
+}
+
 // The table, filled in two passes; the answer is how many cells the nodes have.
 pub fn index_cells(p: &[u8], index: &mut [u16], count: usize) -> usize
     requires { ⌜ Shaped (now p) × ListedOnce (now p) × (count ≡ nodes (now p)) × (count ≤ length (now index)) ⌝ }

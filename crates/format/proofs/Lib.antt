@@ -1,3 +1,4 @@
 pub mod SearchLaws
 pub mod SumLaws
 pub mod RecordLaws
+pub mod RowLaws

@@ -3,21 +3,18 @@ ghost use mathlib.Core.Path.{_≡_};
 ghost use mathlib.Core.Bool.{Bool, false};
 ghost use Prim.Native.Nat.{suc, _+_, _*_, _≤_, _<_};
 ghost use lib.ListN.{length, take, drop};
-ghost use Rattle.rules.specs.Bytes.{first};
+ghost use Rattle.rules.specs.Bytes.{_or_, first};
 ghost use Rattle.rules.specs.Values.{isPlain, isMaybe, isType, valueFits};
-ghost use Rattle.rules.specs.Kinds.{isKind};
 ghost use Rattle.rules.specs.Layout.{blocks, records, nodes, kindAt};
 ghost use Rattle.rules.specs.Format.{lengthWrong, checkOf, sumWrong, numberWrong, fieldWrong, typeFieldWrong, nodeWrong, isZero, mayEnd, afterEnd, recordWrong};
 use kinds::both;
 use kinds::either;
-use kinds::fields_of;
-use kinds::is_expression;
-use kinds::is_signal;
 use rules::Field;
+use rules::Node;
 use rules::Place;
 use rules::TypeField;
-use table::fields;
-use table::record_at;
+use table::node;
+use table::node_at;
 use table::u16_at;
 use table::u32_at;
 
@@ -163,45 +160,83 @@ fn type_field_wrong(f: TypeField, t: u8, b: usize, w: u32) -> bool
     }
 }
 
-// The kinds are signals, branch, case and expressions.
-fn is_kind(k: u8) -> bool
-    ensures { λ r. ⌜ r ≡ isKind k ⌝ }
+// The fields of a record of a kind whose row is given are not as the row says.
+fn row_wrong(n: Node, t: TypeField, a: Field, b: Field, c: Field) -> bool
+    ensures { λ r. ⌜ r ≡ (typeFieldWrong t (n .ty) (n .b) (n .word) or fieldWrong a (n .a) or fieldWrong b (n .b) or fieldWrong c (n .c)) ⌝ }
 {
-    either(
-        either(either(is_signal(k), k == 9), k == 10),
-        is_expression(k),
-    )
+    let ty = type_field_wrong(t, n.ty, n.b, n.word);
+    let x = field_wrong(a, n.a);
+    let y = field_wrong(b, n.b);
+    let z = field_wrong(c, n.c);
+    either(either(either(ty, x), y), z)
 }
 
-// A record of a kind is not as the table says.
+// A row that names no type.
+fn no_type(n: Node, a: Field, b: Field, c: Field) -> bool
+    ensures { λ r. ⌜ r ≡ (typeFieldWrong TypeField.NoType (n .ty) (n .b) (n .word) or fieldWrong a (n .a) or fieldWrong b (n .b) or fieldWrong c (n .c)) ⌝ }
+{
+    row_wrong(n, TypeField::NoType, a, b, c)
+}
+
+// A row that names a type.
+fn any_type(n: Node, a: Field, b: Field, c: Field) -> bool
+    ensures { λ r. ⌜ r ≡ (typeFieldWrong TypeField.AnyType (n .ty) (n .b) (n .word) or fieldWrong a (n .a) or fieldWrong b (n .b) or fieldWrong c (n .c)) ⌝ }
+{
+    row_wrong(n, TypeField::AnyType, a, b, c)
+}
+
+// A row that names a plain type.
+fn plain_type(n: Node, a: Field, b: Field, c: Field) -> bool
+    ensures { λ r. ⌜ r ≡ (typeFieldWrong TypeField.PlainType (n .ty) (n .b) (n .word) or fieldWrong a (n .a) or fieldWrong b (n .b) or fieldWrong c (n .c)) ⌝ }
+{
+    row_wrong(n, TypeField::PlainType, a, b, c)
+}
+
+// A row that names a value: a type, a present byte and a word.
+fn value_type(n: Node, a: Field, b: Field, c: Field) -> bool
+    ensures { λ r. ⌜ r ≡ (typeFieldWrong TypeField.ValueType (n .ty) (n .b) (n .word) or fieldWrong a (n .a) or fieldWrong b (n .b) or fieldWrong c (n .c)) ⌝ }
+{
+    row_wrong(n, TypeField::ValueType, a, b, c)
+}
+
+// A record is not as the paper's table says: one decision over its kind, a row for each.
 fn node_wrong(p: &[u8], r: usize) -> bool
-    requires { ⌜ r < records (now p) ⌝ }
+    requires { ⌜ (r < records (now p)) × (r < 1008) ⌝ }
     ensures { λ wrong. ⌜ wrong ≡ nodeWrong (now (p .entry)) r ⌝ }
 {
-    let n = fields(p, r);
-    let row = fields_of(n.kind);
-    let ft = row.ty;
-    let fa = row.a;
-    let fb = row.b;
-    let fc = row.c;
-    let kind = !is_kind(n.kind);
-    let ty = type_field_wrong(ft, n.ty, n.b, n.word);
-    let a = field_wrong(fa, n.a);
-    let b = field_wrong(fb, n.b);
-    let c = field_wrong(fc, n.c);
-    either(either(either(either(kind, ty), a), b), c)
+    let n = node(p, r);
+    let k = n.kind;
+    match k {
+        1 => no_type(n, Field::Channel, Field::Unused, Field::Unused),
+        2 => no_type(n, Field::Unused, Field::Unused, Field::Unused),
+        3 => no_type(n, Field::Expression, Field::Unused, Field::Unused),
+        4 => value_type(n, Field::Signal, Field::PresentByte, Field::Unused),
+        5 => any_type(n, Field::Signal, Field::Signal, Field::Unused),
+        6 => plain_type(n, Field::Signal, Field::Signal, Field::Signal),
+        7 => no_type(n, Field::Signal, Field::FirstBranch, Field::Unused),
+        8 => no_type(n, Field::Signal, Field::FirstCase, Field::Unused),
+        9 => plain_type(n, Field::Signal, Field::NextBranch, Field::Unused),
+        10 => no_type(n, Field::Signal, Field::NextCase, Field::Target),
+        16 => no_type(n, Field::Binder, Field::Unused, Field::Unused),
+        17 => value_type(n, Field::Unused, Field::PresentByte, Field::Unused),
+        18..=23 => no_type(n, Field::Expression, Field::Expression, Field::Unused),
+        24 => no_type(n, Field::Expression, Field::Unused, Field::Unused),
+        25..=26 => no_type(n, Field::Expression, Field::Expression, Field::Unused),
+        27 => no_type(n, Field::Expression, Field::Expression, Field::Expression),
+        28 => no_type(n, Field::Expression, Field::Unused, Field::Unused),
+        29 => plain_type(n, Field::Expression, Field::Expression, Field::Expression),
+        _ => true,
+    }
 }
 
-// All 12 bytes of a record are zero.
+// All 12 bytes of a record are zero: all its fields are.
 fn is_zero(p: &[u8], r: usize) -> bool
-    requires { ⌜ r < records (now p) ⌝ }
+    requires { ⌜ (r < records (now p)) × (r < 1008) ⌝ }
     ensures { λ zero. ⌜ zero ≡ isZero (now (p .entry)) r ⌝ }
 {
-    let at = record_at(p, r);
-    both(
-        both(u32_at(p, at) == 0, u32_at(p, at + 4) == 0),
-        u32_at(p, at + 8) == 0,
-    )
+    let n = node(p, r);
+    let low = both(both(n.kind == 0, n.ty == 0), n.a == 0);
+    both(both(low, both(n.b == 0, n.c == 0)), n.word == 0)
 }
 
 // Kind 0 stands only in the last block, not as its first record.
@@ -209,21 +244,21 @@ fn may_end(p: &[u8], r: usize) -> bool
     requires { ⌜ r < records (now p) ⌝ }
     ensures { λ may. ⌜ may ≡ mayEnd (now (p .entry)) r ⌝ }
 {
-    both(r / 42 + 1 == p.len() / 512, r % 42 != 0)
+    42 * (p.len() / 512 - 1) < r
 }
 
 // The kind of record r.
 fn kind_at(p: &[u8], r: usize) -> u8
-    requires { ⌜ r < records (now p) ⌝ }
+    requires { ⌜ (r < records (now p)) × (r < 1008) ⌝ }
     ensures { λ k. ⌜ k ≡ kindAt (now (p .entry)) r ⌝ }
 {
-    let at = record_at(p, r);
+    let at = node_at(p, r);
     p[at]
 }
 
 // The record before is of kind 0.
 fn after_end(p: &[u8], r: usize) -> bool
-    requires { ⌜ r < records (now p) ⌝ }
+    requires { ⌜ (r < records (now p)) × (r < 1008) ⌝ }
     ensures { λ ended. ⌜ ended ≡ afterEnd (now (p .entry)) r ⌝ }
 {
     if r == 0 {
@@ -234,7 +269,7 @@ fn after_end(p: &[u8], r: usize) -> bool
 
 // Code 4 at record r. A record of kind 0, and every later one, is all zero.
 fn record_wrong(p: &[u8], r: usize) -> bool
-    requires { ⌜ r < records (now p) ⌝ }
+    requires { ⌜ (r < records (now p)) × (r < 1008) ⌝ }
     ensures { λ wrong. ⌜ wrong ≡ recordWrong (now (p .entry)) r ⌝ }
 {
     if kind_at(p, r) == 0 {

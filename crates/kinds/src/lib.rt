@@ -1,12 +1,10 @@
-// The table of kinds: what each kind's fields are, and what a field asks of the number in it.
+// The kinds: which are signals and expressions, and what a field asks of the number in it.
 ghost use mathlib.Core.Path.{_≡_};
 ghost use mathlib.Core.Bool.{Bool};
 ghost use Rattle.rules.specs.Bytes.{_and_, _or_};
-ghost use Rattle.rules.specs.Kinds.{isExpression, isSignal, fieldsOf};
+ghost use Rattle.rules.specs.Kinds.{isExpression, isSignal};
 ghost use Rattle.rules.specs.Shape.{isChild, mayBe, mayStop};
 use rules::Field;
-use rules::Fields;
-use rules::TypeField;
 
 // Both of two tests.
 pub fn both(x: bool, y: bool) -> bool
@@ -34,123 +32,6 @@ pub fn is_expression(k: u8) -> bool
     ensures { λ r. ⌜ r ≡ isExpression k ⌝ }
 {
     both(16 <= k, k <= 29)
-}
-
-// The paper's table of kinds, as one decision over the kind number: signals, branch and case, then expressions.
-// (Kinds that it does not have are as kind 2, time: no field.)
-pub fn fields_of(k: u8) -> Fields
-    ensures { λ r. ⌜ r ≡ fieldsOf k ⌝ }
-{
-    match k {
-        1 => Fields {
-            ty: TypeField::NoType,
-            a: Field::Channel,
-            b: Field::Unused,
-            c: Field::Unused,
-        },
-        3 => Fields {
-            ty: TypeField::NoType,
-            a: Field::Expression,
-            b: Field::Unused,
-            c: Field::Unused,
-        },
-        4 => Fields {
-            ty: TypeField::ValueType,
-            a: Field::Signal,
-            b: Field::PresentByte,
-            c: Field::Unused,
-        },
-        5 => Fields {
-            ty: TypeField::AnyType,
-            a: Field::Signal,
-            b: Field::Signal,
-            c: Field::Unused,
-        },
-        6 => Fields {
-            ty: TypeField::PlainType,
-            a: Field::Signal,
-            b: Field::Signal,
-            c: Field::Signal,
-        },
-        7 => Fields {
-            ty: TypeField::NoType,
-            a: Field::Signal,
-            b: Field::FirstBranch,
-            c: Field::Unused,
-        },
-        8 => Fields {
-            ty: TypeField::NoType,
-            a: Field::Signal,
-            b: Field::FirstCase,
-            c: Field::Unused,
-        },
-        9 => Fields {
-            ty: TypeField::PlainType,
-            a: Field::Signal,
-            b: Field::NextBranch,
-            c: Field::Unused,
-        },
-        10 => Fields {
-            ty: TypeField::NoType,
-            a: Field::Signal,
-            b: Field::NextCase,
-            c: Field::Target,
-        },
-        16 => Fields {
-            ty: TypeField::NoType,
-            a: Field::Binder,
-            b: Field::Unused,
-            c: Field::Unused,
-        },
-        17 => Fields {
-            ty: TypeField::ValueType,
-            a: Field::Unused,
-            b: Field::PresentByte,
-            c: Field::Unused,
-        },
-        18..=23 => Fields {
-            ty: TypeField::NoType,
-            a: Field::Expression,
-            b: Field::Expression,
-            c: Field::Unused,
-        },
-        24 => Fields {
-            ty: TypeField::NoType,
-            a: Field::Expression,
-            b: Field::Unused,
-            c: Field::Unused,
-        },
-        25..=26 => Fields {
-            ty: TypeField::NoType,
-            a: Field::Expression,
-            b: Field::Expression,
-            c: Field::Unused,
-        },
-        27 => Fields {
-            ty: TypeField::NoType,
-            a: Field::Expression,
-            b: Field::Expression,
-            c: Field::Expression,
-        },
-        28 => Fields {
-            ty: TypeField::NoType,
-            a: Field::Expression,
-            b: Field::Unused,
-            c: Field::Unused,
-        },
-        29 => Fields {
-            ty: TypeField::PlainType,
-            a: Field::Expression,
-            b: Field::Expression,
-            c: Field::Expression,
-        },
-        _ => Fields {
-            ty: TypeField::NoType,
-            a: Field::Unused,
-            b: Field::Unused,
-            c: Field::Unused,
-        },
-    }
 }
 
 // Which fields name a child. Variable binders and case targets do not.

@@ -1,37 +1,44 @@
-// Places where something is wrong: the smaller of two, and a place unless it is right.
+// Places where something is wrong, as numbers, so that a recursion answers one in a register: the smaller of two, a place unless it is right or
+// if it is wrong, and the place itself.
 ghost use mathlib.Core.Path.{_≡_};
 ghost use Prim.Native.Nat.{_<_};
-ghost use Rattle.rules.specs.Places.{sooner as soonerOf, wrongUnless};
+ghost use Rattle.rules.specs.Places.{sooner as soonerOf, wrongUnless, wrongIf};
+ghost use Rattle.places.specs.Numbers.{placeIn};
 use rules::Place;
 
-// The smaller of two numbers, as places.
-fn smaller(m: u32, n: u32) -> u32
-    ensures { λ r. ⌜ Place.At r ≡ soonerOf (Place.At m) (Place.At n) ⌝ }
-{
-    if m <= n { m } else { n }
-}
+// No place: above every node's number.
+pub const NOWHERE: u32 = 65535;
 
 // The smaller of two places, where there is one.
-pub fn sooner(x: Place, y: Place) -> Place
-    ensures { λ r. ⌜ r ≡ soonerOf x y ⌝ }
+pub fn sooner(x: u32, y: u32) -> u32
+    ensures { λ r. ⌜ placeIn r ≡ soonerOf (placeIn x) (placeIn y) ⌝ }
 {
-    match x {
-        Place::Nowhere => y,
-        Place::At(m) => match y {
-            Place::Nowhere => Place::At(m),
-            Place::At(n) => Place::At(smaller(m, n)),
-        },
-    }
+    if x <= y { x } else { y }
 }
 
 // A wrong place n, unless it is right.
-pub fn wrong_unless(right: bool, n: usize) -> Place
+pub fn wrong_unless(right: bool, n: usize) -> u32
     requires { ⌜ n < 1008 ⌝ }
-    ensures { λ r. ⌜ r ≡ wrongUnless right n ⌝ }
+    ensures { λ r. ⌜ placeIn r ≡ wrongUnless right n ⌝ }
 {
-    if right {
-        Place::Nowhere
+    if right { NOWHERE } else { n as u32 }
+}
+
+// A place n, if its rule is broken.
+pub fn wrong_if(wrong: bool, n: usize) -> u32
+    requires { ⌜ n < 1008 ⌝ }
+    ensures { λ r. ⌜ placeIn r ≡ wrongIf wrong n ⌝ }
+{
+    if wrong { n as u32 } else { NOWHERE }
+}
+
+// The place that a number stands for.
+pub fn place(m: u32) -> Place
+    ensures { λ r. ⌜ r ≡ placeIn m ⌝ }
+{
+    if m < NOWHERE {
+        Place::At(m)
     } else {
-        Place::At(n as u32)
+        Place::Nowhere
     }
 }

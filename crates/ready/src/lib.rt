@@ -10,61 +10,53 @@ ghost use Rattle.rules.specs.Places.{wrongIf};
 ghost use Rattle.rules.specs.Tree.{exprAt, signalAt, branchesAt, casesAt};
 ghost use Rattle.rules.specs.Ready.{readyC, readyFault};
 ghost use Rattle.rules.specs.Shaped.{NodeOf};
+ghost use Rattle.places.specs.Numbers.{placeIn};
 ghost use Rattle.ready.specs.Found.{adding, foundE, foundS, foundB};
 ghost use Rattle.ready.specs.Regions.{markedIn, Entered};
+use places::NOWHERE;
+use places::place;
 use places::sooner;
+use places::wrong_if;
 use rules::Place;
 use table::node;
 
-// A place, if its rule is broken.
-fn wrong_if(wrong: bool, n: usize) -> Place
-    requires { ⌜ n < 1008 ⌝ }
-    ensures { λ r. ⌜ r ≡ wrongIf wrong n ⌝ }
-{
-    if wrong {
-        Place::At(n as u32)
-    } else {
-        Place::Nowhere
-    }
-}
-
 // The let x, if its definition is around in this region; by all marks as a slice, whose length is told in the proof.
-fn needed(marks: &[u16; 1008], region: usize, x: usize) -> Place
+fn needed(marks: &[u16; 1008], region: usize, x: usize) -> u32
     requires { ⌜ 0 < region ⌝ }
-    ensures { λ r. ⌜ r ≡ wrongIf (markedIn (now (marks .entry)) region x) x ⌝ }
+    ensures { λ r. ⌜ placeIn r ≡ wrongIf (markedIn (now (marks .entry)) region x) x ⌝ }
 {
     let all = &marks[..];
     if x < all.len() {
         let own = all[x] as usize;
         return wrong_if(own == region, x);
     }
-    Place::Nowhere
+    NOWHERE
 }
 
 // What pass_e finds in expression i, as a part: a variable or a constant is answered here, without calling it.
-fn leaf(p: &&[u8], marks: &[u16; 1008], region: usize, i: usize) -> Place
+fn leaf(p: &&[u8], marks: &[u16; 1008], region: usize, i: usize) -> u32
     requires { ⌜ Entered isExpression (now (now p)) (now marks) region i ⌝ }
-    ensures { λ r. ⌜ r ≡ foundE (markedIn (now (marks .entry)) region) (exprAt (now (now (p .entry))) i) ⌝ }
+    ensures { λ r. ⌜ placeIn r ≡ foundE (markedIn (now (marks .entry)) region) (exprAt (now (now (p .entry))) i) ⌝ }
 {
     let n = node(*p, i);
     let k = n.kind;
     match k {
         16 => needed(marks, region, n.a),
-        17 => Place::Nowhere,
+        17 => NOWHERE,
         _ => pass_e(p, marks, region, i),
     }
 }
 
 // The smallest let marked with the region that expression i needs at once.
-fn pass_e(p: &&[u8], marks: &[u16; 1008], region: usize, i: usize) -> Place
+fn pass_e(p: &&[u8], marks: &[u16; 1008], region: usize, i: usize) -> u32
     requires { ⌜ Entered isExpression (now (now p)) (now marks) region i ⌝ }
-    ensures { λ r. ⌜ r ≡ foundE (markedIn (now (marks .entry)) region) (exprAt (now (now (p .entry))) i) ⌝ }
+    ensures { λ r. ⌜ placeIn r ≡ foundE (markedIn (now (marks .entry)) region) (exprAt (now (now (p .entry))) i) ⌝ }
 {
     let n = node(*p, i);
     let k = n.kind;
     match k {
         16 => needed(marks, region, n.a),
-        17 => Place::Nowhere,
+        17 => NOWHERE,
         24 => leaf(p, marks, region, n.a),
         27 => {
             let test = leaf(p, marks, region, n.a);
@@ -88,14 +80,14 @@ fn pass_e(p: &&[u8], marks: &[u16; 1008], region: usize, i: usize) -> Place
 }
 
 // The same of signal i, and its lets that are not ready.
-fn pass_s(p: &&[u8], marks: &mut [u16; 1008], region: usize, i: usize) -> Place
+fn pass_s(p: &&[u8], marks: &mut [u16; 1008], region: usize, i: usize) -> u32
     requires { ⌜ Entered isSignal (now (now p)) (now marks) region i ⌝ }
-    ensures { λ r. ⌜ (r ≡ foundS (markedIn (now (marks .entry)) region) (signalAt (now (now (p .entry))) i)) × (now (marks .exit) ≡ now (marks .entry)) ⌝ }
+    ensures { λ r. ⌜ (placeIn r ≡ foundS (markedIn (now (marks .entry)) region) (signalAt (now (now (p .entry))) i)) × (now (marks .exit) ≡ now (marks .entry)) ⌝ }
 {
     let n = node(*p, i);
     let k = n.kind;
     match k {
-        1 => Place::Nowhere,
+        1 => NOWHERE,
         3 => pass_e(p, marks, region, n.a),
         4 => {
             let apart = n.a + 1;
@@ -122,14 +114,14 @@ fn pass_s(p: &&[u8], marks: &mut [u16; 1008], region: usize, i: usize) -> Place
             let cases = pass_c(p, marks, n.b);
             sooner(s, cases)
         }
-        _ => Place::Nowhere,
+        _ => NOWHERE,
     }
 }
 
 // Signal k, in the definition of let i.
-fn inside(p: &&[u8], marks: &mut [u16; 1008], region: usize, i: usize, k: usize) -> Place
+fn inside(p: &&[u8], marks: &mut [u16; 1008], region: usize, i: usize, k: usize) -> u32
     requires { ⌜ Entered isSignal (now (now p)) (now marks) region k × (i < length (now marks)) ⌝ }
-    ensures { λ r. ⌜ (r ≡ foundS (adding i (markedIn (now (marks .entry)) region)) (signalAt (now (now (p .entry))) k)) × (now (marks .exit) ≡ now (marks .entry)) ⌝ }
+    ensures { λ r. ⌜ (placeIn r ≡ foundS (adding i (markedIn (now (marks .entry)) region)) (signalAt (now (now (p .entry))) k)) × (now (marks .exit) ≡ now (marks .entry)) ⌝ }
 {
     let old = marks[i];
     marks[i] = region as u16;
@@ -139,28 +131,28 @@ fn inside(p: &&[u8], marks: &mut [u16; 1008], region: usize, i: usize, k: usize)
 }
 
 // The list of branches at node j.
-fn pass_b(p: &&[u8], marks: &mut [u16; 1008], region: usize, j: usize) -> Place
+fn pass_b(p: &&[u8], marks: &mut [u16; 1008], region: usize, j: usize) -> u32
     requires { ⌜ Entered isBranch (now (now p)) (now marks) region j ⌝ }
-    ensures { λ r. ⌜ (r ≡ foundB (markedIn (now (marks .entry)) region) (branchesAt (now (now (p .entry))) j)) × (now (marks .exit) ≡ now (marks .entry)) ⌝ }
+    ensures { λ r. ⌜ (placeIn r ≡ foundB (markedIn (now (marks .entry)) region) (branchesAt (now (now (p .entry))) j)) × (now (marks .exit) ≡ now (marks .entry)) ⌝ }
 {
     let n = node(*p, j);
     let body = pass_s(p, marks, region, n.a);
     if n.b == 65535 {
-        return sooner(body, Place::Nowhere);
+        return sooner(body, NOWHERE);
     }
     let rest = pass_b(p, marks, region, n.b);
     sooner(body, rest)
 }
 
 // The list of cases at node j: each event is a region of its own.
-fn pass_c(p: &&[u8], marks: &mut [u16; 1008], j: usize) -> Place
+fn pass_c(p: &&[u8], marks: &mut [u16; 1008], j: usize) -> u32
     requires { ⌜ Entered isCase (now (now p)) (now marks) (j + 1) j ⌝ }
-    ensures { λ r. ⌜ (r ≡ readyC (casesAt (now (now (p .entry))) j)) × (now (marks .exit) ≡ now (marks .entry)) ⌝ }
+    ensures { λ r. ⌜ (placeIn r ≡ readyC (casesAt (now (now (p .entry))) j)) × (now (marks .exit) ≡ now (marks .entry)) ⌝ }
 {
     let n = node(*p, j);
     let event = pass_s(p, marks, n.a + 1, n.a);
     if n.b == 65535 {
-        return sooner(event, Place::Nowhere);
+        return sooner(event, NOWHERE);
     }
     let rest = pass_c(p, marks, n.b);
     sooner(event, rest)
@@ -172,5 +164,5 @@ pub fn ready_fault(p: &[u8], count: usize) -> Place
     ensures { λ r. ⌜ r ≡ readyFault (now (p .entry)) ⌝ }
 {
     let mut marks: [u16; 1008] = [0; 1008];
-    pass_s(&p, &mut marks, count, count - 1)
+    place(pass_s(&p, &mut marks, count, count - 1))
 }

@@ -8,7 +8,10 @@ ghost use Rattle.rules.specs.Places.{sooner as soonerOf, wrongUnless};
 ghost use Rattle.rules.specs.Tree.{exprAt, signalAt, branchesAt, casesAt};
 ghost use Rattle.rules.specs.Scope.{mark, isMarked, hasBranch, isOffered, scopeE, scopeS, scopeB, scopeC, scopeFault};
 ghost use Rattle.rules.specs.Shaped.{NodeOf};
+ghost use Rattle.places.specs.Numbers.{placeIn};
 ghost use Rattle.scope.specs.Offers.{offersAt, Offered};
+use places::NOWHERE;
+use places::place;
 use places::sooner;
 use places::wrong_unless;
 use rules::Place;
@@ -26,28 +29,28 @@ fn marked(marks: &[u8; 1008], n: usize) -> bool
 }
 
 // Expression i as a child: a variable or a constant is answered at once, without a call.
-fn leaf(p: &&[u8], marks: &mut [u8; 1008], i: usize) -> Place
+fn leaf(p: &&[u8], marks: &mut [u8; 1008], i: usize) -> u32
     requires { ⌜ NodeOf isExpression (now (now p)) i ⌝ }
-    ensures { λ r. ⌜ (r ≡ scopeE (now (marks .entry)) (exprAt (now (now (p .entry))) i)) × (now (marks .exit) ≡ now (marks .entry)) ⌝ }
+    ensures { λ r. ⌜ (placeIn r ≡ scopeE (now (marks .entry)) (exprAt (now (now (p .entry))) i)) × (now (marks .exit) ≡ now (marks .entry)) ⌝ }
 {
     let n = node(*p, i);
     let k = n.kind;
     match k {
         16 => wrong_unless(marked(marks, n.a), i),
-        17 => Place::Nowhere,
+        17 => NOWHERE,
         _ => scope_e(p, marks, i),
     }
 }
 
-pub fn scope_e(p: &&[u8], marks: &mut [u8; 1008], i: usize) -> Place
+pub fn scope_e(p: &&[u8], marks: &mut [u8; 1008], i: usize) -> u32
     requires { ⌜ NodeOf isExpression (now (now p)) i ⌝ }
-    ensures { λ r. ⌜ (r ≡ scopeE (now (marks .entry)) (exprAt (now (now (p .entry))) i)) × (now (marks .exit) ≡ now (marks .entry)) ⌝ }
+    ensures { λ r. ⌜ (placeIn r ≡ scopeE (now (marks .entry)) (exprAt (now (now (p .entry))) i)) × (now (marks .exit) ≡ now (marks .entry)) ⌝ }
 {
     let n = node(*p, i);
     let k = n.kind;
     match k {
         16 => wrong_unless(marked(marks, n.a), i),
-        17 => Place::Nowhere,
+        17 => NOWHERE,
         24 => leaf(p, marks, n.a),
         27 => {
             let test = leaf(p, marks, n.a);
@@ -71,9 +74,9 @@ pub fn scope_e(p: &&[u8], marks: &mut [u8; 1008], i: usize) -> Place
 }
 
 // Expression k, below binder i.
-fn inside_e(p: &&[u8], marks: &mut [u8; 1008], i: usize, k: usize) -> Place
+fn inside_e(p: &&[u8], marks: &mut [u8; 1008], i: usize, k: usize) -> u32
     requires { ⌜ NodeOf isExpression (now (now p)) k × (i < 1008) ⌝ }
-    ensures { λ r. ⌜ (r ≡ scopeE (mark (now (marks .entry)) i) (exprAt (now (now (p .entry))) k)) × (now (marks .exit) ≡ now (marks .entry)) ⌝ }
+    ensures { λ r. ⌜ (placeIn r ≡ scopeE (mark (now (marks .entry)) i) (exprAt (now (now (p .entry))) k)) × (now (marks .exit) ≡ now (marks .entry)) ⌝ }
 {
     let old = marks[i];
     marks[i] = 1;
@@ -108,9 +111,9 @@ fn offered(p: &&[u8], group: usize, k: usize) -> bool
 }
 
 // Signal i; a case may leave for the group whose first branch is given, if it is not 65535.
-pub fn scope_s(p: &&[u8], marks: &mut [u8; 1008], i: usize, group: usize) -> Place
+pub fn scope_s(p: &&[u8], marks: &mut [u8; 1008], i: usize, group: usize) -> u32
     requires { ⌜ NodeOf isSignal (now (now p)) i × Offered (now (now p)) group ⌝ }
-    ensures { λ r. ⌜ (r ≡ scopeS (now (marks .entry)) (offersAt (now (now (p .entry))) group) (signalAt (now (now (p .entry))) i)) × (now (marks .exit) ≡ now (marks .entry)) ⌝ }
+    ensures { λ r. ⌜ (placeIn r ≡ scopeS (now (marks .entry)) (offersAt (now (now (p .entry))) group) (signalAt (now (now (p .entry))) i)) × (now (marks .exit) ≡ now (marks .entry)) ⌝ }
 {
     let n = node(*p, i);
     let k = n.kind;
@@ -138,14 +141,14 @@ pub fn scope_s(p: &&[u8], marks: &mut [u8; 1008], i: usize, group: usize) -> Pla
             let cases = scope_c(p, marks, n.b, group);
             sooner(s, cases)
         }
-        _ => Place::Nowhere,
+        _ => NOWHERE,
     }
 }
 
 // Signal k, below binder i.
-fn inside_s(p: &&[u8], marks: &mut [u8; 1008], i: usize, k: usize, group: usize) -> Place
+fn inside_s(p: &&[u8], marks: &mut [u8; 1008], i: usize, k: usize, group: usize) -> u32
     requires { ⌜ NodeOf isSignal (now (now p)) k × Offered (now (now p)) group × (i < 1008) ⌝ }
-    ensures { λ r. ⌜ (r ≡ scopeS (mark (now (marks .entry)) i) (offersAt (now (now (p .entry))) group) (signalAt (now (now (p .entry))) k)) × (now (marks .exit) ≡ now (marks .entry)) ⌝ }
+    ensures { λ r. ⌜ (placeIn r ≡ scopeS (mark (now (marks .entry)) i) (offersAt (now (now (p .entry))) group) (signalAt (now (now (p .entry))) k)) × (now (marks .exit) ≡ now (marks .entry)) ⌝ }
 {
     let old = marks[i];
     marks[i] = 1;
@@ -154,28 +157,28 @@ fn inside_s(p: &&[u8], marks: &mut [u8; 1008], i: usize, k: usize, group: usize)
     r
 }
 
-fn scope_b(p: &&[u8], marks: &mut [u8; 1008], j: usize, group: usize) -> Place
+fn scope_b(p: &&[u8], marks: &mut [u8; 1008], j: usize, group: usize) -> u32
     requires { ⌜ NodeOf isBranch (now (now p)) j × Offered (now (now p)) group ⌝ }
-    ensures { λ r. ⌜ (r ≡ scopeB (now (marks .entry)) (offersAt (now (now (p .entry))) group) (branchesAt (now (now (p .entry))) j)) × (now (marks .exit) ≡ now (marks .entry)) ⌝ }
+    ensures { λ r. ⌜ (placeIn r ≡ scopeB (now (marks .entry)) (offersAt (now (now (p .entry))) group) (branchesAt (now (now (p .entry))) j)) × (now (marks .exit) ≡ now (marks .entry)) ⌝ }
 {
     let n = node(*p, j);
     let body = inside_s(p, marks, j, n.a, group);
     if n.b == 65535 {
-        return sooner(body, Place::Nowhere);
+        return sooner(body, NOWHERE);
     }
     let rest = scope_b(p, marks, n.b, group);
     sooner(body, rest)
 }
 
-fn scope_c(p: &&[u8], marks: &mut [u8; 1008], j: usize, group: usize) -> Place
+fn scope_c(p: &&[u8], marks: &mut [u8; 1008], j: usize, group: usize) -> u32
     requires { ⌜ NodeOf isCase (now (now p)) j × Offered (now (now p)) group ⌝ }
-    ensures { λ r. ⌜ (r ≡ scopeC (now (marks .entry)) (offersAt (now (now (p .entry))) group) (casesAt (now (now (p .entry))) j)) × (now (marks .exit) ≡ now (marks .entry)) ⌝ }
+    ensures { λ r. ⌜ (placeIn r ≡ scopeC (now (marks .entry)) (offersAt (now (now (p .entry))) group) (casesAt (now (now (p .entry))) j)) × (now (marks .exit) ≡ now (marks .entry)) ⌝ }
 {
     let n = node(*p, j);
     let here = wrong_unless(offered(p, group, n.c), j);
     let event = scope_s(p, marks, n.a, 65535);
     if n.b == 65535 {
-        return sooner(here, sooner(event, Place::Nowhere));
+        return sooner(here, sooner(event, NOWHERE));
     }
     let rest = scope_c(p, marks, n.b, group);
     sooner(here, sooner(event, rest))
@@ -187,5 +190,5 @@ pub fn scope_fault(p: &[u8], count: usize) -> Place
     ensures { λ r. ⌜ r ≡ scopeFault (now (p .entry)) ⌝ }
 {
     let mut marks: [u8; 1008] = [0; 1008];
-    scope_s(&p, &mut marks, count - 1, 65535)
+    place(scope_s(&p, &mut marks, count - 1, 65535))
 }

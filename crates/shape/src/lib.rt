@@ -6,19 +6,16 @@ ghost use lib.Dec.{eqb};
 ghost use lib.ListN.{length, getD, replicate};
 ghost use Rattle.rules.specs.Bytes.{_and_, _or_, first};
 ghost use Rattle.rules.specs.Layout.{nodes, records};
-ghost use Rattle.rules.specs.Kinds.{isSignal, fieldsOf};
+ghost use Rattle.rules.specs.Kinds.{isSignal};
 ghost use Rattle.rules.specs.Shape.{isChild, mayBe, mayStop, childWrong, childrenWrong, shapeWrong, named};
-ghost use Rattle.rules.specs.Node.{IsNode};
-ghost use Rattle.shape.specs.Counts.{more as moreOf, counted as countedOf, countedIn, countedTo, cap, Sized};
+ghost use Rattle.shape.specs.Counts.{more as moreOf, counted as countedOf, countedIn, markedTo, markOf, lastWrong, Sized};
 use kinds::both;
 use kinds::either;
-use kinds::fields_of;
 use kinds::is_child;
 use kinds::is_signal;
 use kinds::may_be;
 use kinds::may_stop;
 use rules::Field;
-use rules::Node;
 use rules::Place;
 use table::node;
 
@@ -40,21 +37,6 @@ fn child_wrong(p: &[u8], i: usize, f: Field, x: usize) -> bool
     true
 }
 
-// One of the children that the fields of node i name is.
-fn children_wrong(p: &[u8], i: usize, n: Node) -> bool
-    requires { ⌜ (i < records (now p)) × (i < 1008) × IsNode (now p) i n ⌝ }
-    ensures { λ r. ⌜ r ≡ childrenWrong (now (p .entry)) i ⌝ }
-{
-    let row = fields_of(n.kind);
-    let fa = row.a;
-    let fb = row.b;
-    let fc = row.c;
-    let a = child_wrong(p, i, fa, n.a);
-    let b = child_wrong(p, i, fb, n.b);
-    let c = child_wrong(p, i, fc, n.c);
-    either(either(a, b), c)
-}
-
 // One more, up to 2: whether a node is named once is all that is asked.
 fn more(c: u8) -> u8
     ensures { λ r. ⌜ r ≡ moreOf c ⌝ }
@@ -73,45 +55,90 @@ fn counted(counts: &mut [u8], f: Field, x: usize)
     }
 }
 
-// The fields of node m, counted.
-fn count_node(p: &[u8], counts: &mut [u8], m: usize)
-    requires { ⌜ (m < records (now p)) × (m < 1008) ⌝ }
-    ensures { λ _. ⌜ now (counts .exit) ≡ countedIn (now (p .entry)) (now (counts .entry)) m ⌝ }
+// A child of node i, which a field names: it is counted, and whether it is wrong is answered.
+fn one(p: &[u8], counts: &mut [u8], i: usize, f: Field, x: usize) -> bool
+    requires { ⌜ (i < records (now p)) × (i < 1008) ⌝ }
+    ensures { λ r. ⌜ (r ≡ childWrong (now (p .entry)) i f x) × (now (counts .exit) ≡ countedOf (now (counts .entry)) f x) ⌝ }
 {
-    let n = node(p, m);
-    let row = fields_of(n.kind);
-    let fa = row.a;
-    let fb = row.b;
-    let fc = row.c;
-    counted(counts, fa, n.a);
-    counted(counts, fb, n.b);
-    counted(counts, fc, n.c);
+    counted(counts, f, x);
+    child_wrong(p, i, f, x)
 }
 
-// The fields of all nodes, counted in one pass.
-fn count_all(p: &[u8], counts: &mut [u8], count: usize)
-    requires { ⌜ (count ≤ records (now p)) × (count ≤ 1008) ⌝ }
-    ensures { λ _. ⌜ now (counts .exit) ≡ countedTo (now (p .entry)) (now (counts .entry)) count ⌝ }
+// Two children of node i.
+fn two(p: &[u8], counts: &mut [u8], i: usize, f: Field, x: usize, g: Field, y: usize) -> bool
+    requires { ⌜ (i < records (now p)) × (i < 1008) ⌝ }
+    ensures { λ r. ⌜ (r ≡ (childWrong (now (p .entry)) i f x or childWrong (now (p .entry)) i g y)) × (now (counts .exit) ≡ countedOf (countedOf (now (counts .entry)) f x) g y) ⌝ }
 {
-    let mut m: usize = 0;
-    while m < count {
-        count_node(p, counts, m);
-        m += 1;
-    }
+    let a = one(p, counts, i, f, x);
+    let b = one(p, counts, i, g, y);
+    either(a, b)
 }
 
-// Code 5 at node i, which is named so many times.
-fn shape_wrong(p: &[u8], i: usize, count: usize, times: u8) -> bool
-    requires { ⌜ Sized (now p) count × (i < count) × (times ≡ cap (named (now p) i)) ⌝ }
-    ensures { λ r. ⌜ r ≡ shapeWrong (now (p .entry)) i ⌝ }
+// Three children of node i, of one sort.
+fn three(p: &[u8], counts: &mut [u8], i: usize, f: Field, x: usize, y: usize, z: usize) -> bool
+    requires { ⌜ (i < records (now p)) × (i < 1008) ⌝ }
+    ensures { λ r. ⌜ (r ≡ (childWrong (now (p .entry)) i f x or childWrong (now (p .entry)) i f y or childWrong (now (p .entry)) i f z)) × (now (counts .exit) ≡ countedOf (countedOf (countedOf (now (counts .entry)) f x) f y) f z) ⌝ }
+{
+    let a = one(p, counts, i, f, x);
+    let b = one(p, counts, i, f, y);
+    let c = one(p, counts, i, f, z);
+    either(either(a, b), c)
+}
+
+// The children of node i, by its kind: all are counted, and whether one is wrong is answered.
+fn children(p: &[u8], counts: &mut [u8], i: usize) -> bool
+    requires { ⌜ (i < records (now p)) × (i < 1008) ⌝ }
+    ensures { λ r. ⌜ (r ≡ childrenWrong (now (p .entry)) i) × (now (counts .exit) ≡ countedIn (now (p .entry)) (now (counts .entry)) i) ⌝ }
 {
     let n = node(p, i);
     let k = n.kind;
-    let wrong = children_wrong(p, i, n);
-    if i + 1 == count {
-        return either(wrong, !is_signal(k));
+    match k {
+        3 => one(p, counts, i, Field::Expression, n.a),
+        4 => one(p, counts, i, Field::Signal, n.a),
+        5 => two(p, counts, i, Field::Signal, n.a, Field::Signal, n.b),
+        6 => three(p, counts, i, Field::Signal, n.a, n.b, n.c),
+        7 => two(p, counts, i, Field::Signal, n.a, Field::FirstBranch, n.b),
+        8 => two(p, counts, i, Field::Signal, n.a, Field::FirstCase, n.b),
+        9 => two(p, counts, i, Field::Signal, n.a, Field::NextBranch, n.b),
+        10 => two(p, counts, i, Field::Signal, n.a, Field::NextCase, n.b),
+        18..=23 => two(p, counts, i, Field::Expression, n.a, Field::Expression, n.b),
+        24 => one(p, counts, i, Field::Expression, n.a),
+        25..=26 => two(p, counts, i, Field::Expression, n.a, Field::Expression, n.b),
+        27 => three(p, counts, i, Field::Expression, n.a, n.b, n.c),
+        28 => one(p, counts, i, Field::Expression, n.a),
+        29 => three(p, counts, i, Field::Expression, n.a, n.b, n.c),
+        _ => false,
     }
-    either(wrong, times != 1)
+}
+
+// All nodes in one pass: their children are counted, and a node is marked with 2 where a child of its own is wrong. The answer is whether
+// one of the last node's is.
+fn count_all(p: &[u8], counts: &mut [u8], count: usize) -> bool
+    requires { ⌜ (count ≤ records (now p)) × (count ≤ 1008) × (count ≤ length (now counts)) ⌝ }
+    ensures { λ r. ⌜ (now (counts .exit) ≡ markedTo (now (p .entry)) (now (counts .entry)) count) × (r ≡ lastWrong (now (p .entry)) count) ⌝ }
+{
+    let mut wrong = false;
+    let mut m: usize = 0;
+    while m < count {
+        wrong = children(p, counts, m);
+        if wrong {
+            counts[m] = 2;
+        }
+        m += 1;
+    }
+    wrong
+}
+
+// Code 5 at node i, with its mark and whether a child of the last node is wrong.
+fn shape_wrong(p: &[u8], i: usize, count: usize, mark: u8, last: bool) -> bool
+    requires { ⌜ Sized (now p) count × (i < count) × (mark ≡ markOf (now p) i) × (last ≡ lastWrong (now p) count) ⌝ }
+    ensures { λ r. ⌜ r ≡ shapeWrong (now (p .entry)) i ⌝ }
+{
+    if i + 1 == count {
+        let n = node(p, i);
+        return either(last, !is_signal(n.kind));
+    }
+    mark != 1
 }
 
 // The first node whose shape is wrong.
@@ -120,10 +147,10 @@ pub fn first_shape(p: &[u8], count: usize) -> Place
     ensures { λ r. ⌜ r ≡ first (shapeWrong (now (p .entry))) (nodes (now (p .entry))) ⌝ }
 {
     let mut counts: [u8; 1008] = [0; 1008];
-    count_all(p, &mut counts, count);
+    let last = count_all(p, &mut counts, count);
     let mut j: usize = 0;
     while j < count {
-        if shape_wrong(p, j, count, counts[j]) {
+        if shape_wrong(p, j, count, counts[j], last) {
             return Place::At(j as u32);
         }
         j += 1;

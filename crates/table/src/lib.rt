@@ -71,15 +71,6 @@ fn read(p: &[u8], at: usize) -> Node
     }
 }
 
-// The fields of record i.
-pub fn fields(p: &[u8], i: usize) -> Node
-    requires { ⌜ i < records (now p) ⌝ }
-    ensures { λ n. ⌜ IsNode (now (p .entry)) i n ⌝ }
-{
-    let at = record_at(p, i);
-    read(p, at)
-}
-
 // The fields of node i.
 pub fn node(p: &[u8], i: usize) -> Node
     requires { ⌜ (i < records (now p)) × (i < 1008) ⌝ }

@@ -1,3 +1,4 @@
 pub mod Rules
+pub mod NumberLaws
 pub mod ExprLaws
 pub mod SignalLaws

@@ -20,6 +20,7 @@ use answers::otherwise;
 use answers::refuse_if;
 use bound::bound_of;
 use cells::cell_at;
+use cells::count_cells;
 use cells::index_cells;
 use rules::Checked;
 use rules::Ran;
@@ -51,8 +52,7 @@ fn accept(p: &[u8], count: usize, ty: u8) -> Checked
     requires { ⌜ Accepted (now p) × (count ≡ nodes (now p)) × (ty ≡ typeS (root (now p))) ⌝ }
     ensures { λ r. ⌜ r ≡ Checked.Accepted (nodes (now (p .entry))) (cellsOf (now (p .entry))) (boundOf (now (p .entry))) (typeS (root (now (p .entry)))) ⌝ }
 {
-    let mut index: [u16; 1008] = [0; 1008];
-    let held = index_cells(p, &mut index, count);
+    let held = count_cells(p, count);
     let most = bound_of(p, count);
     accepted(count as u32, held as u32, most, ty)
 }

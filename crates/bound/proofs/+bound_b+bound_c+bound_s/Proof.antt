@@ -17,6 +17,7 @@ use Rattle.bound.proofs.bound_s.Reads as bound-s
 use Rattle.bound.proofs.bound_s.Kinds as bound-s-kinds
 use Rattle.bound.proofs.+bound_b+bound_c+bound_s.Lts-bound_s as bound-s-lts
 use Rattle.bound.proofs.bound_e.Reads as bound-e-reads
+use Rattle.bound.proofs.bounds.Reads as bounds-reads
 use Rattle.bound.proofs.delayed.Reads as delayed-reads
 use Rattle.bound.proofs.evaluated.Reads as evaluated-reads
 use Rattle.bound.proofs.grouping.Reads as grouping-reads
@@ -57,13 +58,13 @@ abbrev bound-s-below : ℕ → In 2 bound-s-kinds.ps
 bound-s-below t = and 2 bound-s-kinds.ps (falls 2 bound-s-kinds.ps _<_ μ-bound-s t) bound-s.Pre
 
 abbrev bound-b-calls : ℕ → bound-b-lts.Claims
-bound-b-calls t = (node-reads.Asked, node-reads.Learnt, bound-s-below t, bound-s.Post, largest-reads.Asked, largest-reads.Learnt, bound-b-below t, bound-b.Post)
+bound-b-calls t = (node-reads.Asked, node-reads.Learnt, bound-s-below t, bound-s.Post, bounds-reads.Asked, bounds-reads.Learnt, largest-reads.Asked, largest-reads.Learnt, bound-b-below t, bound-b.Post)
 
 abbrev bound-c-calls : ℕ → bound-c-lts.Claims
-bound-c-calls t = (node-reads.Asked, node-reads.Learnt, bound-s-below t, bound-s.Post, sum-reads.Asked, sum-reads.Learnt, bound-c-below t, bound-c.Post)
+bound-c-calls t = (node-reads.Asked, node-reads.Learnt, bound-s-below t, bound-s.Post, bounds-reads.Asked, bounds-reads.Learnt, sum-reads.Asked, sum-reads.Learnt, bound-c-below t, bound-c.Post)
 
 abbrev bound-s-calls : ℕ → bound-s-lts.Claims
-bound-s-calls t = (node-reads.Asked, node-reads.Learnt, bound-e-reads.Asked, bound-e-reads.Learnt, evaluated-reads.Asked, evaluated-reads.Learnt, bound-s-below t, bound-s.Post, delayed-reads.Asked, delayed-reads.Learnt, letting-reads.Asked, letting-reads.Learnt, switching-reads.Asked, switching-reads.Learnt, bound-b-below t, bound-b.Post, grouping-reads.Asked, grouping-reads.Learnt, bound-c-below t, bound-c.Post, leaving-reads.Asked, leaving-reads.Learnt)
+bound-s-calls t = (node-reads.Asked, node-reads.Learnt, bounds-reads.Asked, bounds-reads.Learnt, bound-e-reads.Asked, bound-e-reads.Learnt, evaluated-reads.Asked, evaluated-reads.Learnt, bound-s-below t, bound-s.Post, delayed-reads.Asked, delayed-reads.Learnt, letting-reads.Asked, letting-reads.Learnt, switching-reads.Asked, switching-reads.Learnt, bound-b-below t, bound-b.Post, grouping-reads.Asked, grouping-reads.Learnt, bound-c-below t, bound-c.Post, leaving-reads.Asked, leaving-reads.Learnt)
 
 -- src/lib.rt:224:9
 bound-b-node-requires : (t : ℕ) → bound-b-lts.Need-node-requires (bound-b-calls t) (bound-b-at t) bound-b.Post
@@ -73,13 +74,16 @@ bound-b-node-requires t c κs = let w = c .before .pre .1 .node in (omega (arith
 bound-b-bound-s-requires : (t : ℕ) → bound-b-lts.Need-bound-s-requires (bound-b-calls t) (bound-b-at t) bound-b.Post
 bound-b-bound-s-requires t c κs = let k = read (c .node .ensures .a-is) (branch-part (c .before .before .args .p .now .now) (c .before .before .args .j) (c .before .before .pre .1)) in (omega (arith, k .less, c .before .before .pre .0), k .node)
 
+bound-b-bounds-requires : (t : ℕ) → bound-b-lts.Need-bounds-requires (bound-b-calls t) (bound-b-at t) bound-b.Post
+bound-b-bounds-requires t c κs = search needs
+
 -- src/lib.rt:227:9
 bound-b-largest-requires : (t : ℕ) → bound-b-lts.Need-largest-requires (bound-b-calls t) (bound-b-at t) bound-b.Post
 bound-b-largest-requires t c κs = search needs
 
 -- src/lib.rt:227:9
 bound-b-returns : (t : ℕ) → bound-b-lts.Need-returns (bound-b-calls t) (bound-b-at t) bound-b.Post
-bound-b-returns t c = let e = branch-last-bound (c .before .before .before .before .before .before .args .p .now .now) (c .before .before .before .before .before .before .args .j) (c .before .before .before .before .before .before .pre .1) (sym (c .before .before .before .before .node .ensures .b-is) ∙ c .before .if1 .taken) in bounded-b (c .before .before .before .before .before .before .args .p .now .now) (c .before .before .before .before .before .before .args .j) (c .before .before .before .before .before .before .pre .1) (cc (e .0)) (cc (e .1))
+bound-b-returns t c = let e = branch-last-bound (c .before .before .before .before .before .before .before .args .p .now .now) (c .before .before .before .before .before .before .before .args .j) (c .before .before .before .before .before .before .before .pre .1) (sym (c .before .before .before .before .before .node .ensures .b-is) ∙ c .before .before .if1 .taken) in bounded-b (c .before .before .before .before .before .before .before .args .p .now .now) (c .before .before .before .before .before .before .before .args .j) (c .before .before .before .before .before .before .before .pre .1) (cc (e .0)) (cc (e .1))
 
 -- src/lib.rt:229:9
 bound-b-bound-b-requires : (t : ℕ) → bound-b-lts.Need-bound-b-requires (bound-b-calls t) (bound-b-at t) bound-b.Post
@@ -101,13 +105,16 @@ bound-c-node-requires t c κs = let w = c .before .pre .1 .node in (omega (arith
 bound-c-bound-s-requires : (t : ℕ) → bound-c-lts.Need-bound-s-requires (bound-c-calls t) (bound-c-at t) bound-c.Post
 bound-c-bound-s-requires t c κs = let k = read (c .node .ensures .a-is) (case-part (c .before .before .args .p .now .now) (c .before .before .args .j) (c .before .before .pre .1)) in (omega (arith, k .less, c .before .before .pre .0), k .node)
 
+bound-c-bounds-requires : (t : ℕ) → bound-c-lts.Need-bounds-requires (bound-c-calls t) (bound-c-at t) bound-c.Post
+bound-c-bounds-requires t c κs = search needs
+
 -- src/lib.rt:241:9
 bound-c-sum-requires : (t : ℕ) → bound-c-lts.Need-sum-requires (bound-c-calls t) (bound-c-at t) bound-c.Post
-bound-c-sum-requires t c κs = (c .before .before .bound-s .ensures .most, record { eval-most = omega arith; update-most = omega arith })
+bound-c-sum-requires t c κs = (c .before .before .before .bound-s .ensures .most, record { eval-most = omega (arith, c .bounds .ensures .0); update-most = omega (arith, c .bounds .ensures .1) })
 
 -- src/lib.rt:241:9
 bound-c-returns : (t : ℕ) → bound-c-lts.Need-returns (bound-c-calls t) (bound-c-at t) bound-c.Post
-bound-c-returns t c = let e = case-last-bound (c .before .before .before .before .before .before .args .p .now .now) (c .before .before .before .before .before .before .args .j) (c .before .before .before .before .before .before .pre .1) (sym (c .before .before .before .before .node .ensures .b-is) ∙ c .before .if1 .taken) in bounded-c (c .before .before .before .before .before .before .args .p .now .now) (c .before .before .before .before .before .before .args .j) (c .before .before .before .before .before .before .pre .1) (cc (e .0)) (cc (e .1))
+bound-c-returns t c = let e = case-last-bound (c .before .before .before .before .before .before .before .args .p .now .now) (c .before .before .before .before .before .before .before .args .j) (c .before .before .before .before .before .before .before .pre .1) (sym (c .before .before .before .before .before .node .ensures .b-is) ∙ c .before .before .if1 .taken) in bounded-c (c .before .before .before .before .before .before .before .args .p .now .now) (c .before .before .before .before .before .before .before .args .j) (c .before .before .before .before .before .before .before .pre .1) (cc (e .0)) (cc (e .1))
 
 -- src/lib.rt:243:9
 bound-c-bound-c-requires : (t : ℕ) → bound-c-lts.Need-bound-c-requires (bound-c-calls t) (bound-c-at t) bound-c.Post
@@ -124,6 +131,9 @@ bound-c-returns-2 t c = let e = case-more-bound (c .before .before .before .befo
 -- src/lib.rt:188:9
 bound-s-node-requires : (t : ℕ) → bound-s-lts.Need-node-requires (bound-s-calls t) (bound-s-at t) bound-s.Post
 bound-s-node-requires t c κs = let w = c .before .pre .1 .node in (omega (arith, w .inside, w .shaped .within), omega (arith, w .inside, w .shaped .small))
+
+bound-s-bounds-requires : (t : ℕ) → bound-s-lts.Need-bounds-requires (bound-s-calls t) (bound-s-at t) bound-s.Post
+bound-s-bounds-requires t c κs = search needs
 
 -- src/lib.rt:192:24
 bound-s-bound-e-requires : (t : ℕ) → bound-s-lts.Need-bound-e-requires (bound-s-calls t) (bound-s-at t) bound-s.Post
@@ -193,9 +203,12 @@ bound-s-bound-c-requires t c κs = let k = read (c .before .before .node .ensure
 bound-s-leaving-requires : (t : ℕ) → bound-s-lts.Need-leaving-requires (bound-s-calls t) (bound-s-at t) bound-s.Post
 bound-s-leaving-requires t c κs = (c .before .bound-s8 .ensures .most, c .bound-c .ensures .most)
 
+bound-s-bounds-requires-2 : (t : ℕ) → bound-s-lts.Need-bounds-requires-2 (bound-s-calls t) (bound-s-at t) bound-s.Post
+bound-s-bounds-requires-2 t c κs = search needs
+
 -- src/lib.rt:184:1
 bound-s-returns : (t : ℕ) → bound-s-lts.Need-returns (bound-s-calls t) (bound-s-at t) bound-s.Post
-bound-s-returns t c = let e = input-bound (c .before .before .before .args .p .now .now) (c .before .before .before .args .i) (c .before .before .before .pre .1) (sym (c .before .node .ensures .kind-is) ∙ c .match .keys1) in bounded-s (c .before .before .before .args .p .now .now) (c .before .before .before .args .i) (c .before .before .before .pre .1) (cc (e .0)) (cc (e .1))
+bound-s-returns t c = let e = input-bound (c .before .before .before .before .args .p .now .now) (c .before .before .before .before .args .i) (c .before .before .before .before .pre .1) (sym (c .before .before .node .ensures .kind-is) ∙ c .before .match .keys1) in bounded-s (c .before .before .before .before .args .p .now .now) (c .before .before .before .before .args .i) (c .before .before .before .before .pre .1) (cc (e .0)) (cc (e .1))
 
 -- src/lib.rt:184:1
 bound-s-returns-2 : (t : ℕ) → bound-s-lts.Need-returns-2 (bound-s-calls t) (bound-s-at t) bound-s.Post
@@ -223,13 +236,14 @@ bound-s-returns-7 t c = let e = until-bound (c .before .before .before .before .
 
 -- src/lib.rt:184:1
 bound-s-returns-8 : (t : ℕ) → bound-s-lts.Need-returns-8 (bound-s-calls t) (bound-s-at t) bound-s.Post
-bound-s-returns-8 t c = let e = time-bound (c .before .before .before .args .p .now .now) (c .before .before .before .args .i) (c .before .before .before .pre .1) (time-left (c .before .before .before .args .p .now .now) (c .before .before .before .args .i) (c .before .before .before .pre .1 .node) (c .before .node .ensures .kind-is) (c .match .rest)) in bounded-s (c .before .before .before .args .p .now .now) (c .before .before .before .args .i) (c .before .before .before .pre .1) (cc (e .0)) (cc (e .1))
+bound-s-returns-8 t c = let e = time-bound (c .before .before .before .before .args .p .now .now) (c .before .before .before .before .args .i) (c .before .before .before .before .pre .1) (time-left (c .before .before .before .before .args .p .now .now) (c .before .before .before .before .args .i) (c .before .before .before .before .pre .1 .node) (c .before .before .node .ensures .kind-is) (c .before .match .rest)) in bounded-s (c .before .before .before .before .args .p .now .now) (c .before .before .before .before .args .i) (c .before .before .before .before .pre .1) (cc (e .0)) (cc (e .1))
 
 pub +bound-b+bound-c+bound-s-spec : {M : Type 1} → statement M
 +bound-b+bound-c+bound-s-spec = close μ-bound-b μ-bound-c μ-bound-s (λ t. bound-b-lts.spec (bound-b-calls t) (bound-b-at t)
     bound-b.Post
     (bound-b-node-requires t)
     (bound-b-bound-s-requires t)
+    (bound-b-bounds-requires t)
     (bound-b-largest-requires t)
     (bound-b-returns t)
     (bound-b-bound-b-requires t)
@@ -239,6 +253,7 @@ pub +bound-b+bound-c+bound-s-spec : {M : Type 1} → statement M
     bound-c.Post
     (bound-c-node-requires t)
     (bound-c-bound-s-requires t)
+    (bound-c-bounds-requires t)
     (bound-c-sum-requires t)
     (bound-c-returns t)
     (bound-c-bound-c-requires t)
@@ -247,6 +262,7 @@ pub +bound-b+bound-c+bound-s-spec : {M : Type 1} → statement M
     λ t. bound-s-lts.spec (bound-s-calls t) (bound-s-at t)
     bound-s.Post
     (bound-s-node-requires t)
+    (bound-s-bounds-requires t)
     (bound-s-bound-e-requires t)
     (bound-s-evaluated-requires t)
     (bound-s-bound-s-requires t)
@@ -264,6 +280,7 @@ pub +bound-b+bound-c+bound-s-spec : {M : Type 1} → statement M
     (bound-s-bound-s-requires-8 t)
     (bound-s-bound-c-requires t)
     (bound-s-leaving-requires t)
+    (bound-s-bounds-requires-2 t)
     (bound-s-returns t)
     (bound-s-returns-2 t)
     (bound-s-returns-3 t)

@@ -32,7 +32,7 @@ loop-holds c = (omega arith, first-starts _ _)
 
 kind-at-requires : tie.Need-kind-at-requires Inv-loop μ-loop
 unfolding blocks records
-kind-at-requires c κs = omega arith
+kind-at-requires c κs = omega (arith, most-bytes _ (c .before .before .before .pre))
 
 returns : tie.Need-returns Inv-loop μ-loop
 unfolding blocks records

@@ -23,7 +23,7 @@ loop-holds c = (omega arith, first-starts _ _)
 
 record-wrong-requires : tie.Need-record-wrong-requires Inv-loop μ-loop
 unfolding blocks records
-record-wrong-requires c κs = omega arith
+record-wrong-requires c κs = omega (arith, most-bytes _ (c .before .before .before .pre))
 
 cast-t8 : tie.Need-cast-t8 Inv-loop μ-loop
 cast-t8 c = omega (arith, most-bytes _ (c .before .before .before .before .before .pre))

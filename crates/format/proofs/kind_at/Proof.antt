@@ -8,7 +8,7 @@ use Rattle.format.proofs.kind_at.Tie as tie
 
 returns : tie.Need-returns
 unfolding kindAt byteAt
-returns c = rw (c .before .record-at .ensures .0) refl
+returns c = rw (c .before .node-at .ensures .0) refl
 
 pub kind-at-spec : {M : Type 1} → statement M
 kind-at-spec = tie.close (tie.spec (λ c κs. search needs) (λ c. search needs) returns)

@@ -1,4 +1,6 @@
+-- Each arm is what is found in a signal of its kind, from what is found in its parts; a let's mark is put back.
 use Rattle.rules.proofs.PutBack.{put-back}
+use Rattle.places.proofs.NumberLaws.{no-place}
 use Rattle.rules.specs.Layout.{aAt, bAt}
 use mathlib.Core.Path.{refl, sym, ap, _∙_}
 use native.Mathlib.Omega.{arith}
@@ -83,216 +85,216 @@ pass-c-calls t = (node-reads.Asked, node-reads.Learnt, pass-s-below t, pass-s.Po
 abbrev pass-s-calls : ℕ → pass-s-lts.Claims
 pass-s-calls t = (node-reads.Asked, node-reads.Learnt, pass-e-reads.Asked, pass-e-reads.Learnt, pass-s-below t, pass-s.Post, inside-below t, inside.Post, sooner-reads.Asked, sooner-reads.Learnt, pass-b-below t, pass-b.Post, pass-c-below t, pass-c.Post)
 
--- src/lib.rt:134:15
+-- src/lib.rt:126:15
 inside-mul-old :
     (t : ℕ) → inside-lts.Need-mul-old (inside-calls t) (inside-at t) inside.Post
 inside-mul-old t c = search needs
 
--- src/lib.rt:134:15
+-- src/lib.rt:126:15
 inside-element-copy-out-old : (t : ℕ) → inside-lts.Need-element-copy-out-old (inside-calls t) (inside-at t) inside.Post
 inside-element-copy-out-old t c = search needs
 
--- src/lib.rt:135:16
+-- src/lib.rt:127:16
 inside-cast-marks :
     (t : ℕ) → inside-lts.Need-cast-marks (inside-calls t) (inside-at t) inside.Post
 inside-cast-marks t c = omega (arith, c .before .pre .1 .0 .within, c .before .pre .1 .0 .node .shaped .small)
 
--- src/lib.rt:135:5
+-- src/lib.rt:127:5
 inside-mul-marks :
     (t : ℕ) → inside-lts.Need-mul-marks (inside-calls t) (inside-at t) inside.Post
 inside-mul-marks t c = search needs
 
--- src/lib.rt:135:5
+-- src/lib.rt:127:5
 inside-element-write-marks : (t : ℕ) → inside-lts.Need-element-write-marks (inside-calls t) (inside-at t) inside.Post
 inside-element-write-marks t c = search needs
 
--- src/lib.rt:136:9
+-- src/lib.rt:128:9
 inside-pass-s-requires :
     (t : ℕ) →
     inside-lts.Need-pass-s-requires (inside-calls t) (inside-at t) inside.Post
 inside-pass-s-requires t c κs = (omega (arith, c .before .before .pre .0), marked-entered (c .before .before .args .i) (c .before .before .pre .1 .1) (c .before .before .pre .1 .0))
 
--- src/lib.rt:137:5
+-- src/lib.rt:129:5
 inside-mul-marks-2 :
     (t : ℕ) → inside-lts.Need-mul-marks-2 (inside-calls t) (inside-at t) inside.Post
 inside-mul-marks-2 t c = search needs
 
--- src/lib.rt:137:5
+-- src/lib.rt:129:5
 inside-element-write-marks-2 : (t : ℕ) → inside-lts.Need-element-write-marks-2 (inside-calls t) (inside-at t) inside.Post
 inside-element-write-marks-2 t c = search needs
 
--- src/lib.rt:130:1
+-- src/lib.rt:122:1
 inside-returns :
     (t : ℕ) → inside-lts.Need-returns (inside-calls t) (inside-at t) inside.Post
 inside-returns t c = (c .pass-s .ensures .0 ∙ ap (λ (N : Lets). foundS N (signalAt (c .before .before .before .args .p .now .now) (c .before .before .before .args .k))) (marked (c .before .before .before .args .marks .now) (c .before .before .before .args .i) (c .before .before .before .args .region) (c .before .before .before .pre .1 .1)), ap (λ (l : List ℕ). set l (c .before .before .before .args .i) (getD (c .before .before .before .args .marks .now) (c .before .before .before .args .i) 0)) (c .pass-s .ensures .1) ∙ put-back _ _ (c .before .before .before .args .region))
 
--- src/lib.rt:146:9
+-- src/lib.rt:138:9
 pass-b-node-requires : (t : ℕ) → pass-b-lts.Need-node-requires (pass-b-calls t) (pass-b-at t) pass-b.Post
 pass-b-node-requires t c κs = let w = c .before .pre .1 .node in (omega (arith, w .inside, w .shaped .within), omega (arith, w .inside, w .shaped .small))
 
--- src/lib.rt:147:9
+-- src/lib.rt:139:9
 pass-b-pass-s-requires : (t : ℕ) → pass-b-lts.Need-pass-s-requires (pass-b-calls t) (pass-b-at t) pass-b.Post
 pass-b-pass-s-requires t c κs = let k = read (c .before .node .ensures .a-is) (branch-kid (c .before .before .before .args .p .now .now) (c .before .before .before .args .j) (c .before .before .before .pre .1 .node)) in (omega (arith, k .less, c .before .before .before .pre .0), entered (c .before .before .before .pre .1) refl k (omega (arith, k .less, c .before .before .before .pre .1 .above)) (omega (arith, k .less, c .before .before .before .pre .1 .above)))
 
--- src/lib.rt:149:9
+-- src/lib.rt:141:9
 pass-b-sooner-requires : (t : ℕ) → pass-b-lts.Need-sooner-requires (pass-b-calls t) (pass-b-at t) pass-b.Post
 pass-b-sooner-requires t c κs = search needs
 
--- src/lib.rt:149:9
+-- src/lib.rt:141:9
 pass-b-returns : (t : ℕ) → pass-b-lts.Need-returns (pass-b-calls t) (pass-b-at t) pass-b.Post
-pass-b-returns t c = (cc (branch-last-found (c .before .before .before .before .before .before .before .args .p .now .now) (c .before .before .before .before .before .before .before .args .j) (c .before .before .before .before .before .before .before .pre .1 .node) (markedIn (c .before .before .before .before .before .before .before .args .marks .now) (c .before .before .before .before .before .before .before .args .region)) (sym (c .before .before .before .before .before .node .ensures .b-is) ∙ c .before .if1 .taken)), c .before .before .before .pass-s .ensures .1)
+pass-b-returns t c = (cc (branch-last-found (c .before .before .before .before .before .before .before .args .p .now .now) (c .before .before .before .before .before .before .before .args .j) (c .before .before .before .before .before .before .before .pre .1 .node) (markedIn (c .before .before .before .before .before .before .before .args .marks .now) (c .before .before .before .before .before .before .before .args .region)) (sym (c .before .before .before .before .before .node .ensures .b-is) ∙ c .before .if1 .taken), no-place), c .before .before .before .pass-s .ensures .1)
 
--- src/lib.rt:151:9
+-- src/lib.rt:143:9
 pass-b-pass-b-requires : (t : ℕ) → pass-b-lts.Need-pass-b-requires (pass-b-calls t) (pass-b-at t) pass-b.Post
 pass-b-pass-b-requires t c κs = let k = read (c .before .before .before .before .before .node .ensures .b-is) (branch-next (c .before .before .before .before .before .before .before .args .p .now .now) (c .before .before .before .before .before .before .before .args .j) (c .before .before .before .before .before .before .before .pre .1 .node) (λ h. c .before .if1 .left (c .before .before .before .before .before .node .ensures .b-is ∙ h))) in (omega (arith, k .less, c .before .before .before .before .before .before .before .pre .0), entered (c .before .before .before .before .before .before .before .pre .1) (c .before .before .before .pass-s .ensures .1) k (omega (arith, k .less, c .before .before .before .before .before .before .before .pre .1 .above)) (omega (arith, k .less, c .before .before .before .before .before .before .before .pre .1 .above)))
 
--- src/lib.rt:152:5
+-- src/lib.rt:144:5
 pass-b-sooner-requires-2 : (t : ℕ) → pass-b-lts.Need-sooner-requires-2 (pass-b-calls t) (pass-b-at t) pass-b.Post
 pass-b-sooner-requires-2 t c κs = search needs
 
--- src/lib.rt:142:1
+-- src/lib.rt:134:1
 pass-b-returns-2 : (t : ℕ) → pass-b-lts.Need-returns-2 (pass-b-calls t) (pass-b-at t) pass-b.Post
 pass-b-returns-2 t c = (cc (branch-more-found (c .before .before .before .before .before .before .before .before .before .args .p .now .now) (c .before .before .before .before .before .before .before .before .before .args .j) (c .before .before .before .before .before .before .before .before .before .pre .1 .node) (markedIn (c .before .before .before .before .before .before .before .before .before .args .marks .now) (c .before .before .before .before .before .before .before .before .before .args .region)) (λ h. c .before .before .before .if1 .left (c .before .before .before .before .before .before .before .node .ensures .b-is ∙ h))), c .before .pass-b .ensures .1 ∙ c .before .before .before .before .before .pass-s .ensures .1)
 
--- src/lib.rt:160:9
+-- src/lib.rt:152:9
 pass-c-node-requires : (t : ℕ) → pass-c-lts.Need-node-requires (pass-c-calls t) (pass-c-at t) pass-c.Post
 pass-c-node-requires t c κs = let w = c .before .pre .1 .node in (omega (arith, w .inside, w .shaped .within), omega (arith, w .inside, w .shaped .small))
 
--- src/lib.rt:161:34
+-- src/lib.rt:153:34
 pass-c-add-pass-s : (t : ℕ) → pass-c-lts.Need-add-pass-s (pass-c-calls t) (pass-c-at t) pass-c.Post
 pass-c-add-pass-s t c = let k = read (c .before .before .node .ensures .a-is) (case-kid (c .before .before .before .before .args .p .now .now) (c .before .before .before .before .args .j) (c .before .before .before .before .pre .1 .node)) in omega (arith, k .less, k .node .inside, k .node .shaped .small)
 
--- src/lib.rt:161:9
+-- src/lib.rt:153:9
 pass-c-pass-s-requires : (t : ℕ) → pass-c-lts.Need-pass-s-requires (pass-c-calls t) (pass-c-at t) pass-c.Post
 pass-c-pass-s-requires t c κs = let k = read (c .before .before .node .ensures .a-is) (case-kid (c .before .before .before .before .args .p .now .now) (c .before .before .before .before .args .j) (c .before .before .before .before .pre .1 .node)) in (omega (arith, k .less, c .before .before .before .before .pre .0), entered (c .before .before .before .before .pre .1) refl k (omega (arith, k .less, c .before .before .before .before .pre .1 .above)) (omega (arith, k .less, c .before .before .before .before .pre .1 .above)))
 
--- src/lib.rt:163:9
+-- src/lib.rt:155:9
 pass-c-sooner-requires : (t : ℕ) → pass-c-lts.Need-sooner-requires (pass-c-calls t) (pass-c-at t) pass-c.Post
 pass-c-sooner-requires t c κs = search needs
 
--- src/lib.rt:163:9
+-- src/lib.rt:155:9
 pass-c-returns : (t : ℕ) → pass-c-lts.Need-returns (pass-c-calls t) (pass-c-at t) pass-c.Post
-pass-c-returns t c = (cc (case-last-ready (c .before .before .before .before .before .before .before .before .args .p .now .now) (c .before .before .before .before .before .before .before .before .args .j) (c .before .before .before .before .before .before .before .before .pre .1 .node) (sym (c .before .before .before .before .before .before .node .ensures .b-is) ∙ c .before .if1 .taken), apart (c .before .before .before .before .before .before .before .before .pre .1) ((case-kid (c .before .before .before .before .before .before .before .before .args .p .now .now) (c .before .before .before .before .before .before .before .before .args .j) (c .before .before .before .before .before .before .before .before .pre .1 .node)) .less) (signalAt (c .before .before .before .before .before .before .before .before .args .p .now .now) (aAt (c .before .before .before .before .before .before .before .before .args .p .now .now) (c .before .before .before .before .before .before .before .before .args .j)))), c .before .before .before .pass-s .ensures .1)
+pass-c-returns t c = (cc (case-last-ready (c .before .before .before .before .before .before .before .before .args .p .now .now) (c .before .before .before .before .before .before .before .before .args .j) (c .before .before .before .before .before .before .before .before .pre .1 .node) (sym (c .before .before .before .before .before .before .node .ensures .b-is) ∙ c .before .if1 .taken), apart (c .before .before .before .before .before .before .before .before .pre .1) ((case-kid (c .before .before .before .before .before .before .before .before .args .p .now .now) (c .before .before .before .before .before .before .before .before .args .j) (c .before .before .before .before .before .before .before .before .pre .1 .node)) .less) (signalAt (c .before .before .before .before .before .before .before .before .args .p .now .now) (aAt (c .before .before .before .before .before .before .before .before .args .p .now .now) (c .before .before .before .before .before .before .before .before .args .j))), no-place), c .before .before .before .pass-s .ensures .1)
 
--- src/lib.rt:165:9
+-- src/lib.rt:157:9
 pass-c-pass-c-requires : (t : ℕ) → pass-c-lts.Need-pass-c-requires (pass-c-calls t) (pass-c-at t) pass-c.Post
 pass-c-pass-c-requires t c κs = let k = read (c .before .before .before .before .before .before .node .ensures .b-is) (case-next (c .before .before .before .before .before .before .before .before .args .p .now .now) (c .before .before .before .before .before .before .before .before .args .j) (c .before .before .before .before .before .before .before .before .pre .1 .node) (λ h. c .before .if1 .left (c .before .before .before .before .before .before .node .ensures .b-is ∙ h))) in (omega (arith, k .less, c .before .before .before .before .before .before .before .before .pre .0), entered (c .before .before .before .before .before .before .before .before .pre .1) (c .before .before .before .pass-s .ensures .1) k (omega (arith, k .less, c .before .before .before .before .before .before .before .before .pre .1 .above)) (omega (arith, k .less, c .before .before .before .before .before .before .before .before .pre .1 .above)))
 
--- src/lib.rt:166:5
+-- src/lib.rt:158:5
 pass-c-sooner-requires-2 : (t : ℕ) → pass-c-lts.Need-sooner-requires-2 (pass-c-calls t) (pass-c-at t) pass-c.Post
 pass-c-sooner-requires-2 t c κs = search needs
 
--- src/lib.rt:156:1
+-- src/lib.rt:148:1
 pass-c-returns-2 : (t : ℕ) → pass-c-lts.Need-returns-2 (pass-c-calls t) (pass-c-at t) pass-c.Post
 pass-c-returns-2 t c = (cc (case-more-ready (c .before .before .before .before .before .before .before .before .before .before .args .p .now .now) (c .before .before .before .before .before .before .before .before .before .before .args .j) (c .before .before .before .before .before .before .before .before .before .before .pre .1 .node) (λ h. c .before .before .before .if1 .left (c .before .before .before .before .before .before .before .before .node .ensures .b-is ∙ h)), apart (c .before .before .before .before .before .before .before .before .before .before .pre .1) ((case-kid (c .before .before .before .before .before .before .before .before .before .before .args .p .now .now) (c .before .before .before .before .before .before .before .before .before .before .args .j) (c .before .before .before .before .before .before .before .before .before .before .pre .1 .node)) .less) (signalAt (c .before .before .before .before .before .before .before .before .before .before .args .p .now .now) (aAt (c .before .before .before .before .before .before .before .before .before .before .args .p .now .now) (c .before .before .before .before .before .before .before .before .before .before .args .j)))), c .before .pass-c .ensures .1 ∙ c .before .before .before .before .before .pass-s .ensures .1)
 
--- src/lib.rt:95:9
+-- src/lib.rt:87:9
 pass-s-node-requires : (t : ℕ) → pass-s-lts.Need-node-requires (pass-s-calls t) (pass-s-at t) pass-s.Post
 pass-s-node-requires t c κs = let w = c .before .pre .1 .node in (omega (arith, w .inside, w .shaped .within), omega (arith, w .inside, w .shaped .small))
 
--- src/lib.rt:99:14
+-- src/lib.rt:91:14
 pass-s-pass-e-requires : (t : ℕ) → pass-s-lts.Need-pass-e-requires (pass-s-calls t) (pass-s-at t) pass-s.Post
 pass-s-pass-e-requires t c κs = let k = read (c .before .before .node .ensures .a-is) (ext-kid (c .before .before .before .before .args .p .now .now) (c .before .before .before .before .args .i) (c .before .before .before .before .pre .1 .node) (sym (c .before .before .node .ensures .kind-is) ∙ c .before .match .keys2)) in entered (c .before .before .before .before .pre .1) refl k (omega (arith, k .less, c .before .before .before .before .pre .1 .above)) (omega (arith, k .less, c .before .before .before .before .pre .1 .above))
 
--- src/lib.rt:101:25
+-- src/lib.rt:93:25
 pass-s-add-apart : (t : ℕ) → pass-s-lts.Need-add-apart (pass-s-calls t) (pass-s-at t) pass-s.Post
 pass-s-add-apart t c = let k = read (c .before .before .node .ensures .a-is) (delay-kid (c .before .before .before .before .args .p .now .now) (c .before .before .before .before .args .i) (c .before .before .before .before .pre .1 .node) (sym (c .before .before .node .ensures .kind-is) ∙ c .before .match .keys3)) in omega (arith, k .less, k .node .inside, k .node .shaped .small)
 
--- src/lib.rt:102:13
+-- src/lib.rt:94:13
 pass-s-pass-s-requires : (t : ℕ) → pass-s-lts.Need-pass-s-requires (pass-s-calls t) (pass-s-at t) pass-s.Post
 pass-s-pass-s-requires t c κs = let k = read (c .before .before .before .node .ensures .a-is) (delay-kid (c .before .before .before .before .before .args .p .now .now) (c .before .before .before .before .before .args .i) (c .before .before .before .before .before .pre .1 .node) (sym (c .before .before .before .node .ensures .kind-is) ∙ c .before .before .match .keys3)) in (omega (arith, k .less, c .before .before .before .before .before .pre .0), entered (c .before .before .before .before .before .pre .1) refl k (omega (arith, k .less, c .before .before .before .before .before .pre .1 .above)) (omega (arith, k .less, c .before .before .before .before .before .pre .1 .above)))
 
--- src/lib.rt:105:17
+-- src/lib.rt:97:17
 pass-s-inside-requires : (t : ℕ) → pass-s-lts.Need-inside-requires (pass-s-calls t) (pass-s-at t) pass-s.Post
 pass-s-inside-requires t c κs = let k = read (c .before .before .node .ensures .a-is) (let-kids (c .before .before .before .before .args .p .now .now) (c .before .before .before .before .args .i) (c .before .before .before .before .pre .1 .node) (sym (c .before .before .node .ensures .kind-is) ∙ c .before .match .keys4) .0) in (omega (arith, k .less, c .before .before .before .before .pre .0), (entered (c .before .before .before .before .pre .1) refl k (omega (arith, k .less, c .before .before .before .before .pre .1 .above)) (omega (arith, k .less, c .before .before .before .before .pre .1 .above)), omega (arith, c .before .before .before .before .pre .1 .room, c .before .before .before .before .pre .1 .node .inside, c .before .before .before .before .pre .1 .node .shaped .small)))
 
--- src/lib.rt:106:17
+-- src/lib.rt:98:17
 pass-s-pass-s-requires-2 : (t : ℕ) → pass-s-lts.Need-pass-s-requires-2 (pass-s-calls t) (pass-s-at t) pass-s.Post
 pass-s-pass-s-requires-2 t c κs = let k = read (c .before .before .before .before .node .ensures .b-is) (let-kids (c .before .before .before .before .before .before .args .p .now .now) (c .before .before .before .before .before .before .args .i) (c .before .before .before .before .before .before .pre .1 .node) (sym (c .before .before .before .before .node .ensures .kind-is) ∙ c .before .before .before .match .keys4) .1) in (omega (arith, k .less, c .before .before .before .before .before .before .pre .0), entered (c .before .before .before .before .before .before .pre .1) (c .before .inside .ensures .1) k (omega (arith, k .less, c .before .before .before .before .before .before .pre .1 .above)) (omega (arith, k .less, c .before .before .before .before .before .before .pre .1 .above)))
 
--- src/lib.rt:107:13
+-- src/lib.rt:99:13
 pass-s-sooner-requires : (t : ℕ) → pass-s-lts.Need-sooner-requires (pass-s-calls t) (pass-s-at t) pass-s.Post
 pass-s-sooner-requires t c κs = search needs
 
--- src/lib.rt:110:17
+-- src/lib.rt:102:17
 pass-s-pass-s-requires-3 : (t : ℕ) → pass-s-lts.Need-pass-s-requires-3 (pass-s-calls t) (pass-s-at t) pass-s.Post
 pass-s-pass-s-requires-3 t c κs = let k = read (c .before .before .node .ensures .a-is) (switch-kids (c .before .before .before .before .args .p .now .now) (c .before .before .before .before .args .i) (c .before .before .before .before .pre .1 .node) (sym (c .before .before .node .ensures .kind-is) ∙ c .before .match .keys5) .0) in (omega (arith, k .less, c .before .before .before .before .pre .0), entered (c .before .before .before .before .pre .1) refl k (omega (arith, k .less, c .before .before .before .before .pre .1 .above)) (omega (arith, k .less, c .before .before .before .before .pre .1 .above)))
 
--- src/lib.rt:111:38
+-- src/lib.rt:103:38
 pass-s-add-pass-s : (t : ℕ) → pass-s-lts.Need-add-pass-s (pass-s-calls t) (pass-s-at t) pass-s.Post
 pass-s-add-pass-s t c = let k = read (c .before .before .before .before .before .node .ensures .b-is) (switch-kids (c .before .before .before .before .before .before .before .args .p .now .now) (c .before .before .before .before .before .before .before .args .i) (c .before .before .before .before .before .before .before .pre .1 .node) (sym (c .before .before .before .before .before .node .ensures .kind-is) ∙ c .before .before .before .before .match .keys5) .1) in omega (arith, k .less, k .node .inside, k .node .shaped .small)
 
--- src/lib.rt:111:17
+-- src/lib.rt:103:17
 pass-s-pass-s-requires-4 : (t : ℕ) → pass-s-lts.Need-pass-s-requires-4 (pass-s-calls t) (pass-s-at t) pass-s.Post
 pass-s-pass-s-requires-4 t c κs = let k = read (c .before .before .before .before .before .node .ensures .b-is) (switch-kids (c .before .before .before .before .before .before .before .args .p .now .now) (c .before .before .before .before .before .before .before .args .i) (c .before .before .before .before .before .before .before .pre .1 .node) (sym (c .before .before .before .before .before .node .ensures .kind-is) ∙ c .before .before .before .before .match .keys5) .1) in (omega (arith, k .less, c .before .before .before .before .before .before .before .pre .0), entered (c .before .before .before .before .before .before .before .pre .1) (c .before .before .pass-s3 .ensures .1) k (omega (arith, k .less, c .before .before .before .before .before .before .before .pre .1 .above)) (omega (arith, k .less, c .before .before .before .before .before .before .before .pre .1 .above)))
 
--- src/lib.rt:112:17
+-- src/lib.rt:104:17
 pass-s-pass-s-requires-5 : (t : ℕ) → pass-s-lts.Need-pass-s-requires-5 (pass-s-calls t) (pass-s-at t) pass-s.Post
 pass-s-pass-s-requires-5 t c κs = let k = read (c .before .before .before .before .before .before .before .node .ensures .c-is) (switch-kids (c .before .before .before .before .before .before .before .before .before .args .p .now .now) (c .before .before .before .before .before .before .before .before .before .args .i) (c .before .before .before .before .before .before .before .before .before .pre .1 .node) (sym (c .before .before .before .before .before .before .before .node .ensures .kind-is) ∙ c .before .before .before .before .before .before .match .keys5) .2) in (omega (arith, k .less, c .before .before .before .before .before .before .before .before .before .pre .0), entered (c .before .before .before .before .before .before .before .before .before .pre .1) (c .before .pass-s4 .ensures .1 ∙ c .before .before .before .before .pass-s3 .ensures .1) k (omega (arith, k .less, c .before .before .before .before .before .before .before .before .before .pre .1 .above)) (omega (arith, k .less, c .before .before .before .before .before .before .before .before .before .pre .1 .above)))
 
--- src/lib.rt:113:23
+-- src/lib.rt:105:23
 pass-s-sooner-requires-2 : (t : ℕ) → pass-s-lts.Need-sooner-requires-2 (pass-s-calls t) (pass-s-at t) pass-s.Post
 pass-s-sooner-requires-2 t c κs = search needs
 
--- src/lib.rt:113:13
+-- src/lib.rt:105:13
 pass-s-sooner-requires-3 : (t : ℕ) → pass-s-lts.Need-sooner-requires-3 (pass-s-calls t) (pass-s-at t) pass-s.Post
 pass-s-sooner-requires-3 t c κs = search needs
 
--- src/lib.rt:116:17
+-- src/lib.rt:108:17
 pass-s-pass-s-requires-6 : (t : ℕ) → pass-s-lts.Need-pass-s-requires-6 (pass-s-calls t) (pass-s-at t) pass-s.Post
 pass-s-pass-s-requires-6 t c κs = let k = read (c .before .before .node .ensures .a-is) (group-kids (c .before .before .before .before .args .p .now .now) (c .before .before .before .before .args .i) (c .before .before .before .before .pre .1 .node) (sym (c .before .before .node .ensures .kind-is) ∙ c .before .match .keys6) .0) in (omega (arith, k .less, c .before .before .before .before .pre .0), entered (c .before .before .before .before .pre .1) refl k (omega (arith, k .less, c .before .before .before .before .pre .1 .above)) (omega (arith, k .less, c .before .before .before .before .pre .1 .above)))
 
--- src/lib.rt:117:17
+-- src/lib.rt:109:17
 pass-s-pass-b-requires : (t : ℕ) → pass-s-lts.Need-pass-b-requires (pass-s-calls t) (pass-s-at t) pass-s.Post
 pass-s-pass-b-requires t c κs = let k = read (c .before .before .before .before .node .ensures .b-is) (group-kids (c .before .before .before .before .before .before .args .p .now .now) (c .before .before .before .before .before .before .args .i) (c .before .before .before .before .before .before .pre .1 .node) (sym (c .before .before .before .before .node .ensures .kind-is) ∙ c .before .before .before .match .keys6) .1) in (omega (arith, k .less, c .before .before .before .before .before .before .pre .0), entered (c .before .before .before .before .before .before .pre .1) (c .before .pass-s6 .ensures .1) k (omega (arith, k .less, c .before .before .before .before .before .before .pre .1 .above)) (omega (arith, k .less, c .before .before .before .before .before .before .pre .1 .above)))
 
--- src/lib.rt:118:13
+-- src/lib.rt:110:13
 pass-s-sooner-requires-4 : (t : ℕ) → pass-s-lts.Need-sooner-requires-4 (pass-s-calls t) (pass-s-at t) pass-s.Post
 pass-s-sooner-requires-4 t c κs = search needs
 
--- src/lib.rt:121:17
+-- src/lib.rt:113:17
 pass-s-pass-s-requires-7 : (t : ℕ) → pass-s-lts.Need-pass-s-requires-7 (pass-s-calls t) (pass-s-at t) pass-s.Post
 pass-s-pass-s-requires-7 t c κs = let k = read (c .before .before .node .ensures .a-is) (until-kids (c .before .before .before .before .args .p .now .now) (c .before .before .before .before .args .i) (c .before .before .before .before .pre .1 .node) (sym (c .before .before .node .ensures .kind-is) ∙ c .before .match .keys7) .0) in (omega (arith, k .less, c .before .before .before .before .pre .0), entered (c .before .before .before .before .pre .1) refl k (omega (arith, k .less, c .before .before .before .before .pre .1 .above)) (omega (arith, k .less, c .before .before .before .before .pre .1 .above)))
 
--- src/lib.rt:122:17
+-- src/lib.rt:114:17
 pass-s-pass-c-requires : (t : ℕ) → pass-s-lts.Need-pass-c-requires (pass-s-calls t) (pass-s-at t) pass-s.Post
 pass-s-pass-c-requires t c κs = let k = read (c .before .before .before .before .node .ensures .b-is) (until-kids (c .before .before .before .before .before .before .args .p .now .now) (c .before .before .before .before .before .before .args .i) (c .before .before .before .before .before .before .pre .1 .node) (sym (c .before .before .before .before .node .ensures .kind-is) ∙ c .before .before .before .match .keys7) .1) in (omega (arith, k .less, c .before .before .before .before .before .before .pre .0), entered (c .before .before .before .before .before .before .pre .1) (c .before .pass-s7 .ensures .1) k (omega (arith, k .less, c .before .before .before .before .before .before .pre .1 .above)) (omega (arith, k .less, c .before .before .before .before .before .before .pre .1 .above)))
 
--- src/lib.rt:123:13
+-- src/lib.rt:115:13
 pass-s-sooner-requires-5 : (t : ℕ) → pass-s-lts.Need-sooner-requires-5 (pass-s-calls t) (pass-s-at t) pass-s.Post
 pass-s-sooner-requires-5 t c κs = search needs
 
--- src/lib.rt:91:1
+-- src/lib.rt:83:1
 pass-s-returns : (t : ℕ) → pass-s-lts.Need-returns (pass-s-calls t) (pass-s-at t) pass-s.Post
-pass-s-returns t c = (cc (input-found (c .before .before .before .args .p .now .now) (c .before .before .before .args .i) (c .before .before .before .pre .1 .node) (markedIn (c .before .before .before .args .marks .now) (c .before .before .before .args .region)) (sym (c .before .node .ensures .kind-is) ∙ c .match .keys1)), refl)
+pass-s-returns t c = (cc (input-found (c .before .before .before .args .p .now .now) (c .before .before .before .args .i) (c .before .before .before .pre .1 .node) (markedIn (c .before .before .before .args .marks .now) (c .before .before .before .args .region)) (sym (c .before .node .ensures .kind-is) ∙ c .match .keys1), no-place), refl)
 
--- src/lib.rt:91:1
+-- src/lib.rt:83:1
 pass-s-returns-2 : (t : ℕ) → pass-s-lts.Need-returns-2 (pass-s-calls t) (pass-s-at t) pass-s.Post
 pass-s-returns-2 t c = (cc (ext-found (c .before .before .before .before .before .args .p .now .now) (c .before .before .before .before .before .args .i) (c .before .before .before .before .before .pre .1 .node) (markedIn (c .before .before .before .before .before .args .marks .now) (c .before .before .before .before .before .args .region)) (sym (c .before .before .before .node .ensures .kind-is) ∙ c .before .before .match .keys2)), refl)
 
--- src/lib.rt:91:1
+-- src/lib.rt:83:1
 pass-s-returns-3 : (t : ℕ) → pass-s-lts.Need-returns-3 (pass-s-calls t) (pass-s-at t) pass-s.Post
 pass-s-returns-3 t c = (cc (delay-found (c .before .before .before .before .before .before .args .p .now .now) (c .before .before .before .before .before .before .args .i) (c .before .before .before .before .before .before .pre .1 .node) (markedIn (c .before .before .before .before .before .before .args .marks .now) (c .before .before .before .before .before .before .args .region)) (sym (c .before .before .before .before .node .ensures .kind-is) ∙ c .before .before .before .match .keys3), apart (c .before .before .before .before .before .before .pre .1) ((delay-kid (c .before .before .before .before .before .before .args .p .now .now) (c .before .before .before .before .before .before .args .i) (c .before .before .before .before .before .before .pre .1 .node) (sym (c .before .before .before .before .node .ensures .kind-is) ∙ c .before .before .before .match .keys3)) .less) (signalAt (c .before .before .before .before .before .before .args .p .now .now) (aAt (c .before .before .before .before .before .before .args .p .now .now) (c .before .before .before .before .before .before .args .i)))), c .pass-s .ensures .1)
 
--- src/lib.rt:91:1
+-- src/lib.rt:83:1
 pass-s-returns-4 : (t : ℕ) → pass-s-lts.Need-returns-4 (pass-s-calls t) (pass-s-at t) pass-s.Post
 pass-s-returns-4 t c = (cc (let-found (c .before .before .before .before .before .before .before .before .args .p .now .now) (c .before .before .before .before .before .before .before .before .args .i) (c .before .before .before .before .before .before .before .before .pre .1 .node) (markedIn (c .before .before .before .before .before .before .before .before .args .marks .now) (c .before .before .before .before .before .before .before .before .args .region)) (sym (c .before .before .before .before .before .before .node .ensures .kind-is) ∙ c .before .before .before .before .before .match .keys4)), c .before .pass-s2 .ensures .1 ∙ c .before .before .before .inside .ensures .1)
 
--- src/lib.rt:91:1
+-- src/lib.rt:83:1
 pass-s-returns-5 : (t : ℕ) → pass-s-lts.Need-returns-5 (pass-s-calls t) (pass-s-at t) pass-s.Post
 pass-s-returns-5 t c = (cc (switch-found (c .before .before .before .before .before .before .before .before .before .before .before .before .args .p .now .now) (c .before .before .before .before .before .before .before .before .before .before .before .before .args .i) (c .before .before .before .before .before .before .before .before .before .before .before .before .pre .1 .node) (markedIn (c .before .before .before .before .before .before .before .before .before .before .before .before .args .marks .now) (c .before .before .before .before .before .before .before .before .before .before .before .before .args .region)) (sym (c .before .before .before .before .before .before .before .before .before .before .node .ensures .kind-is) ∙ c .before .before .before .before .before .before .before .before .before .match .keys5), apart (c .before .before .before .before .before .before .before .before .before .before .before .before .pre .1) ((switch-kids (c .before .before .before .before .before .before .before .before .before .before .before .before .args .p .now .now) (c .before .before .before .before .before .before .before .before .before .before .before .before .args .i) (c .before .before .before .before .before .before .before .before .before .before .before .before .pre .1 .node) (sym (c .before .before .before .before .before .before .before .before .before .before .node .ensures .kind-is) ∙ c .before .before .before .before .before .before .before .before .before .match .keys5) .1) .less) (signalAt (c .before .before .before .before .before .before .before .before .before .before .before .before .args .p .now .now) (bAt (c .before .before .before .before .before .before .before .before .before .before .before .before .args .p .now .now) (c .before .before .before .before .before .before .before .before .before .before .before .before .args .i)))), c .before .before .pass-s5 .ensures .1 ∙ c .before .before .before .before .pass-s4 .ensures .1 ∙ c .before .before .before .before .before .before .before .pass-s3 .ensures .1)
 
--- src/lib.rt:91:1
+-- src/lib.rt:83:1
 pass-s-returns-6 : (t : ℕ) → pass-s-lts.Need-returns-6 (pass-s-calls t) (pass-s-at t) pass-s.Post
 pass-s-returns-6 t c = (cc (group-found (c .before .before .before .before .before .before .before .before .args .p .now .now) (c .before .before .before .before .before .before .before .before .args .i) (c .before .before .before .before .before .before .before .before .pre .1 .node) (markedIn (c .before .before .before .before .before .before .before .before .args .marks .now) (c .before .before .before .before .before .before .before .before .args .region)) (sym (c .before .before .before .before .before .before .node .ensures .kind-is) ∙ c .before .before .before .before .before .match .keys6)), c .before .pass-b .ensures .1 ∙ c .before .before .before .pass-s6 .ensures .1)
 
--- src/lib.rt:91:1
+-- src/lib.rt:83:1
 pass-s-returns-7 : (t : ℕ) → pass-s-lts.Need-returns-7 (pass-s-calls t) (pass-s-at t) pass-s.Post
 pass-s-returns-7 t c = (cc (until-found (c .before .before .before .before .before .before .before .before .args .p .now .now) (c .before .before .before .before .before .before .before .before .args .i) (c .before .before .before .before .before .before .before .before .pre .1 .node) (markedIn (c .before .before .before .before .before .before .before .before .args .marks .now) (c .before .before .before .before .before .before .before .before .args .region)) (sym (c .before .before .before .before .before .before .node .ensures .kind-is) ∙ c .before .before .before .before .before .match .keys7)), c .before .pass-c .ensures .1 ∙ c .before .before .before .pass-s7 .ensures .1)
 
--- src/lib.rt:91:1
+-- src/lib.rt:83:1
 pass-s-returns-8 : (t : ℕ) → pass-s-lts.Need-returns-8 (pass-s-calls t) (pass-s-at t) pass-s.Post
-pass-s-returns-8 t c = (cc (time-found (c .before .before .before .args .p .now .now) (c .before .before .before .args .i) (c .before .before .before .pre .1 .node) (markedIn (c .before .before .before .args .marks .now) (c .before .before .before .args .region)) (time-left (c .before .before .before .args .p .now .now) (c .before .before .before .args .i) (c .before .before .before .pre .1 .node) (c .before .node .ensures .kind-is) (c .match .rest))), refl)
+pass-s-returns-8 t c = (cc (time-found (c .before .before .before .args .p .now .now) (c .before .before .before .args .i) (c .before .before .before .pre .1 .node) (markedIn (c .before .before .before .args .marks .now) (c .before .before .before .args .region)) (time-left (c .before .before .before .args .p .now .now) (c .before .before .before .args .i) (c .before .before .before .pre .1 .node) (c .before .node .ensures .kind-is) (c .match .rest)), no-place), refl)
 
 pub +inside+pass-b+pass-c+pass-s-spec : {M : Type 1} → statement M
 +inside+pass-b+pass-c+pass-s-spec =

@@ -1,7 +1,9 @@
+-- Each arm is what is found in an expression of its kind, from what is found in its parts.
 use mathlib.Core.Path.{refl, sym, _∙_}
 use native.Mathlib.Omega.{arith}
 use borrow.Author.Needs.{needs}
 use Rattle.rules.proofs.Kids.{read}
+use Rattle.places.proofs.NumberLaws.{no-place}
 use Rattle.rules.proofs.Expressions.{left, negation-kid, just-kid, choice-kids, taking-kids, operation-kids}
 use Rattle.ready.specs.Regions.{markedIn}
 use Rattle.ready.proofs.RegionLaws.{entered}
@@ -45,123 +47,123 @@ pass-e-calls t = (node-reads.Asked, node-reads.Learnt, needed-reads.Asked, neede
 abbrev leaf-calls : ℕ → leaf-lts.Claims
 leaf-calls t = (node-reads.Asked, node-reads.Learnt, needed-reads.Asked, needed-reads.Learnt, pass-e-below t, pass-e.Post)
 
--- src/lib.rt:63:9
+-- src/lib.rt:55:9
 pass-e-node-requires : (t : ℕ) → pass-e-lts.Need-node-requires (pass-e-calls t) (pass-e-at t) pass-e.Post
 pass-e-node-requires t c κs = let w = c .before .pre .1 .node in (omega (arith, w .inside, w .shaped .within), omega (arith, w .inside, w .shaped .small))
 
--- src/lib.rt:66:15
+-- src/lib.rt:58:15
 pass-e-needed-requires : (t : ℕ) → pass-e-lts.Need-needed-requires (pass-e-calls t) (pass-e-at t) pass-e.Post
 pass-e-needed-requires t c κs = omega (arith, c .before .before .before .pre .1 .above)
 
--- src/lib.rt:68:15
+-- src/lib.rt:60:15
 pass-e-leaf-requires : (t : ℕ) → pass-e-lts.Need-leaf-requires (pass-e-calls t) (pass-e-at t) pass-e.Post
 pass-e-leaf-requires t c κs = let k = read (c .before .node .ensures .a-is) (negation-kid (c .before .before .before .args .p .now .now) (c .before .before .before .args .i) (c .before .before .before .pre .1 .node) (sym (c .before .node .ensures .kind-is) ∙ c .match .keys3)) in (omega (arith, k .less, c .before .before .before .pre .0), entered (c .before .before .before .pre .1) refl k (omega (arith, k .less, c .before .before .before .pre .1 .above)) (omega arith))
 
--- src/lib.rt:70:17
+-- src/lib.rt:62:17
 pass-e-leaf-requires-2 : (t : ℕ) → pass-e-lts.Need-leaf-requires-2 (pass-e-calls t) (pass-e-at t) pass-e.Post
 pass-e-leaf-requires-2 t c κs = let k = read (c .before .node .ensures .a-is) (choice-kids (c .before .before .before .args .p .now .now) (c .before .before .before .args .i) (c .before .before .before .pre .1 .node) (sym (c .before .node .ensures .kind-is) ∙ c .match .keys4) .0) in (omega (arith, k .less, c .before .before .before .pre .0), entered (c .before .before .before .pre .1) refl k (omega (arith, k .less, c .before .before .before .pre .1 .above)) (omega arith))
 
--- src/lib.rt:71:17
+-- src/lib.rt:63:17
 pass-e-leaf-requires-3 : (t : ℕ) → pass-e-lts.Need-leaf-requires-3 (pass-e-calls t) (pass-e-at t) pass-e.Post
 pass-e-leaf-requires-3 t c κs = let k = read (c .before .before .node .ensures .b-is) (choice-kids (c .before .before .before .before .args .p .now .now) (c .before .before .before .before .args .i) (c .before .before .before .before .pre .1 .node) (sym (c .before .before .node .ensures .kind-is) ∙ c .before .match .keys4) .1) in (omega (arith, k .less, c .before .before .before .before .pre .0), entered (c .before .before .before .before .pre .1) refl k (omega (arith, k .less, c .before .before .before .before .pre .1 .above)) (omega arith))
 
--- src/lib.rt:72:17
+-- src/lib.rt:64:17
 pass-e-leaf-requires-4 : (t : ℕ) → pass-e-lts.Need-leaf-requires-4 (pass-e-calls t) (pass-e-at t) pass-e.Post
 pass-e-leaf-requires-4 t c κs = let k = read (c .before .before .before .node .ensures .c-is) (choice-kids (c .before .before .before .before .before .args .p .now .now) (c .before .before .before .before .before .args .i) (c .before .before .before .before .before .pre .1 .node) (sym (c .before .before .before .node .ensures .kind-is) ∙ c .before .before .match .keys4) .2) in (omega (arith, k .less, c .before .before .before .before .before .pre .0), entered (c .before .before .before .before .before .pre .1) refl k (omega (arith, k .less, c .before .before .before .before .before .pre .1 .above)) (omega arith))
 
--- src/lib.rt:73:26
+-- src/lib.rt:65:26
 pass-e-sooner-requires : (t : ℕ) → pass-e-lts.Need-sooner-requires (pass-e-calls t) (pass-e-at t) pass-e.Post
 pass-e-sooner-requires t c κs = search needs
 
--- src/lib.rt:73:13
+-- src/lib.rt:65:13
 pass-e-sooner-requires-2 : (t : ℕ) → pass-e-lts.Need-sooner-requires-2 (pass-e-calls t) (pass-e-at t) pass-e.Post
 pass-e-sooner-requires-2 t c κs = search needs
 
--- src/lib.rt:75:15
+-- src/lib.rt:67:15
 pass-e-leaf-requires-5 : (t : ℕ) → pass-e-lts.Need-leaf-requires-5 (pass-e-calls t) (pass-e-at t) pass-e.Post
 pass-e-leaf-requires-5 t c κs = let k = read (c .before .node .ensures .a-is) (just-kid (c .before .before .before .args .p .now .now) (c .before .before .before .args .i) (c .before .before .before .pre .1 .node) (sym (c .before .node .ensures .kind-is) ∙ c .match .keys5)) in (omega (arith, k .less, c .before .before .before .pre .0), entered (c .before .before .before .pre .1) refl k (omega (arith, k .less, c .before .before .before .pre .1 .above)) (omega arith))
 
--- src/lib.rt:77:17
+-- src/lib.rt:69:17
 pass-e-leaf-requires-6 : (t : ℕ) → pass-e-lts.Need-leaf-requires-6 (pass-e-calls t) (pass-e-at t) pass-e.Post
 pass-e-leaf-requires-6 t c κs = let k = read (c .before .node .ensures .a-is) (taking-kids (c .before .before .before .args .p .now .now) (c .before .before .before .args .i) (c .before .before .before .pre .1 .node) (sym (c .before .node .ensures .kind-is) ∙ c .match .keys6) .0) in (omega (arith, k .less, c .before .before .before .pre .0), entered (c .before .before .before .pre .1) refl k (omega (arith, k .less, c .before .before .before .pre .1 .above)) (omega arith))
 
--- src/lib.rt:78:17
+-- src/lib.rt:70:17
 pass-e-leaf-requires-7 : (t : ℕ) → pass-e-lts.Need-leaf-requires-7 (pass-e-calls t) (pass-e-at t) pass-e.Post
 pass-e-leaf-requires-7 t c κs = let k = read (c .before .before .node .ensures .b-is) (taking-kids (c .before .before .before .before .args .p .now .now) (c .before .before .before .before .args .i) (c .before .before .before .before .pre .1 .node) (sym (c .before .before .node .ensures .kind-is) ∙ c .before .match .keys6) .1) in (omega (arith, k .less, c .before .before .before .before .pre .0), entered (c .before .before .before .before .pre .1) refl k (omega (arith, k .less, c .before .before .before .before .pre .1 .above)) (omega arith))
 
--- src/lib.rt:79:17
+-- src/lib.rt:71:17
 pass-e-leaf-requires-8 : (t : ℕ) → pass-e-lts.Need-leaf-requires-8 (pass-e-calls t) (pass-e-at t) pass-e.Post
 pass-e-leaf-requires-8 t c κs = let k = read (c .before .before .before .node .ensures .c-is) (taking-kids (c .before .before .before .before .before .args .p .now .now) (c .before .before .before .before .before .args .i) (c .before .before .before .before .before .pre .1 .node) (sym (c .before .before .before .node .ensures .kind-is) ∙ c .before .before .match .keys6) .2) in (omega (arith, k .less, c .before .before .before .before .before .pre .0), entered (c .before .before .before .before .before .pre .1) refl k (omega (arith, k .less, c .before .before .before .before .before .pre .1 .above)) (omega arith))
 
--- src/lib.rt:80:23
+-- src/lib.rt:72:23
 pass-e-sooner-requires-3 : (t : ℕ) → pass-e-lts.Need-sooner-requires-3 (pass-e-calls t) (pass-e-at t) pass-e.Post
 pass-e-sooner-requires-3 t c κs = search needs
 
--- src/lib.rt:80:13
+-- src/lib.rt:72:13
 pass-e-sooner-requires-4 : (t : ℕ) → pass-e-lts.Need-sooner-requires-4 (pass-e-calls t) (pass-e-at t) pass-e.Post
 pass-e-sooner-requires-4 t c κs = search needs
 
--- src/lib.rt:83:17
+-- src/lib.rt:75:17
 pass-e-leaf-requires-9 : (t : ℕ) → pass-e-lts.Need-leaf-requires-9 (pass-e-calls t) (pass-e-at t) pass-e.Post
 pass-e-leaf-requires-9 t c κs = let k = read (c .before .node .ensures .a-is) (operation-kids (c .before .before .before .args .p .now .now) (c .before .before .before .args .i) (c .before .before .before .pre .1 .node) (left (c .before .node .ensures .kind-is) (c .match .rest)) .0) in (omega (arith, k .less, c .before .before .before .pre .0), entered (c .before .before .before .pre .1) refl k (omega (arith, k .less, c .before .before .before .pre .1 .above)) (omega arith))
 
--- src/lib.rt:84:17
+-- src/lib.rt:76:17
 pass-e-leaf-requires-10 : (t : ℕ) → pass-e-lts.Need-leaf-requires-10 (pass-e-calls t) (pass-e-at t) pass-e.Post
 pass-e-leaf-requires-10 t c κs = let k = read (c .before .before .node .ensures .b-is) (operation-kids (c .before .before .before .before .args .p .now .now) (c .before .before .before .before .args .i) (c .before .before .before .before .pre .1 .node) (left (c .before .before .node .ensures .kind-is) (c .before .match .rest)) .1) in (omega (arith, k .less, c .before .before .before .before .pre .0), entered (c .before .before .before .before .pre .1) refl k (omega (arith, k .less, c .before .before .before .before .pre .1 .above)) (omega arith))
 
--- src/lib.rt:85:13
+-- src/lib.rt:77:13
 pass-e-sooner-requires-5 : (t : ℕ) → pass-e-lts.Need-sooner-requires-5 (pass-e-calls t) (pass-e-at t) pass-e.Post
 pass-e-sooner-requires-5 t c κs = search needs
 
--- src/lib.rt:59:1
+-- src/lib.rt:51:1
 pass-e-returns : (t : ℕ) → pass-e-lts.Need-returns (pass-e-calls t) (pass-e-at t) pass-e.Post
 pass-e-returns t c = cc (variable-found (c .before .before .before .before .args .p .now .now) (c .before .before .before .before .args .i) (c .before .before .before .before .pre .1 .node) (markedIn (c .before .before .before .before .args .marks .now) (c .before .before .before .before .args .region)) (sym (c .before .before .node .ensures .kind-is) ∙ c .before .match .keys1))
 
--- src/lib.rt:59:1
+-- src/lib.rt:51:1
 pass-e-returns-2 : (t : ℕ) → pass-e-lts.Need-returns-2 (pass-e-calls t) (pass-e-at t) pass-e.Post
-pass-e-returns-2 t c = cc (constant-found (c .before .before .before .args .p .now .now) (c .before .before .before .args .i) (c .before .before .before .pre .1 .node) (markedIn (c .before .before .before .args .marks .now) (c .before .before .before .args .region)) (sym (c .before .node .ensures .kind-is) ∙ c .match .keys2))
+pass-e-returns-2 t c = cc (constant-found (c .before .before .before .args .p .now .now) (c .before .before .before .args .i) (c .before .before .before .pre .1 .node) (markedIn (c .before .before .before .args .marks .now) (c .before .before .before .args .region)) (sym (c .before .node .ensures .kind-is) ∙ c .match .keys2), no-place)
 
--- src/lib.rt:59:1
+-- src/lib.rt:51:1
 pass-e-returns-3 : (t : ℕ) → pass-e-lts.Need-returns-3 (pass-e-calls t) (pass-e-at t) pass-e.Post
 pass-e-returns-3 t c = cc (negation-found (c .before .before .before .before .args .p .now .now) (c .before .before .before .before .args .i) (c .before .before .before .before .pre .1 .node) (markedIn (c .before .before .before .before .args .marks .now) (c .before .before .before .before .args .region)) (sym (c .before .before .node .ensures .kind-is) ∙ c .before .match .keys3))
 
--- src/lib.rt:59:1
+-- src/lib.rt:51:1
 pass-e-returns-4 : (t : ℕ) → pass-e-lts.Need-returns-4 (pass-e-calls t) (pass-e-at t) pass-e.Post
 pass-e-returns-4 t c = cc (choice-found (c .before .before .before .before .before .before .before .before .args .p .now .now) (c .before .before .before .before .before .before .before .before .args .i) (c .before .before .before .before .before .before .before .before .pre .1 .node) (markedIn (c .before .before .before .before .before .before .before .before .args .marks .now) (c .before .before .before .before .before .before .before .before .args .region)) (sym (c .before .before .before .before .before .before .node .ensures .kind-is) ∙ c .before .before .before .before .before .match .keys4))
 
--- src/lib.rt:59:1
+-- src/lib.rt:51:1
 pass-e-returns-5 : (t : ℕ) → pass-e-lts.Need-returns-5 (pass-e-calls t) (pass-e-at t) pass-e.Post
 pass-e-returns-5 t c = cc (just-found (c .before .before .before .before .args .p .now .now) (c .before .before .before .before .args .i) (c .before .before .before .before .pre .1 .node) (markedIn (c .before .before .before .before .args .marks .now) (c .before .before .before .before .args .region)) (sym (c .before .before .node .ensures .kind-is) ∙ c .before .match .keys5))
 
--- src/lib.rt:59:1
+-- src/lib.rt:51:1
 pass-e-returns-6 : (t : ℕ) → pass-e-lts.Need-returns-6 (pass-e-calls t) (pass-e-at t) pass-e.Post
 pass-e-returns-6 t c = cc (taking-found (c .before .before .before .before .before .before .before .before .args .p .now .now) (c .before .before .before .before .before .before .before .before .args .i) (c .before .before .before .before .before .before .before .before .pre .1 .node) (markedIn (c .before .before .before .before .before .before .before .before .args .marks .now) (c .before .before .before .before .before .before .before .before .args .region)) (sym (c .before .before .before .before .before .before .node .ensures .kind-is) ∙ c .before .before .before .before .before .match .keys6))
 
--- src/lib.rt:59:1
+-- src/lib.rt:51:1
 pass-e-returns-7 : (t : ℕ) → pass-e-lts.Need-returns-7 (pass-e-calls t) (pass-e-at t) pass-e.Post
 pass-e-returns-7 t c = cc (operation-found (c .before .before .before .before .before .before .args .p .now .now) (c .before .before .before .before .before .before .args .i) (c .before .before .before .before .before .before .pre .1 .node) (markedIn (c .before .before .before .before .before .before .args .marks .now) (c .before .before .before .before .before .before .args .region)) (left (c .before .before .before .before .node .ensures .kind-is) (c .before .before .before .match .rest)))
 
--- src/lib.rt:49:9
+-- src/lib.rt:41:9
 leaf-node-requires : (t : ℕ) → leaf-lts.Need-node-requires (leaf-calls t) (leaf-at t) leaf.Post
 leaf-node-requires t c κs = let w = c .before .pre .1 .node in (omega (arith, w .inside, w .shaped .within), omega (arith, w .inside, w .shaped .small))
 
--- src/lib.rt:52:15
+-- src/lib.rt:44:15
 leaf-needed-requires : (t : ℕ) → leaf-lts.Need-needed-requires (leaf-calls t) (leaf-at t) leaf.Post
 leaf-needed-requires t c κs = omega (arith, c .before .before .before .pre .1 .above)
 
--- src/lib.rt:54:14
+-- src/lib.rt:46:14
 leaf-pass-e-requires : (t : ℕ) → leaf-lts.Need-pass-e-requires (leaf-calls t) (leaf-at t) leaf.Post
 leaf-pass-e-requires t c κs = (omega (arith, c .before .before .before .pre .0), c .before .before .before .pre .1)
 
--- src/lib.rt:45:1
+-- src/lib.rt:37:1
 leaf-returns : (t : ℕ) → leaf-lts.Need-returns (leaf-calls t) (leaf-at t) leaf.Post
 leaf-returns t c = cc (variable-found (c .before .before .before .before .args .p .now .now) (c .before .before .before .before .args .i) (c .before .before .before .before .pre .1 .node) (markedIn (c .before .before .before .before .args .marks .now) (c .before .before .before .before .args .region)) (sym (c .before .before .node .ensures .kind-is) ∙ c .before .match .keys1))
 
--- src/lib.rt:45:1
+-- src/lib.rt:37:1
 leaf-returns-2 : (t : ℕ) → leaf-lts.Need-returns-2 (leaf-calls t) (leaf-at t) leaf.Post
-leaf-returns-2 t c = cc (constant-found (c .before .before .before .args .p .now .now) (c .before .before .before .args .i) (c .before .before .before .pre .1 .node) (markedIn (c .before .before .before .args .marks .now) (c .before .before .before .args .region)) (sym (c .before .node .ensures .kind-is) ∙ c .match .keys2))
+leaf-returns-2 t c = cc (constant-found (c .before .before .before .args .p .now .now) (c .before .before .before .args .i) (c .before .before .before .pre .1 .node) (markedIn (c .before .before .before .args .marks .now) (c .before .before .before .args .region)) (sym (c .before .node .ensures .kind-is) ∙ c .match .keys2), no-place)
 
--- src/lib.rt:45:1
+-- src/lib.rt:37:1
 leaf-returns-3 : (t : ℕ) → leaf-lts.Need-returns-3 (leaf-calls t) (leaf-at t) leaf.Post
 leaf-returns-3 t c = c .pass-e .ensures
 

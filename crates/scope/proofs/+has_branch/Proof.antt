@@ -28,23 +28,23 @@ has-branch-below t =
 abbrev has-branch-calls : ℕ → has-branch-lts.Claims
 has-branch-calls t = (node-reads.Asked, node-reads.Learnt, has-branch-below t, has-branch.Post)
 
--- src/lib.rt:91:9
+-- src/lib.rt:94:9
 has-branch-returns : (t : ℕ) → has-branch-lts.Need-returns (has-branch-calls t) (has-branch-at t) has-branch.Post
 has-branch-returns t c = sym (has-here (c .before .args .p .now .now) (c .before .args .j) (c .before .pre .1) (c .before .args .k) (c .if1 .taken))
 
--- src/lib.rt:93:9
+-- src/lib.rt:96:9
 has-branch-node-requires : (t : ℕ) → has-branch-lts.Need-node-requires (has-branch-calls t) (has-branch-at t) has-branch.Post
 has-branch-node-requires t c κs = let w = c .before .before .pre .1 in (omega (arith, w .inside, w .shaped .within), omega (arith, w .inside, w .shaped .small))
 
--- src/lib.rt:95:9
+-- src/lib.rt:98:9
 has-branch-returns-2 : (t : ℕ) → has-branch-lts.Need-returns-2 (has-branch-calls t) (has-branch-at t) has-branch.Post
 has-branch-returns-2 t c = sym (has-last (c .before .before .before .before .before .args .p .now .now) (c .before .before .before .before .before .args .j) (c .before .before .before .before .before .pre .1) (c .before .before .before .before .before .args .k) (c .before .before .before .before .if1 .left) (sym (c .before .before .node .ensures .b-is) ∙ c .if2 .taken))
 
--- src/lib.rt:97:5
+-- src/lib.rt:100:5
 has-branch-has-branch-requires : (t : ℕ) → has-branch-lts.Need-has-branch-requires (has-branch-calls t) (has-branch-at t) has-branch.Post
 has-branch-has-branch-requires t c κs = let k = read (c .before .before .node .ensures .b-is) (branch-next (c .before .before .before .before .before .args .p .now .now) (c .before .before .before .before .before .args .j) (c .before .before .before .before .before .pre .1) (λ h. c .if2 .left (c .before .before .node .ensures .b-is ∙ h))) in (omega (arith, k .less, c .before .before .before .before .before .pre .0), k .node)
 
--- src/lib.rt:86:1
+-- src/lib.rt:89:1
 has-branch-returns-3 : (t : ℕ) → has-branch-lts.Need-returns-3 (has-branch-calls t) (has-branch-at t) has-branch.Post
 has-branch-returns-3 t c = cc (has-more (c .before .before .before .before .before .before .args .p .now .now) (c .before .before .before .before .before .before .args .j) (c .before .before .before .before .before .before .pre .1) (c .before .before .before .before .before .before .args .k) (c .before .before .before .before .before .if1 .left) (λ h. c .before .if2 .left (c .before .before .before .node .ensures .b-is ∙ h)))
 

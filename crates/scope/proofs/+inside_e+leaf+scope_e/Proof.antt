@@ -1,4 +1,6 @@
+-- Each arm is the scope of an expression of its kind, from those of its parts; a binder's mark is put back.
 use Rattle.rules.proofs.PutBack.{put-back}
+use Rattle.places.proofs.NumberLaws.{no-place}
 use lib.ListN.{set, getD}
 use Rattle.scope.proofs.ScopeLaws.{variable-scope, constant-scope, negation-scope, just-scope, choice-scope, taking-scope, operation-scope}
 use Rattle.rules.proofs.Expressions.{left, negation-kid, just-kid, choice-kids, taking-kids, operation-kids}
@@ -65,154 +67,154 @@ leaf-calls t = (node-reads.Asked, node-reads.Learnt, marked-reads.Asked, marked-
 abbrev scope-e-calls : ℕ → scope-e-lts.Claims
 scope-e-calls t = (node-reads.Asked, node-reads.Learnt, marked-reads.Asked, marked-reads.Learnt, wrong-unless-reads.Asked, wrong-unless-reads.Learnt, leaf-below t, leaf.Post, sooner-reads.Asked, sooner-reads.Learnt, inside-e-below t, inside-e.Post)
 
--- src/lib.rt:78:15
+-- src/lib.rt:81:15
 inside-e-element-copy-out-old : (t : ℕ) → inside-e-lts.Need-element-copy-out-old (inside-e-calls t) (inside-e-at t) inside-e.Post
 inside-e-element-copy-out-old t c = search needs
 
--- src/lib.rt:79:5
+-- src/lib.rt:82:5
 inside-e-element-write-marks : (t : ℕ) → inside-e-lts.Need-element-write-marks (inside-e-calls t) (inside-e-at t) inside-e.Post
 inside-e-element-write-marks t c = search needs
 
--- src/lib.rt:80:9
+-- src/lib.rt:83:9
 inside-e-scope-e-requires : (t : ℕ) → inside-e-lts.Need-scope-e-requires (inside-e-calls t) (inside-e-at t) inside-e.Post
 inside-e-scope-e-requires t c κs = (omega (arith, c .before .before .pre .0), c .before .before .pre .1 .0)
 
--- src/lib.rt:81:5
+-- src/lib.rt:84:5
 inside-e-element-write-marks-2 : (t : ℕ) → inside-e-lts.Need-element-write-marks-2 (inside-e-calls t) (inside-e-at t) inside-e.Post
 inside-e-element-write-marks-2 t c = search needs
 
--- src/lib.rt:74:1
+-- src/lib.rt:77:1
 inside-e-returns :
     (t : ℕ) →
     inside-e-lts.Need-returns (inside-e-calls t) (inside-e-at t) inside-e.Post
 unfolding mark
 inside-e-returns t c = (c .scope-e .ensures .0, ap (λ (l : List ℕ). set l (c .before .before .before .args .i) (getD (c .before .before .before .args .marks .now) (c .before .before .before .args .i) 0)) (c .scope-e .ensures .1) ∙ put-back _ _ 1)
 
--- src/lib.rt:33:9
+-- src/lib.rt:36:9
 leaf-node-requires : (t : ℕ) → leaf-lts.Need-node-requires (leaf-calls t) (leaf-at t) leaf.Post
 leaf-node-requires t c κs = let w = c .before .pre .1 in (omega (arith, w .inside, w .shaped .within), omega (arith, w .inside, w .shaped .small))
 
--- src/lib.rt:36:28
+-- src/lib.rt:39:28
 leaf-marked-requires : (t : ℕ) → leaf-lts.Need-marked-requires (leaf-calls t) (leaf-at t) leaf.Post
 leaf-marked-requires t c κs = search needs
 
--- src/lib.rt:36:15
+-- src/lib.rt:39:15
 leaf-wrong-unless-requires : (t : ℕ) → leaf-lts.Need-wrong-unless-requires (leaf-calls t) (leaf-at t) leaf.Post
 leaf-wrong-unless-requires t c κs = omega (arith, c .before .before .before .before .before .pre .1 .inside, c .before .before .before .before .before .pre .1 .shaped .small)
 
--- src/lib.rt:38:14
+-- src/lib.rt:41:14
 leaf-scope-e-requires : (t : ℕ) → leaf-lts.Need-scope-e-requires (leaf-calls t) (leaf-at t) leaf.Post
 leaf-scope-e-requires t c κs = (omega (arith, c .before .before .before .before .pre .0), c .before .before .before .before .pre .1)
 
--- src/lib.rt:29:1
+-- src/lib.rt:32:1
 leaf-returns : (t : ℕ) → leaf-lts.Need-returns (leaf-calls t) (leaf-at t) leaf.Post
 leaf-returns t c = (cc (variable-scope (c .before .before .before .before .before .before .args .p .now .now) (c .before .before .before .before .before .before .args .i) (c .before .before .before .before .before .before .pre .1) (c .before .before .before .before .before .before .args .marks .now) (sym (c .before .before .before .before .node .ensures .kind-is) ∙ c .before .before .before .match .keys1)), refl)
 
--- src/lib.rt:29:1
+-- src/lib.rt:32:1
 leaf-returns-2 : (t : ℕ) → leaf-lts.Need-returns-2 (leaf-calls t) (leaf-at t) leaf.Post
-leaf-returns-2 t c = (cc (constant-scope (c .before .before .before .args .p .now .now) (c .before .before .before .args .i) (c .before .before .before .pre .1) (c .before .before .before .args .marks .now) (sym (c .before .node .ensures .kind-is) ∙ c .match .keys2)), refl)
+leaf-returns-2 t c = (cc (constant-scope (c .before .before .before .args .p .now .now) (c .before .before .before .args .i) (c .before .before .before .pre .1) (c .before .before .before .args .marks .now) (sym (c .before .node .ensures .kind-is) ∙ c .match .keys2), no-place), refl)
 
--- src/lib.rt:29:1
+-- src/lib.rt:32:1
 leaf-returns-3 : (t : ℕ) → leaf-lts.Need-returns-3 (leaf-calls t) (leaf-at t) leaf.Post
 leaf-returns-3 t c = c .scope-e .ensures
 
--- src/lib.rt:46:9
+-- src/lib.rt:49:9
 scope-e-node-requires : (t : ℕ) → scope-e-lts.Need-node-requires (scope-e-calls t) (scope-e-at t) scope-e.Post
 scope-e-node-requires t c κs = let w = c .before .pre .1 in (omega (arith, w .inside, w .shaped .within), omega (arith, w .inside, w .shaped .small))
 
--- src/lib.rt:49:28
+-- src/lib.rt:52:28
 scope-e-marked-requires : (t : ℕ) → scope-e-lts.Need-marked-requires (scope-e-calls t) (scope-e-at t) scope-e.Post
 scope-e-marked-requires t c κs = search needs
 
--- src/lib.rt:49:15
+-- src/lib.rt:52:15
 scope-e-wrong-unless-requires : (t : ℕ) → scope-e-lts.Need-wrong-unless-requires (scope-e-calls t) (scope-e-at t) scope-e.Post
 scope-e-wrong-unless-requires t c κs = omega (arith, c .before .before .before .before .before .pre .1 .inside, c .before .before .before .before .before .pre .1 .shaped .small)
 
--- src/lib.rt:51:15
+-- src/lib.rt:54:15
 scope-e-leaf-requires : (t : ℕ) → scope-e-lts.Need-leaf-requires (scope-e-calls t) (scope-e-at t) scope-e.Post
 scope-e-leaf-requires t c κs = let k = read (c .before .before .node .ensures .a-is) (negation-kid (c .before .before .before .before .args .p .now .now) (c .before .before .before .before .args .i) (c .before .before .before .before .pre .1) (sym (c .before .before .node .ensures .kind-is) ∙ c .before .match .keys3)) in (omega (arith, k .less, c .before .before .before .before .pre .0), k .node)
 
--- src/lib.rt:53:17
+-- src/lib.rt:56:17
 scope-e-leaf-requires-2 : (t : ℕ) → scope-e-lts.Need-leaf-requires-2 (scope-e-calls t) (scope-e-at t) scope-e.Post
 scope-e-leaf-requires-2 t c κs = let k = read (c .before .before .node .ensures .a-is) (choice-kids (c .before .before .before .before .args .p .now .now) (c .before .before .before .before .args .i) (c .before .before .before .before .pre .1) (sym (c .before .before .node .ensures .kind-is) ∙ c .before .match .keys4) .0) in (omega (arith, k .less, c .before .before .before .before .pre .0), k .node)
 
--- src/lib.rt:54:17
+-- src/lib.rt:57:17
 scope-e-leaf-requires-3 : (t : ℕ) → scope-e-lts.Need-leaf-requires-3 (scope-e-calls t) (scope-e-at t) scope-e.Post
 scope-e-leaf-requires-3 t c κs = let k = read (c .before .before .before .before .node .ensures .b-is) (choice-kids (c .before .before .before .before .before .before .args .p .now .now) (c .before .before .before .before .before .before .args .i) (c .before .before .before .before .before .before .pre .1) (sym (c .before .before .before .before .node .ensures .kind-is) ∙ c .before .before .before .match .keys4) .1) in (omega (arith, k .less, c .before .before .before .before .before .before .pre .0), k .node)
 
--- src/lib.rt:55:17
+-- src/lib.rt:58:17
 scope-e-leaf-requires-4 : (t : ℕ) → scope-e-lts.Need-leaf-requires-4 (scope-e-calls t) (scope-e-at t) scope-e.Post
 scope-e-leaf-requires-4 t c κs = let k = read (c .before .before .before .before .before .before .node .ensures .c-is) (choice-kids (c .before .before .before .before .before .before .before .before .args .p .now .now) (c .before .before .before .before .before .before .before .before .args .i) (c .before .before .before .before .before .before .before .before .pre .1) (sym (c .before .before .before .before .before .before .node .ensures .kind-is) ∙ c .before .before .before .before .before .match .keys4) .2) in (omega (arith, k .less, c .before .before .before .before .before .before .before .before .pre .0), k .node)
 
--- src/lib.rt:56:26
+-- src/lib.rt:59:26
 scope-e-sooner-requires : (t : ℕ) → scope-e-lts.Need-sooner-requires (scope-e-calls t) (scope-e-at t) scope-e.Post
 scope-e-sooner-requires t c κs = search needs
 
--- src/lib.rt:56:13
+-- src/lib.rt:59:13
 scope-e-sooner-requires-2 : (t : ℕ) → scope-e-lts.Need-sooner-requires-2 (scope-e-calls t) (scope-e-at t) scope-e.Post
 scope-e-sooner-requires-2 t c κs = search needs
 
--- src/lib.rt:58:15
+-- src/lib.rt:61:15
 scope-e-leaf-requires-5 : (t : ℕ) → scope-e-lts.Need-leaf-requires-5 (scope-e-calls t) (scope-e-at t) scope-e.Post
 scope-e-leaf-requires-5 t c κs = let k = read (c .before .before .node .ensures .a-is) (just-kid (c .before .before .before .before .args .p .now .now) (c .before .before .before .before .args .i) (c .before .before .before .before .pre .1) (sym (c .before .before .node .ensures .kind-is) ∙ c .before .match .keys5)) in (omega (arith, k .less, c .before .before .before .before .pre .0), k .node)
 
--- src/lib.rt:60:17
+-- src/lib.rt:63:17
 scope-e-leaf-requires-6 : (t : ℕ) → scope-e-lts.Need-leaf-requires-6 (scope-e-calls t) (scope-e-at t) scope-e.Post
 scope-e-leaf-requires-6 t c κs = let k = read (c .before .before .node .ensures .a-is) (taking-kids (c .before .before .before .before .args .p .now .now) (c .before .before .before .before .args .i) (c .before .before .before .before .pre .1) (sym (c .before .before .node .ensures .kind-is) ∙ c .before .match .keys6) .0) in (omega (arith, k .less, c .before .before .before .before .pre .0), k .node)
 
--- src/lib.rt:61:17
+-- src/lib.rt:64:17
 scope-e-leaf-requires-7 : (t : ℕ) → scope-e-lts.Need-leaf-requires-7 (scope-e-calls t) (scope-e-at t) scope-e.Post
 scope-e-leaf-requires-7 t c κs = let k = read (c .before .before .before .before .node .ensures .b-is) (taking-kids (c .before .before .before .before .before .before .args .p .now .now) (c .before .before .before .before .before .before .args .i) (c .before .before .before .before .before .before .pre .1) (sym (c .before .before .before .before .node .ensures .kind-is) ∙ c .before .before .before .match .keys6) .1) in (omega (arith, k .less, c .before .before .before .before .before .before .pre .0), k .node)
 
--- src/lib.rt:62:17
+-- src/lib.rt:65:17
 scope-e-inside-e-requires : (t : ℕ) → scope-e-lts.Need-inside-e-requires (scope-e-calls t) (scope-e-at t) scope-e.Post
 scope-e-inside-e-requires t c κs = let k = read (c .before .before .before .before .before .before .node .ensures .c-is) (taking-kids (c .before .before .before .before .before .before .before .before .args .p .now .now) (c .before .before .before .before .before .before .before .before .args .i) (c .before .before .before .before .before .before .before .before .pre .1) (sym (c .before .before .before .before .before .before .node .ensures .kind-is) ∙ c .before .before .before .before .before .match .keys6) .2) in (omega (arith, k .less, c .before .before .before .before .before .before .before .before .pre .0), (k .node, omega (arith, c .before .before .before .before .before .before .before .before .pre .1 .inside, c .before .before .before .before .before .before .before .before .pre .1 .shaped .small)))
 
--- src/lib.rt:63:23
+-- src/lib.rt:66:23
 scope-e-sooner-requires-3 : (t : ℕ) → scope-e-lts.Need-sooner-requires-3 (scope-e-calls t) (scope-e-at t) scope-e.Post
 scope-e-sooner-requires-3 t c κs = search needs
 
--- src/lib.rt:63:13
+-- src/lib.rt:66:13
 scope-e-sooner-requires-4 : (t : ℕ) → scope-e-lts.Need-sooner-requires-4 (scope-e-calls t) (scope-e-at t) scope-e.Post
 scope-e-sooner-requires-4 t c κs = search needs
 
--- src/lib.rt:66:17
+-- src/lib.rt:69:17
 scope-e-leaf-requires-8 : (t : ℕ) → scope-e-lts.Need-leaf-requires-8 (scope-e-calls t) (scope-e-at t) scope-e.Post
 scope-e-leaf-requires-8 t c κs = let k = read (c .before .before .node .ensures .a-is) (operation-kids (c .before .before .before .before .args .p .now .now) (c .before .before .before .before .args .i) (c .before .before .before .before .pre .1) (left (c .before .before .node .ensures .kind-is) (c .before .match .rest)) .0) in (omega (arith, k .less, c .before .before .before .before .pre .0), k .node)
 
--- src/lib.rt:67:17
+-- src/lib.rt:70:17
 scope-e-leaf-requires-9 : (t : ℕ) → scope-e-lts.Need-leaf-requires-9 (scope-e-calls t) (scope-e-at t) scope-e.Post
 scope-e-leaf-requires-9 t c κs = let k = read (c .before .before .before .before .node .ensures .b-is) (operation-kids (c .before .before .before .before .before .before .args .p .now .now) (c .before .before .before .before .before .before .args .i) (c .before .before .before .before .before .before .pre .1) (left (c .before .before .before .before .node .ensures .kind-is) (c .before .before .before .match .rest)) .1) in (omega (arith, k .less, c .before .before .before .before .before .before .pre .0), k .node)
 
--- src/lib.rt:68:13
+-- src/lib.rt:71:13
 scope-e-sooner-requires-5 : (t : ℕ) → scope-e-lts.Need-sooner-requires-5 (scope-e-calls t) (scope-e-at t) scope-e.Post
 scope-e-sooner-requires-5 t c κs = search needs
 
--- src/lib.rt:42:1
+-- src/lib.rt:45:1
 scope-e-returns : (t : ℕ) → scope-e-lts.Need-returns (scope-e-calls t) (scope-e-at t) scope-e.Post
 scope-e-returns t c = (cc (variable-scope (c .before .before .before .before .before .before .args .p .now .now) (c .before .before .before .before .before .before .args .i) (c .before .before .before .before .before .before .pre .1) (c .before .before .before .before .before .before .args .marks .now) (sym (c .before .before .before .before .node .ensures .kind-is) ∙ c .before .before .before .match .keys1)), refl)
 
--- src/lib.rt:42:1
+-- src/lib.rt:45:1
 scope-e-returns-2 : (t : ℕ) → scope-e-lts.Need-returns-2 (scope-e-calls t) (scope-e-at t) scope-e.Post
-scope-e-returns-2 t c = (cc (constant-scope (c .before .before .before .args .p .now .now) (c .before .before .before .args .i) (c .before .before .before .pre .1) (c .before .before .before .args .marks .now) (sym (c .before .node .ensures .kind-is) ∙ c .match .keys2)), refl)
+scope-e-returns-2 t c = (cc (constant-scope (c .before .before .before .args .p .now .now) (c .before .before .before .args .i) (c .before .before .before .pre .1) (c .before .before .before .args .marks .now) (sym (c .before .node .ensures .kind-is) ∙ c .match .keys2), no-place), refl)
 
--- src/lib.rt:42:1
+-- src/lib.rt:45:1
 scope-e-returns-3 : (t : ℕ) → scope-e-lts.Need-returns-3 (scope-e-calls t) (scope-e-at t) scope-e.Post
 scope-e-returns-3 t c = (cc (negation-scope (c .before .before .before .before .before .args .p .now .now) (c .before .before .before .before .before .args .i) (c .before .before .before .before .before .pre .1) (c .before .before .before .before .before .args .marks .now) (sym (c .before .before .before .node .ensures .kind-is) ∙ c .before .before .match .keys3)), c .leaf .ensures .1)
 
--- src/lib.rt:42:1
+-- src/lib.rt:45:1
 scope-e-returns-4 : (t : ℕ) → scope-e-lts.Need-returns-4 (scope-e-calls t) (scope-e-at t) scope-e.Post
 scope-e-returns-4 t c = (cc (choice-scope (c .before .before .before .before .before .before .before .before .before .before .before .args .p .now .now) (c .before .before .before .before .before .before .before .before .before .before .before .args .i) (c .before .before .before .before .before .before .before .before .before .before .before .pre .1) (c .before .before .before .before .before .before .before .before .before .before .before .args .marks .now) (sym (c .before .before .before .before .before .before .before .before .before .node .ensures .kind-is) ∙ c .before .before .before .before .before .before .before .before .match .keys4)), c .before .before .leaf4 .ensures .1 ∙ c .before .before .before .before .leaf3 .ensures .1 ∙ c .before .before .before .before .before .before .leaf2 .ensures .1)
 
--- src/lib.rt:42:1
+-- src/lib.rt:45:1
 scope-e-returns-5 : (t : ℕ) → scope-e-lts.Need-returns-5 (scope-e-calls t) (scope-e-at t) scope-e.Post
 scope-e-returns-5 t c = (cc (just-scope (c .before .before .before .before .before .args .p .now .now) (c .before .before .before .before .before .args .i) (c .before .before .before .before .before .pre .1) (c .before .before .before .before .before .args .marks .now) (sym (c .before .before .before .node .ensures .kind-is) ∙ c .before .before .match .keys5)), c .leaf5 .ensures .1)
 
--- src/lib.rt:42:1
+-- src/lib.rt:45:1
 scope-e-returns-6 : (t : ℕ) → scope-e-lts.Need-returns-6 (scope-e-calls t) (scope-e-at t) scope-e.Post
 scope-e-returns-6 t c = (cc (taking-scope (c .before .before .before .before .before .before .before .before .before .before .before .args .p .now .now) (c .before .before .before .before .before .before .before .before .before .before .before .args .i) (c .before .before .before .before .before .before .before .before .before .before .before .pre .1) (c .before .before .before .before .before .before .before .before .before .before .before .args .marks .now) (sym (c .before .before .before .before .before .before .before .before .before .node .ensures .kind-is) ∙ c .before .before .before .before .before .before .before .before .match .keys6)), c .before .before .inside-e .ensures .1 ∙ c .before .before .before .before .leaf7 .ensures .1 ∙ c .before .before .before .before .before .before .leaf6 .ensures .1)
 
--- src/lib.rt:42:1
+-- src/lib.rt:45:1
 scope-e-returns-7 : (t : ℕ) → scope-e-lts.Need-returns-7 (scope-e-calls t) (scope-e-at t) scope-e.Post
 scope-e-returns-7 t c = (cc (operation-scope (c .before .before .before .before .before .before .before .before .args .p .now .now) (c .before .before .before .before .before .before .before .before .args .i) (c .before .before .before .before .before .before .before .before .pre .1) (c .before .before .before .before .before .before .before .before .args .marks .now) (left (c .before .before .before .before .before .before .node .ensures .kind-is) (c .before .before .before .before .before .match .rest))), c .before .leaf9 .ensures .1 ∙ c .before .before .before .leaf8 .ensures .1)
 

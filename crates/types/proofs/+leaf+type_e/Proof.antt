@@ -20,6 +20,8 @@ use Rattle.types.proofs.justly.Reads as justly-reads
 use Rattle.types.proofs.negation.Reads as negation-reads
 use Rattle.types.proofs.operation.Reads as operation-reads
 use Rattle.types.proofs.taking.Reads as taking-reads
+use Rattle.types.proofs.typed_at.Reads as typed-at-reads
+use Rattle.places.proofs.NumberLaws.{no-place}
 use Rattle.types.proofs.+leaf+type_e.{statement}
 use Rattle.types.proofs.+leaf+type_e.Tie.{close}
 
@@ -42,10 +44,10 @@ abbrev type-e-below : ℕ → In 2 type-e-kinds.ps
 type-e-below t = and 2 type-e-kinds.ps (falls 2 type-e-kinds.ps _<_ μ-type-e t) type-e.Pre
 
 abbrev leaf-calls : ℕ → leaf-lts.Claims
-leaf-calls t = (node-reads.Asked, node-reads.Learnt, declared-reads.Asked, declared-reads.Learnt, type-e-below t, type-e.Post)
+leaf-calls t = (node-reads.Asked, node-reads.Learnt, declared-reads.Asked, declared-reads.Learnt, typed-at-reads.Asked, typed-at-reads.Learnt, type-e-below t, type-e.Post)
 
 abbrev type-e-calls : ℕ → type-e-lts.Claims
-type-e-calls t = (node-reads.Asked, node-reads.Learnt, declared-reads.Asked, declared-reads.Learnt, leaf-below t, leaf.Post, negation-reads.Asked, negation-reads.Learnt, choice-reads.Asked, choice-reads.Learnt, justly-reads.Asked, justly-reads.Learnt, taking-reads.Asked, taking-reads.Learnt, operation-reads.Asked, operation-reads.Learnt)
+type-e-calls t = (node-reads.Asked, node-reads.Learnt, declared-reads.Asked, declared-reads.Learnt, typed-at-reads.Asked, typed-at-reads.Learnt, leaf-below t, leaf.Post, negation-reads.Asked, negation-reads.Learnt, choice-reads.Asked, choice-reads.Learnt, justly-reads.Asked, justly-reads.Learnt, taking-reads.Asked, taking-reads.Learnt, operation-reads.Asked, operation-reads.Learnt)
 
 -- src/lib.rt:220:9
 leaf-node-requires : (t : ℕ) → leaf-lts.Need-node-requires (leaf-calls t) (leaf-at t) leaf.Post
@@ -55,17 +57,23 @@ leaf-node-requires t c κs = let w = c .before .pre .1 in (omega (arith, w .insi
 leaf-declared-requires : (t : ℕ) → leaf-lts.Need-declared-requires (leaf-calls t) (leaf-at t) leaf.Post
 leaf-declared-requires t c κs = c .before .before .before .before .pre .1 .shaped .whole
 
+leaf-typed-at-requires : (t : ℕ) → leaf-lts.Need-typed-at-requires (leaf-calls t) (leaf-at t) leaf.Post
+leaf-typed-at-requires t c κs = search needs
+
+leaf-typed-at-requires-2 : (t : ℕ) → leaf-lts.Need-typed-at-requires-2 (leaf-calls t) (leaf-at t) leaf.Post
+leaf-typed-at-requires-2 t c κs = search needs
+
 -- src/lib.rt:231:14
 leaf-type-e-requires : (t : ℕ) → leaf-lts.Need-type-e-requires (leaf-calls t) (leaf-at t) leaf.Post
 leaf-type-e-requires t c κs = (omega (arith, c .before .before .before .pre .0), c .before .before .before .pre .1)
 
 -- src/lib.rt:216:1
 leaf-returns : (t : ℕ) → leaf-lts.Need-returns (leaf-calls t) (leaf-at t) leaf.Post
-leaf-returns t c = let e = variable-typed (c .before .before .before .before .before .args .p .now .now) (c .before .before .before .before .before .args .i) (c .before .before .before .before .before .pre .1) (sym (c .before .before .before .node .ensures .kind-is) ∙ c .before .before .match .keys1) in (cc (e .0), cc (e .1))
+leaf-returns t c = let e = variable-typed (c .before .before .before .before .before .before .args .p .now .now) (c .before .before .before .before .before .before .args .i) (c .before .before .before .before .before .before .pre .1) (sym (c .before .before .before .before .node .ensures .kind-is) ∙ c .before .before .before .match .keys1) in (cc (e .0), cc (e .1, no-place))
 
 -- src/lib.rt:216:1
 leaf-returns-2 : (t : ℕ) → leaf-lts.Need-returns-2 (leaf-calls t) (leaf-at t) leaf.Post
-leaf-returns-2 t c = let e = constant-typed (c .before .before .before .args .p .now .now) (c .before .before .before .args .i) (c .before .before .before .pre .1) (sym (c .before .node .ensures .kind-is) ∙ c .match .keys2) in (cc (e .0), cc (e .1))
+leaf-returns-2 t c = let e = constant-typed (c .before .before .before .before .args .p .now .now) (c .before .before .before .before .args .i) (c .before .before .before .before .pre .1) (sym (c .before .before .node .ensures .kind-is) ∙ c .before .match .keys2) in (cc (e .0), cc (e .1, no-place))
 
 -- src/lib.rt:216:1
 leaf-returns-3 : (t : ℕ) → leaf-lts.Need-returns-3 (leaf-calls t) (leaf-at t) leaf.Post
@@ -78,6 +86,12 @@ type-e-node-requires t c κs = let w = c .before .pre .1 in (omega (arith, w .in
 -- src/lib.rt:243:17
 type-e-declared-requires : (t : ℕ) → type-e-lts.Need-declared-requires (type-e-calls t) (type-e-at t) type-e.Post
 type-e-declared-requires t c κs = c .before .before .before .before .pre .1 .shaped .whole
+
+type-e-typed-at-requires : (t : ℕ) → type-e-lts.Need-typed-at-requires (type-e-calls t) (type-e-at t) type-e.Post
+type-e-typed-at-requires t c κs = search needs
+
+type-e-typed-at-requires-2 : (t : ℕ) → type-e-lts.Need-typed-at-requires-2 (type-e-calls t) (type-e-at t) type-e.Post
+type-e-typed-at-requires-2 t c κs = search needs
 
 -- src/lib.rt:250:27
 type-e-leaf-requires : (t : ℕ) → type-e-lts.Need-leaf-requires (type-e-calls t) (type-e-at t) type-e.Post
@@ -141,11 +155,11 @@ type-e-operation-requires t c κs = omega (arith, c .before .before .before .bef
 
 -- src/lib.rt:235:1
 type-e-returns : (t : ℕ) → type-e-lts.Need-returns (type-e-calls t) (type-e-at t) type-e.Post
-type-e-returns t c = let e = variable-typed (c .before .before .before .before .before .args .p .now .now) (c .before .before .before .before .before .args .i) (c .before .before .before .before .before .pre .1) (sym (c .before .before .before .node .ensures .kind-is) ∙ c .before .before .match .keys1) in (cc (e .0), cc (e .1))
+type-e-returns t c = let e = variable-typed (c .before .before .before .before .before .before .args .p .now .now) (c .before .before .before .before .before .before .args .i) (c .before .before .before .before .before .before .pre .1) (sym (c .before .before .before .before .node .ensures .kind-is) ∙ c .before .before .before .match .keys1) in (cc (e .0), cc (e .1, no-place))
 
 -- src/lib.rt:235:1
 type-e-returns-2 : (t : ℕ) → type-e-lts.Need-returns-2 (type-e-calls t) (type-e-at t) type-e.Post
-type-e-returns-2 t c = let e = constant-typed (c .before .before .before .args .p .now .now) (c .before .before .before .args .i) (c .before .before .before .pre .1) (sym (c .before .node .ensures .kind-is) ∙ c .match .keys2) in (cc (e .0), cc (e .1))
+type-e-returns-2 t c = let e = constant-typed (c .before .before .before .before .args .p .now .now) (c .before .before .before .before .args .i) (c .before .before .before .before .pre .1) (sym (c .before .before .node .ensures .kind-is) ∙ c .before .match .keys2) in (cc (e .0), cc (e .1, no-place))
 
 -- src/lib.rt:235:1
 type-e-returns-3 : (t : ℕ) → type-e-lts.Need-returns-3 (type-e-calls t) (type-e-at t) type-e.Post
@@ -172,6 +186,8 @@ pub +leaf+type-e-spec : {M : Type 1} → statement M
     leaf.Post
     (leaf-node-requires t)
     (leaf-declared-requires t)
+    (leaf-typed-at-requires t)
+    (leaf-typed-at-requires-2 t)
     (leaf-type-e-requires t)
     (leaf-returns t)
     (leaf-returns-2 t)
@@ -180,6 +196,8 @@ pub +leaf+type-e-spec : {M : Type 1} → statement M
     type-e.Post
     (type-e-node-requires t)
     (type-e-declared-requires t)
+    (type-e-typed-at-requires t)
+    (type-e-typed-at-requires-2 t)
     (type-e-leaf-requires t)
     (type-e-negation-requires t)
     (type-e-leaf-requires-2 t)

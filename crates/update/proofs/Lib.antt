@@ -1,2 +1,3 @@
 pub mod Evaluable
 pub mod PassLaws
+pub mod QuietLaws

@@ -1,13 +1,14 @@
 -- The cases that a loop passes: from case to case, with what was counted on the way.
 -- Assumes nothing.
-use mathlib.Core.Path.{_≡_, refl, sym, ap, _∙_}
+use mathlib.Core.Path.{_≡_, refl, sym, ap, _∙_, subst}
 use mathlib.Core.Bool.{Bool, true, false}
 use mathlib.Core.List.{List}
-use Prim.Native.Nat.{ℕ, _+_, _*_, _≤_, _<_}
+use Prim.Native.Nat.{ℕ, zero, suc, _+_, _*_, _≤_, _<_}
 use native.Mathlib.Omega.{arith}
 use lib.ListN.{length}
+use borrow.Author.Tests.{eq-eqb, ne-eqb}
 use Rattle.rules.specs.Bytes.{Bytes}
-use Rattle.rules.specs.Layout.{kindAt}
+use Rattle.rules.specs.Layout.{kindAt, typeAt, aAt, bAt, cAt, wordAt, mostNodes}
 use Rattle.rules.specs.Kinds.{isCase}
 use Rattle.rules.specs.Node.{IsNode}
 use Rattle.rules.specs.Shaped.{NodeOf}
@@ -16,22 +17,20 @@ use Rattle.rules.specs.Work.{_plus_, Updated, Next, Jump, Halted, moved, stays,
 use Rattle.rules.specs.Evaluate.{Env, evalS}
 use Rattle.rules.specs.Update.{updS}
 use Rattle.rules.specs.declared.Node.{Node}
-use Rattle.rules.specs.declared.Tally.{Tally}
-use Rattle.rules.specs.declared.Evaluated.{Evaluated}
 use Rattle.rules.specs.declared.Moved.the-variants.{Stay}
 use Rattle.rules.specs.declared.Occurrence.{Occurrence}
 use Rattle.rules.specs.declared.Occurrence.the-variants.{Took, Quiet}
-use Rattle.rules.proofs.Within.{evalS-within}
 use Rattle.outcomes.specs.Combine.{partsOf}
 use Rattle.outcomes.specs.declared.Event.{Event}
 use Rattle.outcomes.specs.declared.Parts.the-variants.{Maybe}
-use Rattle.outcomes.proofs.Outcomes.{work-within, take-work}
 use Rattle.moves.specs.Outcomes.{occurred, walked}
 use Rattle.moves.specs.Lent.{ReadyC, CaseAs}
 use Rattle.moves.proofs.KindLaws.{low-updates}
-use Rattle.moves.proofs.ReadyLaws.{case-part, case-rest, seen-small}
+use Rattle.moves.proofs.ReadyLaws.{case-part, case-rest}
 use Rattle.moves.proofs.WalkLaws.{walk-quiet, took-on, lost-on, goes-on}
-use Rattle.update.specs.Passes.{quietly, IsQuiet, Passes}
+use Rattle.update.specs.Passes.{quietly, quietWork, onward, passedFrom}
+use Rattle.update.specs.declared.Passed.{Passed}
+use Rattle.update.proofs.QuietLaws.{IsQuiet, quiet-tells}
 
 -- Nothing counted before a walk, and one event more.
 quietly-none : (X : Updated) → X ≡ quietly 0 0 X
@@ -48,37 +47,12 @@ quietly-more s k u (Jump target v st w) =
     ap (λ (x : ℕ). Jump target v st (record { work = x })) (let e : s + (u + w .work) ≡ s + u + w .work = omega arith in e)
 quietly-more s k u Halted = refl
 
--- Where nothing is counted, nothing is said.
-pub not-quiet : {p rec st : Bytes} {env : Env} {j : ℕ} → IsQuiet p rec st env j 0
-not-quiet =
-    record {
-      small = omega arith;
-      follows = λ h. absurd (none h);
-      idle = λ h. absurd (none h);
-      absent = λ h. absurd (none h);
-    }
-  where
-    none : 0 < 0 → ⊥
-    none h = omega (arith, h)
-
--- A case whose event, of a low kind, is absent, and that has a next one.
-pub is-quiet : {p : Bytes} {index : List ℕ} (rec st : Bytes) {env : Env} {j : ℕ} {n : Node} → CaseAs p index (length st) env j n
-    → (n .b ≡ 65535 → ⊥) → {k : ℕ} → k ≡ kindAt p (n .a) → k ≤ 3
-    → {r : Evaluated} → r ≡ evalS rec st env (signalAt p (n .a)) → {u : Tally} → partsOf r ≡ Maybe Event.Quiet u
-    → IsQuiet p rec st env j (u .work)
-is-quiet {p} rec st {env} {j} {n} r d {k} e l q {u} a =
-    let b : partsOf (evalS rec st env (signalAt p (n .a))) ≡ Maybe Event.Quiet u = ap partsOf (sym q) ∙ a in
-    let f = r .fields .a-is in
-    record {
-      small = omega (arith, take-work _ b, work-within _ (evalS-within rec st env (signalAt p (n .a))), seen-small (case-part r .ready));
-      follows = λ _ h. d (r .fields .b-is ∙ h);
-      idle = λ _. rw (← f) (rw (← e) l);
-      absent = λ _. rw (← f) b;
-    }
-
 -- The walk from a case that is quiet so, by the walk from the next one.
 module _ {p : Bytes} {index : List ℕ} (rec st : Bytes) {env : Env} {j : ℕ} {n : Node} (r : CaseAs p index (length st) env j n)
-    {u : ℕ} (q : IsQuiet p rec st env j u) (o : 0 < u) where
+    {u : ℕ} (e : u ≡ quietWork p rec st env j) (o : 0 < u) where
+  q : IsQuiet p rec st env j u
+  q = quiet-tells rec st r e
+
   on : n .b ≡ 65535 → ⊥
   on h = q .follows o (sym (r .fields .b-is) ∙ h)
 
@@ -90,16 +64,19 @@ module _ {p : Bytes} {index : List ℕ} (rec st : Bytes) {env : Env} {j : ℕ} {
 
   passed-by : (X : Updated) → X ≡ walked rec env (casesAt p (n .b)) st → quietly u 1 X ≡ walked rec env (casesAt p j) st
   unfolding quietly afterᵘ _plus_ occurred moved stays
-  passed-by (Next s w) e =
+  passed-by (Next s w) h =
       walk-quiet p j (r .ready .node) (r .fields) rec env st refl gone refl (Quiet (w plus record { work = 1 })) s
-      (goes-on p j (r .ready .node) (r .fields) rec env st on (Quiet w) s e refl refl (Stay (record { work = 1 })) s (updates s) refl)
+      (goes-on p j (r .ready .node) (r .fields) rec env st on (Quiet w) s h refl refl (Stay (record { work = 1 })) s (updates s) refl)
       (ap (λ (x : ℕ). Next s (record { work = x })) (let z : u + (1 + w .work) ≡ u + (w .work + 1) = omega arith in z))
-  passed-by (Jump target v s w) e =
+  passed-by (Jump target v s w) h =
       walk-quiet p j (r .ready .node) (r .fields) rec env st refl gone refl (Took target v w) s
-      (took-on p j (r .ready .node) (r .fields) rec env st on (Took target v w) s e refl) refl
-  passed-by Halted e =
+      (took-on p j (r .ready .node) (r .fields) rec env st on (Took target v w) s h refl) refl
+  passed-by Halted h =
       walk-quiet p j (r .ready .node) (r .fields) rec env st refl gone refl Occurrence.Stuck st
-      (lost-on p j (r .ready .node) (r .fields) rec env st on Occurrence.Stuck st e refl) refl
+      (lost-on p j (r .ready .node) (r .fields) rec env st on Occurrence.Stuck st h refl) refl
+
+  pub counted-small : u < 65536
+  counted-small = q .small
 
   pub next-ready : (n .b < j) × ReadyC p index (length st) env (n .b)
   next-ready = case-rest r on
@@ -115,7 +92,7 @@ pub pass-start : {p : Bytes} {index : List ℕ} (rec st : Bytes) {env : Env} {j 
 pass-start rec st r = record { ready = r; same = quietly-none _; down = omega arith; few = omega arith }
 
 pub pass-next : {p : Bytes} {index : List ℕ} {rec st : Bytes} {env : Env} {j i seen kept : ℕ} → Passing p index rec st env j i seen kept
-    → {n : Node} → IsNode p i n → {u : ℕ} → IsQuiet p rec st env i u → 0 < u
+    → {n : Node} → IsNode p i n → {u : ℕ} → u ≡ quietWork p rec st env i → 0 < u
     → (n .b < i) × Passing p index rec st env j (n .b) (seen + u) (kept + 1)
 pass-next {p} {index} {rec} {st} {env} {j} {i} {seen} {kept} s {n} f {u} q o =
     let r : CaseAs p index (length st) env i n = record { ready = s .ready; fields = f } in
@@ -126,7 +103,7 @@ pass-next {p} {index} {rec} {st} {env} {j} {i} {seen} {kept} s {n} f {u} q o =
         ready = k .1;
         same = s .same ∙ ap (quietly seen kept) (sym (passed-by rec st r q o W refl)) ∙ quietly-more seen kept u W;
         down = omega (arith, s .down, k .0);
-        few = omega (arith, s .few, q .small);
+        few = omega (arith, s .few, counted-small rec st r q o);
       },
     )
 
@@ -137,17 +114,132 @@ pass-room w s = (
   omega (arith, w .inside, w .shaped .small, s .down),
 )
 
-pub pass-end : {p : Bytes} {index : List ℕ} {rec st : Bytes} {env : Env} {j i seen kept : ℕ} → NodeOf isCase p j → Passing p index rec st env j i seen kept
-    → Passes p index rec st env j (record { at = i; seen = seen; kept = kept })
-pass-end w s =
-    let k = pass-room w s in
+-- What a case counted, by slots that hold what they held at first.
+pub quiet-again : {p : Bytes} {index : List ℕ} {rec st : Bytes} {e₀ : Env} {j i seen kept : ℕ} → Passing p index rec st e₀ j i seen kept
+    → {e : Env} {u : ℕ} → u ≡ quietWork p rec st e i → e ≡ e₀ → u ≡ quietWork p rec st e₀ i
+quiet-again {p} {rec = rec} {st = st} {i = i} s q h = q ∙ ap (λ (x : Env). quietWork p rec st x i) h
+
+-- From case j the walk is as from the case where the loop has come to, with what was counted.
+pub record Passes (p : Bytes) (index : List ℕ) (rec st : Bytes) (env : Env) (j : ℕ) (s : Passed) : Type 0 where
+  pub ready : ReadyC p index (length st) env (s .at)
+  pub down : s .at ≤ j
+  pub same : walked rec env (casesAt p j) st ≡ quietly (s .seen) (s .kept) (walked rec env (casesAt p (s .at)) st)
+  pub few-seen : s .seen < 4294967296
+  pub few-kept : s .kept < 4294967296
+
+pass-end : {p : Bytes} {index : List ℕ} {rec st : Bytes} {env : Env} {j : ℕ} (s : Passed) → NodeOf isCase p j
+    → Passing p index rec st env j (s .at) (s .seen) (s .kept) → Passes p index rec st env j s
+pass-end s w x =
+    let k = pass-room w x in
     record {
-      ready = s .ready;
-      down = omega (arith, s .down);
-      same = s .same;
+      ready = x .ready;
+      down = omega (arith, x .down);
+      same = x .same;
       few-seen = omega (arith, k .0);
       few-kept = omega (arith, k .1);
     }
+
+-- What is passed, by its three numbers; and what was counted before, added to it.
+abbrev pub made : ℕ → ℕ → ℕ → Passed
+made i a b = record { at = i; seen = a; kept = b }
+
+abbrev further : ℕ → ℕ → Passed → Passed
+further a b s = made (s .at) (a + s .seen) (b + s .kept)
+
+made-same : (i : ℕ) {a b x y : ℕ} → a ≡ x → b ≡ y → made i a b ≡ made i x y
+made-same i {b = b} {x = x} e f = ap (λ (k : ℕ). made i k b) e ∙ ap (made i x) f
+
+-- The definition by its tests: a case that is not quiet ends it, with turns left or not; from a quiet one it goes on.
+module _ (p rec st : Bytes) (env : Env) where
+  passed-stop : (fuel j : ℕ) → quietWork p rec st env j ≡ 0 → passedFrom p rec st env fuel j ≡ made j 0 0
+  unfolding passedFrom
+  passed-stop zero j e = refl
+  passed-stop (suc fuel) j e = rw (eq-eqb _ _ e) refl
+
+  passed-on : (fuel j : ℕ) → 0 < quietWork p rec st env j
+      → passedFrom p rec st env (suc fuel) j ≡ onward (quietWork p rec st env j) (passedFrom p rec st env fuel (bAt p j))
+  unfolding passedFrom
+  passed-on fuel j h = rw (ne-eqb (quietWork p rec st env j) 0 (λ z. omega (arith, z, h))) refl
+
+  passed-none : (j : ℕ) → passedFrom p rec st env zero j ≡ made j 0 0
+  unfolding passedFrom
+  passed-none j = refl
+
+further-none : (s : Passed) → s ≡ further 0 0 s
+further-none s =
+    made-same (s .at) (let e : s .seen ≡ 0 + s .seen = omega arith in e) (let e : s .kept ≡ 0 + s .kept = omega arith in e)
+
+further-more : (a b u : ℕ) (s : Passed) → further a b (onward u s) ≡ further (a + u) (b + 1) s
+unfolding onward
+further-more a b u s =
+    made-same (s .at) (let e : a + (u + s .seen) ≡ a + u + s .seen = omega arith in e) (let e : b + (1 + s .kept) ≡ b + 1 + s .kept = omega arith in e)
+
+-- The loop at case i, by the definition: what is passed from case j is what was counted and what the turns that are left pass from case i.
+pub record Turned (p rec st : Bytes) (env : Env) (j i seen kept : ℕ) : Type 0 where
+  pub left : ℕ
+  pub budget : left + kept ≡ mostNodes
+  pub all : passedFrom p rec st env mostNodes j ≡ further seen kept (passedFrom p rec st env left i)
+
+pub turn-start : (p rec st : Bytes) (env : Env) (j : ℕ) → Turned p rec st env j j 0 0
+turn-start p rec st env j = record { left = mostNodes; budget = omega arith; all = further-none _ }
+
+module _ {p rec st : Bytes} {env : Env} {j i seen kept : ℕ} where
+  pub turn-next : {index : List ℕ} → NodeOf isCase p j → Passing p index rec st env j i seen kept → Turned p rec st env j i seen kept
+      → {n : Node} → IsNode p i n → {u : ℕ} → u ≡ quietWork p rec st env i → 0 < u → Turned p rec st env j (n .b) (seen + u) (kept + 1)
+  turn-next w s t {n} f {u} q o = go (t .left) (t .budget) (t .all)
+    where
+      go : (l : ℕ) → l + kept ≡ mostNodes → passedFrom p rec st env mostNodes j ≡ further seen kept (passedFrom p rec st env l i)
+          → Turned p rec st env j (n .b) (seen + u) (kept + 1)
+      go zero e a = absurd (omega (arith, e, s .down, w .inside, w .shaped .small))
+      go (suc l) e a =
+          rw (f .b-is, q)
+          (record {
+            left = l;
+            budget = omega (arith, e);
+            all = a ∙ ap (further seen kept) (passed-on p rec st env l i (rw (← q) o)) ∙ further-more seen kept (quietWork p rec st env i) (passedFrom p rec st env l (bAt p i));
+          })
+
+  pub turn-end : Turned p rec st env j i seen kept → quietWork p rec st env i ≡ 0 → made i seen kept ≡ passedFrom p rec st env mostNodes j
+  turn-end t e =
+      sym (t .all ∙ ap (further seen kept) (passed-stop p rec st env (t .left) i e)
+      ∙ made-same i (let z : seen + 0 ≡ seen = omega arith in z) (let z : kept + 0 ≡ kept = omega arith in z))
+
+-- What the definition passes, from a case where the loop may stand: by the turns, each as the loop's.
+module _ (p : Bytes) (index : List ℕ) (rec st : Bytes) (env : Env) (j : ℕ) where
+  abbrev Through : ℕ → ℕ → Passed → Type 0
+  Through a b s = Passing p index rec st env j (s .at) (a + s .seen) (b + s .kept)
+
+  counted : (i : ℕ) {a b x y : ℕ} → a ≡ x → b ≡ y → Passing p index rec st env j i a b → Passing p index rec st env j i x y
+  counted i e f s = rw (← e, ← f) s
+
+  stopped : {i a b : ℕ} → Passing p index rec st env j i a b → {s : Passed} → s ≡ made i 0 0 → Through a b s
+  stopped {i} {a} {b} x e =
+      subst (Through a b) (sym e) (counted i (let z : a ≡ a + 0 = omega arith in z) (let z : b ≡ b + 0 = omega arith in z) x)
+
+  one-more : (fuel : ℕ) → ((i a b : ℕ) → Passing p index rec st env j i a b → Through a b (passedFrom p rec st env fuel i))
+      → {i a b : ℕ} → Passing p index rec st env j i a b → (u : ℕ) → u ≡ quietWork p rec st env i → Through a b (passedFrom p rec st env (suc fuel) i)
+  unfolding onward
+  one-more fuel rest {i} x zero e = stopped x (passed-stop p rec st env (suc fuel) i (sym e))
+  one-more fuel rest {i} {a} {b} x (suc k) e =
+      let n : Node = record { kind = kindAt p i; ty = typeAt p i; a = aAt p i; b = bAt p i; c = cAt p i; word = wordAt p i } in
+      let f : IsNode p i n = record { kind-is = refl; type-is = refl; a-is = refl; b-is = refl; c-is = refl; word-is = refl } in
+      let o : 0 < suc k = omega arith in
+      let S = passedFrom p rec st env fuel (bAt p i) in
+      let W = quietWork p rec st env i in
+      subst (Through a b) (sym (passed-on p rec st env fuel i (rw (← e) o)))
+      (counted (S .at) (let z : a + suc k + S .seen ≡ a + (W + S .seen) = omega (arith, e) in z) (let z : b + 1 + S .kept ≡ b + (1 + S .kept) = omega arith in z)
+      (rest (bAt p i) (a + suc k) (b + 1) (pass-next x f e o .1)))
+
+  through : (fuel i a b : ℕ) → Passing p index rec st env j i a b → Through a b (passedFrom p rec st env fuel i)
+  through zero i a b x = stopped x (passed-none p rec st env i)
+  through (suc fuel) i a b x = one-more fuel (through fuel) x (quietWork p rec st env i) refl
+
+pub passes-from : {p : Bytes} {index : List ℕ} (rec st : Bytes) {env : Env} {j : ℕ} → ReadyC p index (length st) env j
+    → {s : Passed} → s ≡ passedFrom p rec st env mostNodes j → Passes p index rec st env j s
+passes-from {p} {index} rec st {env} {j} r {s} e =
+    pass-end s (r .node)
+    (counted p index rec st env j (s .at) (let z : 0 + s .seen ≡ s .seen = omega arith in z) (let z : 0 + s .kept ≡ s .kept = omega arith in z)
+    (subst (Through p index rec st env j 0 0) (sym e) (through p index rec st env j mostNodes j 0 0 (pass-start rec st r))))
 
 -- What is still to go: the cases down to 0, or nothing where the loop is to end.
 abbrev pub still : Bool → ℕ → ℕ

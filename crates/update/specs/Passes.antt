@@ -1,19 +1,16 @@
 -- The cases of an until that a loop passes: their events are absent, and to update them does nothing.
 -- Assumes nothing: these are definitions.
-use mathlib.Core.Path.{_≡_}
-use mathlib.Core.List.{List}
-use Prim.Native.Nat.{ℕ, _+_, _≤_, _<_}
-use lib.ListN.{length}
-use Rattle.rules.specs.Bytes.{Bytes}
+use Prim.Native.Nat.{ℕ, zero, suc, _+_}
+use lib.Dec.{eqb, ltb}
+use Rattle.rules.specs.Bytes.{Bytes, if_then_else_}
 use Rattle.rules.specs.Layout.{kindAt, aAt, bAt, noNext}
-use Rattle.rules.specs.Tree.{signalAt, casesAt}
+use Rattle.rules.specs.Tree.{signalAt}
 use Rattle.rules.specs.Work.{Updated, Next, Jump, Halted}
 use Rattle.rules.specs.Evaluate.{Env, evalS}
 use Rattle.outcomes.specs.Combine.{partsOf}
-use Rattle.outcomes.specs.declared.Event.{Event}
-use Rattle.outcomes.specs.declared.Parts.the-variants.{Maybe}
-use Rattle.moves.specs.Outcomes.{walked}
-use Rattle.moves.specs.Lent.{ReadyC}
+use Rattle.outcomes.specs.declared.Event.the-variants.{Occurs, Quiet}
+use Rattle.outcomes.specs.declared.Parts.{Parts}
+use Rattle.outcomes.specs.declared.Parts.the-variants.{Maybe, Wrong}
 use Rattle.update.specs.declared.Passed.{Passed}
 
 -- A walk with what was counted before it: the evaluations always, a rule for each update only where no event was present.
@@ -22,17 +19,26 @@ quietly seen kept (Next st w) = Next st (record { work = seen + (kept + w .work)
 quietly seen kept (Jump target v st w) = Jump target v st (record { work = seen + w .work })
 quietly seen kept Halted = Halted
 
--- Case j has a next one, and its event, an input, time or ext, is absent, which counted u; or u is 0.
-pub record IsQuiet (p rec st : Bytes) (env : Env) (j u : ℕ) : Type 0 where
-  pub small : u < 65536
-  pub follows : 0 < u → bAt p j ≡ noNext → ⊥
-  pub idle : 0 < u → kindAt p (aAt p j) ≤ 3
-  pub absent : 0 < u → partsOf (evalS rec st env (signalAt p (aAt p j))) ≡ Maybe Event.Quiet (record { work = u })
+-- What an absent event counted; else 0.
+unfoldable pub absentWork : Parts → ℕ
+absentWork (Maybe (Occurs v) u) = 0
+absentWork (Maybe Quiet u) = u .work
+absentWork Wrong = 0
 
--- From case j the walk is as from the case where the loop has come to, with what was counted.
-pub record Passes (p : Bytes) (index : List ℕ) (rec st : Bytes) (env : Env) (j : ℕ) (s : Passed) : Type 0 where
-  pub ready : ReadyC p index (length st) env (s .at)
-  pub down : s .at ≤ j
-  pub same : walked rec env (casesAt p j) st ≡ quietly (s .seen) (s .kept) (walked rec env (casesAt p (s .at)) st)
-  pub few-seen : s .seen < 4294967296
-  pub few-kept : s .kept < 4294967296
+-- What the event of case j counted, if the case is quiet: a case follows, and the event is an input, time or ext and absent; else 0.
+unfoldable pub quietWork : Bytes → Bytes → Bytes → Env → ℕ → ℕ
+quietWork p rec st env j =
+    if eqb (bAt p j) noNext then 0
+    else if ltb 3 (kindAt p (aAt p j)) then 0
+    else absentWork (partsOf (evalS rec st env (signalAt p (aAt p j))))
+
+-- One quiet case more, passed before the others: what it counted, and its update.
+unfoldable pub onward : ℕ → Passed → Passed
+onward u s = record { at = s .at; seen = u + s .seen; kept = 1 + s .kept }
+
+-- The quiet cases from case j on, passed; node numbers fall, so that as many turns as there may be nodes are enough.
+unfoldable pub passedFrom : Bytes → Bytes → Bytes → Env → ℕ → ℕ → Passed
+passedFrom p rec st env zero j = record { at = j; seen = 0; kept = 0 }
+passedFrom p rec st env (suc fuel) j =
+    if eqb (quietWork p rec st env j) 0 then record { at = j; seen = 0; kept = 0 }
+    else onward (quietWork p rec st env j) (passedFrom p rec st env fuel (bAt p j))

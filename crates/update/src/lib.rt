@@ -6,7 +6,7 @@ ghost use Rattle.rules.specs.Bytes.{Bytes};
 ghost use Rattle.rules.specs.Values.{unpacked};
 ghost use Rattle.rules.specs.Kinds.{isBranch};
 ghost use Rattle.rules.specs.Shaped.{NodeOf};
-ghost use Rattle.rules.specs.Layout.{aAt, bAt, cellsBefore};
+ghost use Rattle.rules.specs.Layout.{aAt, bAt, cellsBefore, mostNodes};
 ghost use Rattle.rules.specs.Tree.{signalAt, branchesAt, casesAt};
 ghost use Rattle.rules.specs.Work.{moved, stays, ruleᵘ};
 ghost use Rattle.rules.specs.Evaluate.{bind};
@@ -14,7 +14,7 @@ ghost use Rattle.rules.specs.Update.{caught, updS};
 ghost use Rattle.outcomes.specs.Outcome.{IsValue};
 ghost use Rattle.moves.specs.Outcomes.{workOf, countOf, occurred, walked, walkedOn, nextCases};
 ghost use Rattle.moves.specs.Parts.{inSwitch, switched, inGroup, entered};
-ghost use Rattle.update.specs.Passes.{quietly, IsQuiet, Passes};
+ghost use Rattle.update.specs.Passes.{quietly, quietWork, passedFrom};
 ghost use Rattle.moves.specs.Lent.{Ready, ReadyAs, Placed, ReadyC, CaseAs};
 use branches::has_branch;
 use cells::kind_of;
@@ -105,7 +105,7 @@ fn quiet(
     n: Node,
 ) -> u64
     requires { ⌜ CaseAs (now (now p)) (now index) (length (now st)) (now env) j n ⌝ }
-    ensures { λ u. ⌜ IsQuiet (now (now (p .entry))) (now (now (rec .entry))) (now (st .entry)) (now (env .entry)) j u × (now (env .exit) ≡ now (env .entry)) ⌝ }
+    ensures { λ u. ⌜ (u ≡ quietWork (now (now (p .entry))) (now (now (rec .entry))) (now (st .entry)) (now (env .entry)) j) × (now (env .exit) ≡ now (env .entry)) ⌝ }
 {
     if n.b == 65535 {
         return 0;
@@ -134,7 +134,7 @@ fn pass(
     j: usize,
 ) -> Passed
     requires { ⌜ ReadyC (now (now p)) (now index) (length (now st)) (now env) j ⌝ }
-    ensures { λ s. ⌜ Passes (now (now (p .entry))) (now (index .entry)) (now (now (rec .entry))) (now (st .entry)) (now (env .entry)) j s × (now (env .exit) ≡ now (env .entry)) ⌝ }
+    ensures { λ s. ⌜ (s ≡ passedFrom (now (now (p .entry))) (now (now (rec .entry))) (now (st .entry)) (now (env .entry)) mostNodes j) × (now (env .exit) ≡ now (env .entry)) ⌝ }
 {
     let mut at = j;
     let mut seen: u64 = 0;

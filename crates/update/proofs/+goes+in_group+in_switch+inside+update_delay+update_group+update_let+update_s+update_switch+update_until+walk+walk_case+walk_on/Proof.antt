@@ -8,6 +8,7 @@ use Rattle.moves.proofs.KindLaws.{delay-stuck, delay-broken, delay-done, let-st
 use Rattle.moves.specs.Outcomes.{countOf, occurred, walked}
 use Rattle.rules.specs.Evaluate.{Env}
 use Rattle.update.specs.Passes.{quietly}
+use Rattle.update.proofs.PassLaws.{passes-from}
 use Rattle.outcomes.specs.declared.Parts.the-variants.{Maybe}
 use Rattle.outcomes.specs.declared.Event.{Event}
 use Rattle.branches.proofs.ByTable.{group-first as list-first}
@@ -807,11 +808,11 @@ walk-pass-requires t c κs = c .before .before .before .pre .1
 
 -- src/lib.rt:425:13
 walk-walk-case-requires : (t : ℕ) → walk-lts.Need-walk-case-requires (walk-calls t) (walk-at t) walk.Post
-walk-walk-case-requires t c κs = let s = c .before .before .pass .ensures in (omega (arith, s .0 .down, c .before .before .before .before .before .before .pre .0), walk-again refl (s .1) (s .0 .ready))
+walk-walk-case-requires t c κs = let s = passes-from (c .before .before .before .before .before .before .args .rec .now .now) (c .before .before .before .before .before .before .args .st .now) (c .before .before .before .before .before .before .pre .1) (c .before .before .pass .ensures .0) in (omega (arith, s .down, c .before .before .before .before .before .before .pre .0), walk-again refl (c .before .before .pass .ensures .1) (s .ready))
 
 -- src/lib.rt:426:5
 walk-added-requires : (t : ℕ) → walk-lts.Need-added-requires (walk-calls t) (walk-at t) walk.Post
-walk-added-requires t c κs = let s = c .before .before .before .before .before .pass .ensures .0 in (s .few-seen, s .few-kept, omega (arith, s .ready .small, walk-count (c .before .before .walk-case .result) (c .before .before .walk-case .last .1 .1 .1 .0) (c .before .before .before .before .before .before .before .before .before .args .rec .now .now) (c .before .before .before .before .before .pass .last .1 .1 .1 .1 .0) (casesAt (c .before .before .before .before .before .before .before .before .before .args .p .now .now) (c .before .before .before .before .before .pass .result .at)) (c .before .before .before .before .before .before .before .before .before .args .st .now) (c .before .before .walk-case .ensures .0)))
+walk-added-requires t c κs = let s = passes-from (c .before .before .before .before .before .before .before .before .before .args .rec .now .now) (c .before .before .before .before .before .before .before .before .before .args .st .now) (c .before .before .before .before .before .before .before .before .before .pre .1) (c .before .before .before .before .before .pass .ensures .0) in (s .few-seen, s .few-kept, omega (arith, s .ready .small, walk-count (c .before .before .walk-case .result) (c .before .before .walk-case .last .1 .1 .1 .0) (c .before .before .before .before .before .before .before .before .before .args .rec .now .now) (c .before .before .before .before .before .pass .last .1 .1 .1 .1 .0) (casesAt (c .before .before .before .before .before .before .before .before .before .args .p .now .now) (c .before .before .before .before .before .pass .result .at)) (c .before .before .before .before .before .before .before .before .before .args .st .now) (c .before .before .walk-case .ensures .0)))
 
 -- src/lib.rt:412:1
 walk-same-length : (t : ℕ) → walk-lts.Need-same-length (walk-calls t) (walk-at t) walk.Post
@@ -819,7 +820,7 @@ walk-same-length t c = c .before .before .before .walk-case .kept .1 .1 .1 .0
 
 -- src/lib.rt:412:1
 walk-returns : (t : ℕ) → walk-lts.Need-returns (walk-calls t) (walk-at t) walk.Post
-walk-returns t c = let s = c .before .before .before .before .before .before .pass .ensures in (c .added .ensures (c .before .before .before .walk-case .last .1 .1 .1 .0) ∙ ap (quietly (c .before .before .before .before .before .before .pass .result .seen) (c .before .before .before .before .before .before .pass .result .kept)) (c .before .before .before .walk-case .ensures .0 ∙ ap (λ (e : Env). walked (c .before .before .before .before .before .before .before .before .before .before .args .rec .now .now) e (casesAt (c .before .before .before .before .before .before .before .before .before .before .args .p .now .now) (c .before .before .before .before .before .before .pass .result .at)) (c .before .before .before .before .before .before .before .before .before .before .args .st .now)) (s .1)) ∙ sym (s .0 .same), c .before .before .before .walk-case .ensures .1 ∙ s .1)
+walk-returns t c = let s = passes-from (c .before .before .before .before .before .before .before .before .before .before .args .rec .now .now) (c .before .before .before .before .before .before .before .before .before .before .args .st .now) (c .before .before .before .before .before .before .before .before .before .before .pre .1) (c .before .before .before .before .before .before .pass .ensures .0) in (c .added .ensures (c .before .before .before .walk-case .last .1 .1 .1 .0) ∙ ap (quietly (c .before .before .before .before .before .before .pass .result .seen) (c .before .before .before .before .before .before .pass .result .kept)) (c .before .before .before .walk-case .ensures .0 ∙ ap (λ (e : Env). walked (c .before .before .before .before .before .before .before .before .before .before .args .rec .now .now) e (casesAt (c .before .before .before .before .before .before .before .before .before .before .args .p .now .now) (c .before .before .before .before .before .before .pass .result .at)) (c .before .before .before .before .before .before .before .before .before .before .args .st .now)) (c .before .before .before .before .before .before .pass .ensures .1)) ∙ sym (s .same), c .before .before .before .walk-case .ensures .1 ∙ c .before .before .before .before .before .before .pass .ensures .1)
 
 -- src/lib.rt:441:9
 walk-case-node-requires : (t : ℕ) → walk-case-lts.Need-node-requires (walk-case-calls t) (walk-case-at t) walk-case.Post

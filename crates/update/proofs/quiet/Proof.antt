@@ -1,4 +1,4 @@
--- A count is given only where a case follows, the event's kind is low and it is absent; else 0, which says nothing.
+-- The tests are the definition's, in its order, on the fields that were read; the event is what the evaluation came apart to.
 use mathlib.Core.Path.{refl, sym, ap, _∙_}
 use native.Mathlib.Omega.{arith}
 use borrow.Author.Needs.{needs}
@@ -6,7 +6,8 @@ use Rattle.outcomes.specs.declared.Event.{Event}
 use Rattle.outcomes.specs.declared.Parts.the-variants.{Maybe}
 use Rattle.moves.proofs.ReadyLaws.{case-part}
 use Rattle.update.proofs.Evaluable.{evaluable}
-use Rattle.update.proofs.PassLaws.{not-quiet, is-quiet}
+use Rattle.update.specs.Passes.{absentWork}
+use Rattle.update.proofs.QuietLaws.{last-quiet, high-quiet, low-quiet}
 use Rattle.update.proofs.quiet.Statement.{statement}
 use Rattle.update.proofs.quiet.Tie as tie
 use Rattle.update.proofs.quiet.Reads as reads
@@ -14,7 +15,7 @@ use Rattle.update.proofs.quiet.Lts as lts
 
 -- src/lib.rt:111:9
 returns : tie.Need-returns
-returns c = (not-quiet, refl)
+returns c = (last-quiet (c .before .before .before .args .rec .now .now) (c .before .before .before .args .st .now) (c .before .before .before .pre) (c .if1 .taken), refl)
 
 -- src/lib.rt:113:9
 kind-of-requires : tie.Need-kind-of-requires
@@ -22,7 +23,7 @@ kind-of-requires c κs = let w = case-part (c .before .before .before .before .p
 
 -- src/lib.rt:115:9
 returns-2 : tie.Need-returns-2
-returns-2 c = (not-quiet, refl)
+returns-2 c = (high-quiet (c .before .before .before .before .before .before .args .rec .now .now) (c .before .before .before .before .before .before .args .st .now) (c .before .before .before .before .before .before .pre) (c .before .before .before .if1 .left) (c .before .kind-of .ensures) (omega (arith, c .if2 .taken)), refl)
 
 -- src/lib.rt:117:9
 evaluated-requires : tie.Need-evaluated-requires
@@ -42,7 +43,8 @@ enum-told c = search needs
 
 -- src/lib.rt:119:9
 returns-3 : tie.Need-returns-3
-returns-3 c = (not-quiet, c .before .before .before .evaluated .ensures .2)
+unfolding absentWork
+returns-3 c = (low-quiet (c .before .before .before .before .before .before .before .before .before .before .before .args .rec .now .now) (c .before .before .before .before .before .before .before .before .before .before .before .args .st .now) (c .before .before .before .before .before .before .before .before .before .before .before .pre) (c .before .before .before .before .before .before .before .before .if1 .left) (c .before .before .before .before .before .before .kind-of .ensures) (omega (arith, c .before .before .before .before .before .if2 .left)) (c .before .before .before .evaluated .ensures .0) (sym (c .before .before .apart .ensures) ∙ c .enum-told .given .1), c .before .before .before .evaluated .ensures .2)
 
 enum-told-2 : tie.Need-enum-told-2
 enum-told-2 c = search needs
@@ -53,11 +55,13 @@ enum-told-3 c = search needs
 
 -- src/lib.rt:122:9
 returns-4 : tie.Need-returns-4
-returns-4 c = (is-quiet (c .before .before .before .before .before .before .before .before .before .before .before .before .before .before .args .rec .now .now) (c .before .before .before .before .before .before .before .before .before .before .before .before .before .before .args .st .now) (c .before .before .before .before .before .before .before .before .before .before .before .before .before .before .pre) (c .before .before .before .before .before .before .before .before .before .before .before .if1 .left) (c .before .before .before .before .before .before .before .before .before .kind-of .ensures) (omega (arith, c .before .before .before .before .before .before .before .before .if2 .left)) (c .before .before .before .before .before .before .evaluated .ensures .0) (sym (c .before .before .before .before .before .apart .ensures) ∙ c .before .before .before .event .given .1 ∙ ap (λ (e : Event). Maybe e (c .before .before .before .event .given .0 .1 .0)) (c .enum-told3 .given .1)), c .before .before .before .before .before .before .evaluated .ensures .2)
+unfolding absentWork
+returns-4 c = (low-quiet (c .before .before .before .before .before .before .before .before .before .before .before .before .before .before .args .rec .now .now) (c .before .before .before .before .before .before .before .before .before .before .before .before .before .before .args .st .now) (c .before .before .before .before .before .before .before .before .before .before .before .before .before .before .pre) (c .before .before .before .before .before .before .before .before .before .before .before .if1 .left) (c .before .before .before .before .before .before .before .before .before .kind-of .ensures) (omega (arith, c .before .before .before .before .before .before .before .before .if2 .left)) (c .before .before .before .before .before .before .evaluated .ensures .0) (sym (c .before .before .before .before .before .apart .ensures) ∙ c .before .before .before .event .given .1 ∙ ap (λ (e : Event). Maybe e (c .before .before .before .event .given .0 .1 .0)) (c .enum-told3 .given .1)), c .before .before .before .before .before .before .evaluated .ensures .2)
 
 -- src/lib.rt:98:1
 returns-5 : tie.Need-returns-5
-returns-5 c = (not-quiet, c .before .before .before .before .before .before .evaluated .ensures .2)
+unfolding absentWork
+returns-5 c = (low-quiet (c .before .before .before .before .before .before .before .before .before .before .before .before .before .before .args .rec .now .now) (c .before .before .before .before .before .before .before .before .before .before .before .before .before .before .args .st .now) (c .before .before .before .before .before .before .before .before .before .before .before .before .before .before .pre) (c .before .before .before .before .before .before .before .before .before .before .before .if1 .left) (c .before .before .before .before .before .before .before .before .before .kind-of .ensures) (omega (arith, c .before .before .before .before .before .before .before .before .if2 .left)) (c .before .before .before .before .before .before .evaluated .ensures .0) (sym (c .before .before .before .before .before .apart .ensures) ∙ c .before .before .before .event .given .1 ∙ ap (λ (e : Event). Maybe e (c .before .before .before .event .given .0 .1 .0)) (c .enum-told2 .given .1)), c .before .before .before .before .before .before .evaluated .ensures .2)
 
 pub quiet-spec : {M : Type 1} → statement M
 quiet-spec =

@@ -19,7 +19,7 @@ use Rattle.rules.proofs.Static.{not-both}
 use Rattle.rules.proofs.Signals.{group-kids, branch-next}
 use Rattle.rules.proofs.Branches.{number-here, number-last, number-next, found}
 use Rattle.rules.proofs.ByKind.{choose}
-use Rattle.cells.specs.Indexed.{Indexed}
+use Rattle.cells.specs.Indexed.{Listed, Indexed}
 use Rattle.cells.proofs.Listed.{Links, by-group, by-branch, holder-of}
 use Rattle.cells.proofs.Passed.{kind-9, branch-of, group-of}
 
@@ -55,7 +55,7 @@ next-in (suc f) p j m l w v d h =
     number-next p j w (bAt p m) far dj
     ∙ next-in f p (bAt p j) m (omega (arith, k .less)) (k .node) v d (sym (number-next p j w m not-here dj) ∙ h)
 
-module _ (p : Bytes) (index : List ℕ) (x : Indexed p index) where
+module _ (p : Bytes) (index : List ℕ) (x : Listed p index) where
   -- What is in a list has what its first branch has.
   same-in : (f j k : ℕ) → j < f → NodeOf isBranch p j → hasBranch k (branchesAt p j) ≡ true → getD index k 0 ≡ getD index j 0
   same-in zero j k l w h = absurd (not-suc-le-zero l)
@@ -91,6 +91,10 @@ module _ (p : Bytes) (index : List ℕ) (x : Indexed p index) where
       go : (b : Bool) → hasBranch k (branchesAt p j) ≡ b → eqb (getD index k 0) j ≡ b
       go true h = eq-eqb (getD index k 0) j (same-in (suc j) j k (omega arith) w h ∙ own)
       go false h = ne-eqb (getD index k 0) j (λ q. not-both (sym h ∙ reach j w (nodes p) k (omega arith) (branch-of p k (w .shaped) (omega (arith, w .inside)) e) q))
+
+-- The whole table has the lists.
+pub lists-of : {p : Bytes} {index : List ℕ} → Indexed p index → Listed p index
+lists-of x = record { once = x .once; room = x .room; firsts = x .firsts; follows = x .follows }
 
 -- A group's list, by the field that was read: what a search of it asks for.
 pub group-first : {p : Bytes} {index : List ℕ} {i b : ℕ} → Indexed p index → NodeOf isSignal p i → kindAt p i ≡ 7 → b ≡ bAt p i

@@ -2,23 +2,26 @@
 -- Assumes nothing.
 use mathlib.Core.Path.{_≡_, refl, sym, ap, subst, _∙_}
 use mathlib.Core.Bool.{Bool, true, false}
-use Prim.Native.Nat.{ℕ, zero, suc, _+_, _≤_, _<_}
+use Prim.Native.Nat.{ℕ, zero, suc, _+_, _-_, _≤_, _<_}
 use native.Mathlib.Nat.{not-suc-le-zero}
 use native.Mathlib.Omega.{arith}
 use lib.Dec.{eqb, leb}
-use borrow.Author.Tests.{eq-eqb, eqb-true}
-use Rattle.rules.specs.Bytes.{Bytes, _and_, if_then_else_}
+use borrow.Author.Tests.{eq-eqb, ne-eqb, eqb-true}
+use Rattle.rules.specs.Bytes.{Bytes, _and_, if_then_else_, first}
 use Rattle.rules.specs.Layout.{nodes, kindAt, aAt, bAt, cAt}
 use Rattle.rules.specs.Kinds.{row, fieldsOf, isSignal, isExpression, isBranch, isCase}
-use Rattle.rules.specs.Shape.{isChild, names, namesIn, namedBelow, named}
+use Rattle.rules.specs.Shape.{isChild, names, namesIn, namedBelow, named, shapeWrong}
 use Rattle.rules.specs.Shaped.{NodeOf}
 use Rattle.rules.specs.declared.Field.{Field}
 use Rattle.rules.specs.declared.Field.the-variants.{Unused, Channel, PresentByte, Signal, Expression, FirstBranch, NextBranch, FirstCase, NextCase, Binder, Target}
+use Rattle.rules.specs.declared.Place.the-variants.{Nowhere}
 use Rattle.rules.specs.declared.TypeField.{TypeField}
 use Rattle.rules.specs.declared.Fields.{Fields}
 use Rattle.rules.proofs.Static.{and-both, not-both}
-use Rattle.rules.proofs.Kids.{Kid, kids}
+use Rattle.rules.proofs.Kids.{Kid, kids, or-none, not-not}
+use Rattle.rules.proofs.Established.{nowhere-from}
 use Rattle.rules.proofs.ByKind.{choose}
+use Rattle.cells.specs.Indexed.{ListedOnce}
 
 -- The fields that name a branch.
 unfoldable lists : Field → Bool
@@ -181,3 +184,20 @@ module _ (p : Bytes) where
   pub holder-of : (c : ℕ) → NodeOf isBranch p c → named p c ≡ 1 → Holder c (nodes p)
   unfolding named
   holder-of c w o = find c (nodes p) (omega arith) w (omega (arith, o))
+
+  -- A branch is not the last node, where that is a signal,
+  branch-not-last : (n : ℕ) → NodeOf isSignal p (nodes p - 1) → NodeOf isBranch p n → suc n < nodes p
+  branch-not-last n r w =
+      choose (suc n) (nodes p)
+      (λ e.
+      let q : n ≡ nodes p - 1 = omega arith in
+      absurd (not-signal (kindAt p n) (w .sorted) (ap (λ (k : ℕ). isSignal (kindAt p k)) q ∙ r .sorted)))
+      (λ d. omega (arith, d, w .inside))
+
+  -- and where the shape is right each node but the last is named once.
+  pub listed-once : first (shapeWrong p) (nodes p) ≡ Nowhere → NodeOf isSignal p (nodes p - 1) → ListedOnce p
+  unfolding first shapeWrong
+  listed-once e r n w =
+      let h = branch-not-last n r w in
+      let f = or-none _ _ (nowhere-from (shapeWrong p) (nodes p) 0 n e (omega arith) (omega arith)) .1 in
+      eqb-true _ _ (not-not _ (simp (ne-eqb (suc n) (nodes p) (λ z. omega arith)) at f))

@@ -14,7 +14,7 @@ use Rattle.rules.specs.Shaped.{Shaped, NodeOf}
 use Rattle.rules.proofs.Kids.{Child, read}
 use Rattle.rules.proofs.Signals.{group-kids, branch-next}
 use Rattle.rules.proofs.ByKind.{choose}
-use Rattle.cells.specs.Indexed.{ListedOnce, Numbers, ListedFrom, Indexed}
+use Rattle.cells.specs.Indexed.{ListedOnce, SignalsKept, ListedFrom, Listed}
 use Rattle.cells.proofs.Listed.{Links, by-group, by-branch, not-two, not-signal}
 
 pub kind-9 : (p : Bytes) (i : ℕ) → NodeOf isBranch p i → kindAt p i ≡ 9
@@ -31,36 +31,39 @@ unfolding isSignal _and_
 group-of p i s h e = record { shaped = s; inside = h; sorted = ap isSignal e }
 
 -- Before the pass no list is asked for.
-pub passing : (p : Bytes) (index : List ℕ) (count : ℕ) → count ≡ nodes p → count ≤ length index → Numbers p index → ListedFrom count p index
-passing p index count e h n =
+pub passing : (p : Bytes) (index : List ℕ) (count : ℕ) → count ≡ nodes p → count ≤ length index → ListedFrom count p index
+passing p index count e h =
     record {
       room = omega arith;
-      numbers = n;
       firsts = λ i l w k. absurd (omega (arith, w .inside));
       follows = λ i l w d. absurd (omega (arith, w .inside));
     }
 
--- After it the table is whole.
-pub passed : (p : Bytes) (index : List ℕ) (low : ℕ) → low ≤ 0 → ListedOnce p → ListedFrom low p index → Indexed p index
+-- After it all lists stand.
+pub passed : (p : Bytes) (index : List ℕ) (low : ℕ) → low ≤ 0 → ListedOnce p → ListedFrom low p index → Listed p index
 passed p index low h o x =
     record {
       once = o;
       room = x .room;
-      numbers = x .numbers;
       firsts = λ i w k. x .firsts i (omega arith) w k;
       follows = λ i w d. x .follows i (omega arith) w d;
     }
 
+-- What the pass over node i leaves: the lists from i on, and for signals what was there.
+abbrev pub Passes : ℕ → Bytes → List ℕ → List ℕ → Type 0
+Passes i p before index = ListedFrom i p index × SignalsKept p before index
+
 module _ (p : Bytes) (index : List ℕ) (i : ℕ) (inside : i < nodes p) (x : ListedFrom (i + 1) p index) where
   -- A node that is neither a group nor a branch, and a last branch, name no branch.
-  pub passes-none : (kindAt p i ≡ 7 → ⊥) → (kindAt p i ≡ 9 → bAt p i ≡ 65535) → ListedFrom i p index
-  passes-none d e =
-      record {
-        room = x .room;
-        numbers = x .numbers;
-        firsts = λ m l w k. x .firsts m (more m l (λ q. d (ap (kindAt p) (sym q) ∙ k))) w k;
-        follows = λ m l w h. x .follows m (more m l (λ q. h (ap (bAt p) q ∙ e (ap (kindAt p) (sym q) ∙ kind-9 p m w)))) w h;
-      }
+  pub passes-none : (kindAt p i ≡ 7 → ⊥) → (kindAt p i ≡ 9 → bAt p i ≡ 65535) → Passes i p index index
+  passes-none d e = (
+    record {
+      room = x .room;
+      firsts = λ m l w k. x .firsts m (more m l (λ q. d (ap (kindAt p) (sym q) ∙ k))) w k;
+      follows = λ m l w h. x .follows m (more m l (λ q. h (ap (bAt p) q ∙ e (ap (kindAt p) (sym q) ∙ kind-9 p m w)))) w h;
+    },
+    λ m w. refl,
+  )
     where
       more : (m : ℕ) → i ≤ m → (m ≡ i → ⊥) → i + 1 ≤ m
       more m l d = omega (arith, d)
@@ -82,11 +85,10 @@ module _ (p : Bytes) (index : List ℕ) (i : ℕ) (inside : i < nodes p) (x : Li
     signal-apart : (m : ℕ) → NodeOf isSignal p m → m ≡ bAt p i → ⊥
     signal-apart m w e = not-signal (kindAt p m) (ap (λ (j : ℕ). isBranch (kindAt p j)) e ∙ child .node .sorted) (w .sorted)
 
-    pub passes-named : ListedFrom i p (set index (bAt p i) v)
-    passes-named =
+    named-lists : ListedFrom i p (set index (bAt p i) v)
+    named-lists =
         record {
           room = omega (arith, x .room, length-set index (bAt p i) v);
-          numbers = λ m w. others m (signal-apart m w) ∙ x .numbers m w;
           firsts = λ m l w k.
               choose m i (λ e. ap (λ (j : ℕ). getD (set index (bAt p i) v) (bAt p j) 0) e ∙ written ∙ first (ap (kindAt p) (sym e) ∙ k) ∙ ap (bAt p) (sym e))
               (λ d. others (bAt p m) (apart m (omega (arith, d)) (w .inside) (λ c e. by-group k e)) ∙ x .firsts m (omega (arith, d)) w k);
@@ -100,6 +102,9 @@ module _ (p : Bytes) (index : List ℕ) (i : ℕ) (inside : i < nodes p) (x : Li
               ∙ sym (others m (λ q. omega (arith, child .less))));
         }
 
+    pub passes-named : Passes i p index (set index (bAt p i) v)
+    passes-named = (named-lists, λ m w. others m (signal-apart m w))
+
 -- The two writes, by the fields as they were read.
 module _ (p : Bytes) (i b : ℕ) (s : Shaped p) (inside : i < nodes p) (e : b ≡ bAt p i) where
   pub first-child : kindAt p i ≡ 7 → Child isBranch p i b
@@ -108,10 +113,10 @@ module _ (p : Bytes) (i b : ℕ) (s : Shaped p) (inside : i < nodes p) (e : b �
   pub next-child : kindAt p i ≡ 9 → (b ≡ 65535 → ⊥) → Child isBranch p i b
   next-child k d = read e (branch-next p i (branch-of p i s inside k) (λ q. d (e ∙ q)))
 
-  pub passes-first : (index : List ℕ) → ListedOnce p → ListedFrom (i + 1) p index → kindAt p i ≡ 7 → ListedFrom i p (set index b b)
+  pub passes-first : (index : List ℕ) → ListedOnce p → ListedFrom (i + 1) p index → kindAt p i ≡ 7 → Passes i p index (set index b b)
   passes-first index o x k =
       rw e (passes-named p index i inside x o (bAt p i) (read (sym e) (first-child k)) (by-group k refl) (λ _. refl) (λ q. absurd (omega (arith, k, q))))
 
-  pub passes-next : (index : List ℕ) → ListedOnce p → ListedFrom (i + 1) p index → kindAt p i ≡ 9 → (b ≡ 65535 → ⊥) → ListedFrom i p (set index b (getD index i 0))
+  pub passes-next : (index : List ℕ) → ListedOnce p → ListedFrom (i + 1) p index → kindAt p i ≡ 9 → (b ≡ 65535 → ⊥) → Passes i p index (set index b (getD index i 0))
   passes-next index o x k d =
       rw e (passes-named p index i inside x o (getD index i 0) (read (sym e) (next-child k d)) (by-branch k refl) (λ q. absurd (omega (arith, k, q))) (λ _. refl))

@@ -3,11 +3,14 @@ ghost use mathlib.Core.Path.{_≡_};
 ghost use Prim.Native.Nat.{_+_, _*_, _≤_, _<_};
 ghost use lib.ListN.{length, getD};
 ghost use Rattle.rules.specs.Bytes.{u64At, bytesOf, writeAt};
-ghost use Rattle.rules.specs.Layout.{nodes, records, kindAt, hasCell, cellsBefore, cellAt, cell as cellIn, setCell, headerLength, lastTime, setTime};
+ghost use Rattle.rules.specs.Layout.{nodes, mostNodes, records, recordAt, kindAt, hasCell, cellsBefore, cellAt, cell as cellIn, setCell, headerLength, lastTime, setTime};
+ghost use Rattle.rules.specs.Node.{IsNode};
 ghost use Rattle.rules.specs.Shaped.{Shaped};
-ghost use Rattle.cells.specs.Indexed.{ListedOnce, Numbers, ListedFrom, Indexed};
+ghost use Rattle.cells.specs.Indexed.{ListedOnce, Numbers, SignalsKept, ListedFrom, Listed, Indexed};
+use rules::Node;
 use table::node;
 use table::node_at;
+use table::read;
 use table::u32_at;
 
 // A 32-bit number as a 64-bit one.
@@ -130,7 +133,7 @@ pub fn number_of(index: &[u16], i: usize) -> usize
 // The branch that node i names gets its number: a group's first branch its own, a branch's next one what the branch has.
 fn name_branch(p: &[u8], index: &mut [u16], i: usize)
     requires { ⌜ Shaped (now p) × (i < nodes (now p)) × ListedOnce (now p) × ListedFrom (i + 1) (now p) (now index) ⌝ }
-    ensures { λ _. ⌜ ListedFrom i (now (p .entry)) (now (index .exit)) ⌝ }
+    ensures { λ _. ⌜ ListedFrom i (now (p .entry)) (now (index .exit)) × SignalsKept (now (p .entry)) (now (index .entry)) (now (index .exit)) ⌝ }
 {
     let kind = kind_of(p, i);
     if kind == 7 {
@@ -151,9 +154,9 @@ fn name_branch(p: &[u8], index: &mut [u16], i: usize)
 }
 
 // The numbers of the branches, from the last node down: children have smaller numbers, so what a branch has is known when it is passed.
-fn index_branches(p: &[u8], index: &mut [u16], count: usize)
-    requires { ⌜ Shaped (now p) × ListedOnce (now p) × (count ≡ nodes (now p)) × (count ≤ length (now index)) × Numbers (now p) (now index) ⌝ }
-    ensures { λ _. ⌜ Indexed (now (p .entry)) (now (index .exit)) ⌝ }
+pub fn index_branches(p: &[u8], index: &mut [u16], count: usize)
+    requires { ⌜ Shaped (now p) × ListedOnce (now p) × (count ≡ nodes (now p)) × (count ≤ length (now index)) ⌝ }
+    ensures { λ _. ⌜ Listed (now (p .entry)) (now (index .exit)) × SignalsKept (now (p .entry)) (now (index .entry)) (now (index .exit)) ⌝ }
 {
     let mut left = count;
     while left > 0 {
@@ -178,9 +181,21 @@ pub fn count_cells(p: &[u8], count: usize) -> usize
     seen
 }
 
-// The table, filled in two passes; the answer is how many cells the nodes have.
+// The places of the nodes' records, behind the numbers.
+fn index_places(p: &[u8], index: &mut [u16], count: usize)
+    requires { ⌜ Shaped (now p) × (count ≡ nodes (now p)) × (mostNodes + count ≤ length (now index)) × Listed (now p) (now index) × Numbers (now p) (now index) ⌝ }
+    ensures { λ _. ⌜ Indexed (now (p .entry)) (now (index .exit)) ⌝ }
+{
+    let mut i: usize = 0;
+    while i < count {
+        index[1008 + i] = node_at(p, i) as u16;
+        i += 1;
+    }
+}
+
+// The table, filled in three passes; the answer is how many cells the nodes have.
 pub fn index_cells(p: &[u8], index: &mut [u16], count: usize) -> usize
-    requires { ⌜ Shaped (now p) × ListedOnce (now p) × (count ≡ nodes (now p)) × (count ≤ length (now index)) ⌝ }
+    requires { ⌜ Shaped (now p) × ListedOnce (now p) × (count ≡ nodes (now p)) × (mostNodes + count ≤ length (now index)) ⌝ }
     ensures { λ r. ⌜ Indexed (now (p .entry)) (now (index .exit)) × (r ≡ cellsBefore (now (p .entry)) count) ⌝ }
 {
     let mut seen: usize = 0;
@@ -193,5 +208,32 @@ pub fn index_cells(p: &[u8], index: &mut [u16], count: usize) -> usize
         i += 1;
     }
     index_branches(p, index, count);
+    index_places(p, index, count);
     seen
+}
+
+// Where node i stands, by the table: without a product.
+fn place_of(p: &[u8], index: &[u16; 2016], i: usize) -> usize
+    requires { ⌜ Indexed (now p) (now index) × Shaped (now p) × (i < nodes (now p)) ⌝ }
+    ensures { λ n. ⌜ (n ≡ recordAt i) × (n + 12 ≤ length (now (p .entry))) ⌝ }
+{
+    index[1008 + i] as usize
+}
+
+// The fields of node i, by the table.
+pub fn node_by(p: &[u8], index: &[u16; 2016], i: usize) -> Node
+    requires { ⌜ Indexed (now p) (now index) × Shaped (now p) × (i < nodes (now p)) ⌝ }
+    ensures { λ n. ⌜ IsNode (now (p .entry)) i n ⌝ }
+{
+    let at = place_of(p, index, i);
+    read(p, at)
+}
+
+// The kind of node i, by the table.
+pub fn kind_by(p: &[u8], index: &[u16; 2016], i: usize) -> u8
+    requires { ⌜ Indexed (now p) (now index) × Shaped (now p) × (i < nodes (now p)) ⌝ }
+    ensures { λ k. ⌜ k ≡ kindAt (now (p .entry)) i ⌝ }
+{
+    let at = place_of(p, index, i);
+    p[at]
 }

@@ -1,7 +1,7 @@
 -- An expression of each kind: its children are ready, and what it evaluates to by theirs.
 -- Assumes nothing.
-use mathlib.Core.Path.{_≡_, refl, sym, ap, _∙_, subst}
-use Prim.Native.Nat.{ℕ, _+_, _≤_, _<_, max}
+use mathlib.Core.Path.{_≡_, sym, ap, _∙_, subst}
+use Prim.Native.Nat.{ℕ, _+_, _<_}
 use native.Mathlib.Omega.{arith}
 use Rattle.rules.specs.Bytes.{Bytes}
 use Rattle.rules.specs.Layout.{kindAt, typeAt, aAt, bAt, cAt, wordAt}
@@ -23,7 +23,7 @@ use Rattle.outcomes.specs.declared.Arm.the-variants.{Go, Neither}
 use Rattle.outcomes.specs.declared.Event.{Event}
 use Rattle.outcomes.specs.declared.Event.the-variants.{Occurs, Quiet}
 use Rattle.outcomes.specs.declared.Parts.the-variants.{Maybe, Wrong}
-use Rattle.outcomes.proofs.Outcomes.{work-within, arm-goes, arm-none, arm-one, arm-work, take-present, take-absent, take-wrong, take-work}
+use Rattle.outcomes.proofs.Outcomes.{work-within, arm-goes, arm-none, arm-one, take-present, take-absent, take-wrong}
 
 -- Node x is an expression below node n, and its tree's bound is small.
 pub record PartE (p : Bytes) (n x : ℕ) : Type 0 where

@@ -1,19 +1,19 @@
 -- A signal of each kind: its parts are ready, its cell is in the state, and what it evaluates to by its parts.
 -- Assumes nothing.
-use mathlib.Core.Path.{_≡_, refl, sym, ap, _∙_, subst}
+use mathlib.Core.Path.{_≡_, sym, ap, _∙_, subst}
 use mathlib.Core.Bool.{Bool, true, false}
 use mathlib.Core.List.{List}
-use Prim.Native.Nat.{ℕ, _+_, _≤_, _<_, max}
+use Prim.Native.Nat.{ℕ, _+_, _≤_, _<_}
 use native.Mathlib.Omega.{arith}
 use lib.ListN.{length, getD}
 use borrow.Author.Tests.{eq-eqb, ne-eqb}
 use Rattle.rules.specs.Bytes.{Bytes, _or_}
-use Rattle.rules.specs.Layout.{kindAt, aAt, bAt, cAt, hasCell, cellsBefore, cells, cellAt, stateLength, cell, held, isClear, branchIn, channelValue, timeIn}
+use Rattle.rules.specs.Layout.{kindAt, aAt, bAt, cAt, hasCell, cellsBefore, cellAt, stateLength, cell, held, isClear, branchIn, channelValue, timeIn}
 use Rattle.rules.specs.Values.{intT, unpacked, middleIn}
-use Rattle.rules.specs.Kinds.{isExpression, isSignal, isBranch}
+use Rattle.rules.specs.Kinds.{isSignal, isBranch}
 use Rattle.rules.specs.Tree.{exprAt, signalAt, branchesAt}
 use Rattle.rules.specs.Work.{give, after, rule, _then_}
-use Rattle.rules.specs.Bound.{boundE, boundS, boundSB}
+use Rattle.rules.specs.Bound.{boundS}
 use Rattle.rules.specs.Scope.{hasBranch}
 use Rattle.rules.specs.Evaluate.{Env, bind, evalE, evalS, evalB}
 use Rattle.rules.specs.Shaped.{NodeOf}
@@ -26,7 +26,7 @@ use Rattle.rules.proofs.Nodes.{signal-input, signal-time}
 use Rattle.rules.proofs.Signals.{ext-kid, ext-tree, delay-tree, let-kids, let-tree, switch-kids, switch-tree, group-kids, group-tree, until-kids, until-tree, branch-kid}
 use Rattle.rules.proofs.Within.{evalS-within}
 use Rattle.rules.proofs.CellNumbers.{cell-below}
-use Rattle.rules.proofs.Branches.{Found, found, missing-evaluates}
+use Rattle.rules.proofs.Branches.{found, missing-evaluates}
 use Rattle.cells.specs.Indexed.{Indexed}
 use Rattle.outcomes.specs.Combine.{workOf}
 use Rattle.outcomes.proofs.Outcomes.{work-within}
@@ -46,6 +46,11 @@ read-s {p} {n} e k = subst (PartS p n) (sym e) k
 pub part-work-s : {p : Bytes} {n x : ℕ} {r : Evaluated} (rec st : Bytes) (env : Env) → PartS p n x → r ≡ evalS rec st env (signalAt p x)
     → workOf r < 65535
 part-work-s {p} {n} {x} rec st env k e = rw e (omega (arith, work-within _ (evalS-within rec st env (signalAt p x)), k .small))
+
+-- The work of a signal itself.
+pub own-work : (p : Bytes) (n : ℕ) {r : Evaluated} (rec st : Bytes) (env : Env) → boundS (signalAt p n) < 65535 → r ≡ evalS rec st env (signalAt p n)
+    → workOf r < 65535
+own-work p n rec st env h e = rw e (omega (arith, work-within _ (evalS-within rec st env (signalAt p n))))
 
 -- What a definition and a body count together is small.
 pub let-work : (p : Bytes) (x y : ℕ) {r s : Evaluated} (rec st : Bytes) (env₁ env₂ : Env) → boundS (signalAt p x) + boundS (signalAt p y) < 65535

@@ -1,4 +1,4 @@
--- What an evaluation carries: a node, slots that hold values, and a tree whose bound is small, so that a count fits in two bytes.
+-- What an evaluation carries: a node, the table by node number, slots that hold values, and a tree whose bound is small, so that a count fits in two bytes.
 -- Assumes nothing: these are definitions.
 use Prim.Native.Nat.{ℕ, _≤_, _<_}
 use mathlib.Core.List.{List}
@@ -13,12 +13,13 @@ use Rattle.rules.specs.Shaped.{NodeOf}
 use Rattle.cells.specs.Indexed.{Indexed}
 use Rattle.outcomes.specs.Outcome.{Slots}
 
-pub record ReadyE (p : Bytes) (env : Env) (i : ℕ) : Type 0 where
+pub record ReadyE (p : Bytes) (index : List ℕ) (env : Env) (i : ℕ) : Type 0 where
   pub node : NodeOf isExpression p i
+  pub indexed : Indexed p index
   pub slots : Slots env
   pub small : boundE (exprAt p i) < 65535
 
--- For a signal also the numbers of the cells, and a state with room for them.
+-- For a signal also a state with room for the cells.
 pub record ReadyS (p : Bytes) (index : List ℕ) (st : Bytes) (env : Env) (i : ℕ) : Type 0 where
   pub node : NodeOf isSignal p i
   pub indexed : Indexed p index

@@ -5,11 +5,14 @@ ghost use lib.ListN.{length, getD};
 ghost use Rattle.rules.specs.Layout.{cellAt, cell as cellIn};
 ghost use Rattle.rules.specs.Values.{unpacked, middleIn};
 ghost use Rattle.rules.specs.Tree.{exprAt, signalAt};
+ghost use Rattle.rules.specs.Work.{rule};
 ghost use Rattle.rules.specs.Evaluate.{bind, evalE, evalS};
 ghost use Rattle.outcomes.specs.Outcome.{outcomeIn, IsOutcome, IsValue};
 ghost use Rattle.evaluate.specs.Ready.{ReadyE, ReadyS};
 use branches::has_branch;
 use cells::cell;
+use cells::kind_by;
+use cells::node_by;
 use cells::number_of;
 use inputs::channel_value;
 use inputs::time_in;
@@ -32,70 +35,69 @@ use outcomes::show;
 use outcomes::variable;
 use rules::INT;
 use rules::Value;
-use table::node;
 
 // Expression i as an operand: a variable or a constant is read at once, without a call.
-fn operand(p: &&[u8], env: &mut [u64; 1008], i: usize) -> u64
-    requires { ⌜ ReadyE (now (now p)) (now env) i ⌝ }
+fn operand(p: &&[u8], ix: &[u16; 2016], env: &mut [u64; 1008], i: usize) -> u64
+    requires { ⌜ ReadyE (now (now p)) (now ix) (now env) i ⌝ }
     ensures { λ r. ⌜ (outcomeIn r ≡ evalE (now (env .entry)) (exprAt (now (now (p .entry))) i)) × IsOutcome r × (now (env .exit) ≡ now (env .entry)) ⌝ }
 {
-    let n = node(*p, i);
+    let n = node_by(*p, ix, i);
     let k = n.kind;
     match k {
         16 => variable(env, n.a),
         17 => constant(n.ty, n.b, n.word),
-        _ => eval_e(p, env, i),
+        _ => eval_e(p, ix, env, i),
     }
 }
 
 // Expression i. If and take evaluate one arm only.
-fn eval_e(p: &&[u8], env: &mut [u64; 1008], i: usize) -> u64
-    requires { ⌜ ReadyE (now (now p)) (now env) i ⌝ }
+fn eval_e(p: &&[u8], ix: &[u16; 2016], env: &mut [u64; 1008], i: usize) -> u64
+    requires { ⌜ ReadyE (now (now p)) (now ix) (now env) i ⌝ }
     ensures { λ r. ⌜ (outcomeIn r ≡ evalE (now (env .entry)) (exprAt (now (now (p .entry))) i)) × IsOutcome r × (now (env .exit) ≡ now (env .entry)) ⌝ }
 {
-    let n = node(*p, i);
+    let n = node_by(*p, ix, i);
     let k = n.kind;
     match k {
         16 => variable(env, n.a),
         17 => constant(n.ty, n.b, n.word),
-        24 => negated(operand(p, env, n.a)),
+        24 => negated(operand(p, ix, env, n.a)),
         27 => {
-            let test = operand(p, env, n.a);
+            let test = operand(p, ix, env, n.a);
             let Arm::Go(arm, count) = chosen(test, n.b, n.c) else {
                 return 0;
             };
-            let r = eval_e(p, env, arm);
+            let r = eval_e(p, ix, env, arm);
             later(count, r)
         }
-        28 => lifted(operand(p, env, n.a)),
+        28 => lifted(operand(p, ix, env, n.a)),
         29 => {
-            let maybe = operand(p, env, n.a);
+            let maybe = operand(p, ix, env, n.a);
             let Parts::Maybe(event, count) = apart(maybe) else {
                 return 0;
             };
             let Event::Occurs(v) = event else {
-                let absent = eval_e(p, env, n.b);
+                let absent = eval_e(p, ix, env, n.b);
                 return later(count, absent);
             };
-            let present = inside_e(p, env, i, v, n.c);
+            let present = inside_e(p, ix, env, i, v, n.c);
             later(count, present)
         }
         _ => {
-            let x = operand(p, env, n.a);
-            let y = operand(p, env, n.b);
+            let x = operand(p, ix, env, n.a);
+            let y = operand(p, ix, env, n.b);
             operated(k, x, y)
         }
     }
 }
 
 // Expression k with the value v in slot i, which is then put back.
-fn inside_e(p: &&[u8], env: &mut [u64; 1008], i: usize, v: u64, k: usize) -> u64
-    requires { ⌜ ReadyE (now (now p)) (now env) k × (i < 1008) × IsValue v ⌝ }
+fn inside_e(p: &&[u8], ix: &[u16; 2016], env: &mut [u64; 1008], i: usize, v: u64, k: usize) -> u64
+    requires { ⌜ ReadyE (now (now p)) (now ix) (now env) k × (i < 1008) × IsValue v ⌝ }
     ensures { λ r. ⌜ (outcomeIn r ≡ evalE (bind (now (env .entry)) i (unpacked v)) (exprAt (now (now (p .entry))) k)) × IsOutcome r × (now (env .exit) ≡ now (env .entry)) ⌝ }
 {
     let old = env[i];
     env[i] = v;
-    let r = eval_e(p, env, k);
+    let r = eval_e(p, ix, env, k);
     env[i] = old;
     r
 }
@@ -119,7 +121,7 @@ pub fn branch_in(m: u64) -> usize
 // Signal i. Switch and let continue evaluate the current part; a group's branch is known by its number in the cell.
 fn eval_s(
     p: &&[u8],
-    ix: &[u16; 1008],
+    ix: &[u16; 2016],
     rec: &&[u8],
     st: &&[u8],
     env: &mut [u64; 1008],
@@ -128,11 +130,11 @@ fn eval_s(
     requires { ⌜ ReadyS (now (now p)) (now ix) (now (now st)) (now env) i ⌝ }
     ensures { λ r. ⌜ (outcomeIn r ≡ evalS (now (now (rec .entry))) (now (now (st .entry))) (now (env .entry)) (signalAt (now (now (p .entry))) i)) × IsOutcome r × (now (env .exit) ≡ now (env .entry)) ⌝ }
 {
-    let n = node(*p, i);
+    let n = node_by(*p, ix, i);
     let k = n.kind;
     match k {
         1 => given(channel_value(*rec, n.a)),
-        3 => ruled(operand(p, env, n.a)),
+        3 => ruled(operand(p, ix, env, n.a)),
         4 => held(content(ix, *st, i)),
         5 => {
             let d = eval_s(p, ix, rec, st, env, n.a);
@@ -155,20 +157,39 @@ fn eval_s(
             }
             let which = branch_in(m);
             if has_branch(*p, ix, n.b, which) {
-                let branch = node(*p, which);
+                let branch = node_by(*p, ix, which);
                 return ruled(inside_s(p, ix, rec, st, env, which, exactly(m), branch.a));
             }
             0
         }
-        8 => ruled(eval_s(p, ix, rec, st, env, n.a)),
+        8 => through(p, ix, rec, st, env, n.a),
         _ => given(Value::Plain(INT, time_in(*rec))),
     }
+}
+
+// Signal i of an until, by the until's rule: a delay is read at once, without a call.
+fn through(
+    p: &&[u8],
+    ix: &[u16; 2016],
+    rec: &&[u8],
+    st: &&[u8],
+    env: &mut [u64; 1008],
+    i: usize,
+) -> u64
+    requires { ⌜ ReadyS (now (now p)) (now ix) (now (now st)) (now env) i ⌝ }
+    ensures { λ r. ⌜ (outcomeIn r ≡ rule (evalS (now (now (rec .entry))) (now (now (st .entry))) (now (env .entry)) (signalAt (now (now (p .entry))) i))) × IsOutcome r × (now (env .exit) ≡ now (env .entry)) ⌝ }
+{
+    if kind_by(*p, ix, i) == 4 {
+        return ruled(held(content(ix, *st, i)));
+    }
+    let r = eval_s(p, ix, rec, st, env, i);
+    ruled(r)
 }
 
 // Signal k with the value v in slot i, which is then put back.
 fn inside_s(
     p: &&[u8],
-    ix: &[u16; 1008],
+    ix: &[u16; 2016],
     rec: &&[u8],
     st: &&[u8],
     env: &mut [u64; 1008],
@@ -189,7 +210,7 @@ fn inside_s(
 // Signal i in a state that is lent as a slice: what a step and an update call.
 pub fn evaluated(
     p: &&[u8],
-    ix: &[u16; 1008],
+    ix: &[u16; 2016],
     rec: &&[u8],
     st: &[u8],
     env: &mut [u64; 1008],

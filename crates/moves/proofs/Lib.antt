@@ -1,5 +1,7 @@
 pub mod OutcomeLaws
+pub mod NumberLaws
 pub mod ReadyLaws
+pub mod BranchLaws
 pub mod KindLaws
 pub mod WalkLaws
 pub mod SmallLaws

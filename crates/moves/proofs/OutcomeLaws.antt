@@ -4,7 +4,7 @@ use mathlib.Core.Path.{_≡_, refl, ap}
 use Prim.Native.Nat.{ℕ, _≤_}
 use native.Mathlib.Omega.{arith}
 use Rattle.rules.specs.Bytes.{Bytes}
-use Rattle.rules.specs.Work.{Updated, Next, Jump, Halted, moved, stays, afterᵘ, _with_, _thenᵘ_}
+use Rattle.rules.specs.Work.{Updated, Jump, Halted, moved, afterᵘ, _with_, _thenᵘ_}
 use Rattle.rules.specs.declared.Tally.{Tally}
 use Rattle.rules.specs.declared.Moved.{Moved}
 use Rattle.rules.specs.declared.Moved.the-variants.{Stay}
@@ -14,10 +14,10 @@ use Rattle.moves.specs.Outcomes.{workOf, calmOf}
 use Rattle.moves.specs.declared.Calm.the-variants.{Still, Broken}
 
 -- No constructor is another.
-still-broken : {w : Tally} → Still w ≡ Broken → ⊥
+pub still-broken : {w : Tally} → Still w ≡ Broken → ⊥
 still-broken e = let z : _≡_ {A = ℕ} 0 1 = cc in omega arith
 
-broken-still : {w : Tally} → Broken ≡ Still w → ⊥
+pub broken-still : {w : Tally} → Broken ≡ Still w → ⊥
 broken-still e = let z : _≡_ {A = ℕ} 0 1 = cc in omega arith
 
 -- An update that stays goes on from its state.
@@ -32,18 +32,6 @@ unfolding calmOf moved _thenᵘ_
 then-broken (Stay w) st f e = absurd (still-broken e)
 then-broken (Moved.Jump target v w) st f e = refl
 then-broken Moved.Stuck st f e = refl
-
-pub stays-still : (r : Moved) {w : Tally} (st : Bytes) → calmOf r ≡ Still w → stays (moved r st) ≡ moved (Stay w) st
-unfolding calmOf moved stays
-stays-still (Stay u) {w} st e = let q : u ≡ w = cc in ap (λ (x : Tally). Next st x) q
-stays-still (Moved.Jump target v w) st e = absurd (broken-still e)
-stays-still Moved.Stuck st e = absurd (broken-still e)
-
-pub stays-broken : (r : Moved) (st : Bytes) → calmOf r ≡ Broken → stays (moved r st) ≡ Halted
-unfolding calmOf moved stays
-stays-broken (Stay w) st e = absurd (still-broken e)
-stays-broken (Moved.Jump target v w) st e = refl
-stays-broken Moved.Stuck st e = refl
 
 -- What an update that stays has counted.
 pub still-work : (r : Moved) {w : Tally} → calmOf r ≡ Still w → w .work ≡ workOf r

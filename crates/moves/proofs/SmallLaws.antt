@@ -1,19 +1,20 @@
--- No count is too large: each part's is at most its bound, which the bound of the whole holds.
+-- No count is too large: each part's is at most its bound, and the sum of the parts' is below what a number's count may be, since the bound of
+-- the whole is.
 -- Assumes nothing.
-use mathlib.Core.Path.{_≡_, ap, _∙_}
+use mathlib.Core.Path.{_≡_, refl, sym, ap, _∙_}
 use mathlib.Core.Bool.{Bool, true, false}
 use mathlib.Core.List.{List}
-use Prim.Native.Nat.{ℕ, _<_}
+use Prim.Native.Nat.{ℕ, _+_, _≤_, _<_, max}
 use native.Mathlib.Omega.{arith}
 use Rattle.rules.specs.Bytes.{Bytes, if_then_else_}
-use Rattle.rules.specs.Layout.{aAt, bAt, cAt, cellsBefore, held, isClear, branchIn, holdBranch}
+use Rattle.rules.specs.Layout.{aAt, bAt, cAt, cellsBefore, held, isClear, holdBranch}
+use Rattle.rules.specs.Node.{IsNode}
 use Rattle.rules.specs.Scope.{hasBranch}
-use Rattle.rules.specs.Tree.{Signal, Branches, signalAt, branchesAt}
-use Rattle.rules.specs.Bound.{boundS, boundU}
-use Rattle.rules.specs.Reset.{resetS, resetB}
+use Rattle.rules.specs.Tree.{Signal, input, time, ext, delay, letSignal, switch, group, until, Branches, signalAt, branchesAt, casesAt}
+use Rattle.rules.specs.Bound.{boundS, boundSC, boundU, boundUB, boundUC}
+use Rattle.rules.specs.Reset.{resetS}
 use Rattle.rules.specs.Work.{Updated, Next, Jump, moved, ruleᵘ}
 use Rattle.rules.specs.Evaluate.{Env, bind, evalS}
-use Rattle.rules.specs.Update.{caught, updS}
 use Rattle.rules.specs.declared.Node.{Node}
 use Rattle.rules.specs.declared.Tally.{Tally}
 use Rattle.rules.specs.declared.Value.{Value}
@@ -21,78 +22,169 @@ use Rattle.rules.specs.declared.Moved.{Moved}
 use Rattle.rules.specs.declared.Moved.the-variants.{Stay}
 use Rattle.rules.specs.declared.Evaluated.{Evaluated}
 use Rattle.rules.specs.declared.Evaluated.the-variants.{Done}
-use Rattle.rules.proofs.Signals.{switch-tree, group-tree}
-use Rattle.rules.proofs.Within.{Withinᵘ, evalS-within, updS-within, updB-within}
+use Rattle.rules.proofs.Signals.{delay-tree, let-tree, switch-tree, group-tree, until-tree, case-law, case-on}
+use Rattle.rules.proofs.Within.{Withinᵘ, evalS-within}
+use Rattle.rules.proofs.Branches.{found}
+use Rattle.current.specs.Current.{leaves, goS}
+use Rattle.current.proofs.Bounds.{goS-within}
 use Rattle.outcomes.specs.Combine.{workOf as evalWork, partsOf}
 use Rattle.outcomes.specs.declared.Event.{Event}
 use Rattle.outcomes.specs.declared.Parts.the-variants.{Maybe}
 use Rattle.outcomes.proofs.Outcomes.{work-within, take-work}
-use Rattle.moves.specs.Outcomes.{workOf, calmOf}
+use Rattle.moves.specs.Outcomes.{calmOf, countIn, movedIn}
 use Rattle.moves.specs.declared.Calm.the-variants.{Still}
-use Rattle.moves.specs.Parts.{inSwitch, inGroup}
-use Rattle.moves.specs.Lent.{ReadyAs}
+use Rattle.moves.specs.Parts.{inSwitch}
+use Rattle.moves.specs.Lent.{ReadyAs, CaseAs}
 use Rattle.moves.proofs.OutcomeLaws.{still-work, moved-within}
+use Rattle.moves.proofs.NumberLaws.{count-of}
+use Rattle.moves.proofs.ReadyLaws.{group-list}
 
 -- Of an evaluation.
-module _ (rec st : Bytes) (env : Env) (s : Signal) (b : boundS s < 65535) {r : Evaluated} (q : r ≡ evalS rec st env s) where
-  eval-small : evalWork r < 65535
-  eval-small = rw q (omega (arith, work-within _ (evalS-within rec st env s)))
+module _ (rec st : Bytes) (env : Env) (s : Signal) {r : Evaluated} (q : r ≡ evalS rec st env s) where
+  eval-work : evalWork r ≤ boundS s
+  eval-work = rw q (work-within _ (evalS-within rec st env s))
 
-  pub done-small : {v : Value} {u : Tally} → r ≡ Done v u → u .work < 4294967296
-  done-small e = omega (arith, ap evalWork e, eval-small)
+  pub done-work : {v : Value} {u : Tally} → r ≡ Done v u → u .work ≤ boundS s
+  done-work e = omega (arith, ap evalWork e, eval-work)
 
-  pub parts-small : {e : Event} {u : Tally} → partsOf r ≡ Maybe e u → u .work < 4294967296
-  parts-small e = omega (arith, take-work r e, eval-small)
+  pub parts-work : {e : Event} {u : Tally} → partsOf r ≡ Maybe e u → u .work ≤ boundS s
+  parts-work e = omega (arith, take-work r e, eval-work)
 
--- Of an update.
-module _ (rec : Bytes) (env : Env) (s : Signal) (st : Bytes) (b : boundU s < 4294967296) (m : Moved) (st₁ : Bytes) (q : moved m st₁ ≡ updS rec env s st) where
-  pub moved-small : workOf m < 4294967296
-  moved-small = omega (arith, moved-within m st₁ q (updS-within rec env s st))
+-- Of an update, by its number.
+number-within : (r : ℕ) (st : Bytes) {x : Updated} {b : ℕ} → moved (movedIn r) st ≡ x → Withinᵘ x b → countIn r ≤ b
+number-within r st e h = omega (arith, count-of r, moved-within (movedIn r) st e h)
 
-  pub still-small : {w : Tally} → calmOf m ≡ Still w → w .work < 4294967296
-  still-small c = omega (arith, still-work m c, moved-small)
+module _ (rec : Bytes) (env : Env) (s : Signal) (st : Bytes) (r : ℕ) (st₁ : Bytes) (q : moved (movedIn r) st₁ ≡ goS rec env s st) where
+  pub number-work : countIn r ≤ boundU s
+  number-work = number-within r st₁ q (goS-within rec env s st)
 
--- Of the part that is current.
-pick-small : (t : Bool) (A B : Updated) {x y : ℕ} → Withinᵘ A x → Withinᵘ B y → x < 4294967296 → y < 4294967296
-    → (m : Moved) (st : Bytes) → moved m st ≡ (if t then A else B) → workOf m < 4294967296
-pick-small true A B h g x y m st q = omega (arith, moved-within m st q h)
-pick-small false A B h g x y m st q = omega (arith, moved-within m st q g)
+  pub calm-work : {w : Tally} → calmOf (movedIn r) ≡ Still w → w .work ≤ boundU s
+  calm-work c = omega (arith, still-work (movedIn r) c, count-of r, number-work)
 
+-- Of a switch's part that is current.
+pick-work : (t : Bool) (A B : Updated) {x y : ℕ} → Withinᵘ A x → Withinᵘ B y → (r : ℕ) (st : Bytes) → moved (movedIn r) st ≡ (if t then A else B) → countIn r ≤ max x y
+pick-work true A B h g r st q = omega (arith, number-within r st q h)
+pick-work false A B h g r st q = omega (arith, number-within r st q g)
+
+pub switch-work : (p : Bytes) (i : ℕ) (rec : Bytes) (env : Env) (st : Bytes) (r : ℕ) (st₁ : Bytes) → moved (movedIn r) st₁ ≡ inSwitch p i rec env st
+    → countIn r ≤ max (boundU (signalAt p (aAt p i))) (boundU (signalAt p (cAt p i)))
+switch-work p i rec env st r st₁ q =
+    pick-work (isClear st (cellsBefore p i)) _ _ (goS-within rec env (signalAt p (aAt p i)) st)
+    (goS-within rec (bind env i (held st (cellsBefore p i))) (signalAt p (cAt p i)) st) r st₁ q
+
+-- An update counts at least one.
+one-counted : (s : Signal) → 1 ≤ boundU s
+unfolding boundU
+one-counted (input n c) = omega arith
+one-counted (time n) = omega arith
+one-counted (ext n e) = omega arith
+one-counted (delay n k v s) = omega arith
+one-counted (letSignal n t d b) = omega arith
+one-counted (switch n k t x e y) = omega arith
+one-counted (group n k body brs) = omega arith
+one-counted (until n s cs) = omega arith
+
+-- The sums, by the bound of the whole.
 module _ {p : Bytes} {index : List ℕ} {s i : ℕ} {e : Env} {n : Node} where
-  pub switch-small : ReadyAs 6 p index s e i n → (rec : Bytes) (env : Env) (st : Bytes) (m : Moved) (st₁ : Bytes) → moved m st₁ ≡ inSwitch p i rec env st
-      → workOf m < 4294967296
+  pub delay-sum : ReadyAs 4 p index s e i n → {u w : ℕ} → u ≤ boundS (signalAt p (n .a)) → w ≤ boundU (signalAt p (n .a)) → u + w < 1048575
   unfolding boundU
-  switch-small r rec env st m st₁ q =
-      let b = ap boundU (switch-tree p i (r .ready .node) (r .kind)) in
-      pick-small (isClear st (cellsBefore p i)) _ _ (updS-within rec env (signalAt p (aAt p i)) st)
-      (updS-within rec (bind env i (held st (cellsBefore p i))) (signalAt p (cAt p i)) st)
-      (omega (arith, r .ready .small)) (omega (arith, r .ready .small)) m st₁ q
+  delay-sum r h g =
+      let b = ap boundU (delay-tree p i (r .ready .node) (r .kind)) in
+      let x = ap (λ (k : ℕ). boundS (signalAt p k)) (r .fields .a-is) in
+      let y = ap (λ (k : ℕ). boundU (signalAt p k)) (r .fields .a-is) in
+      omega (arith, r .ready .small)
 
-  pub group-small : ReadyAs 7 p index s e i n → (rec : Bytes) (env : Env) (st : Bytes) (m : Moved) (st₁ : Bytes) → moved m st₁ ≡ inGroup p i rec env st
-      → workOf m < 4294967296
+  pub let-sum : ReadyAs 5 p index s e i n → {u w k : ℕ} → u ≤ boundS (signalAt p (n .a)) → w ≤ boundU (signalAt p (n .a)) → k ≤ boundU (signalAt p (n .b))
+      → u + w + k < 1048575
   unfolding boundU
-  group-small r rec env st m st₁ q =
+  let-sum r h g l =
+      let b = ap boundU (let-tree p i (r .ready .node) (r .kind)) in
+      let x = ap (λ (k : ℕ). boundS (signalAt p k)) (r .fields .a-is) in
+      let y = ap (λ (k : ℕ). boundU (signalAt p k)) (r .fields .a-is) in
+      let z = ap (λ (k : ℕ). boundU (signalAt p k)) (r .fields .b-is) in
+      omega (arith, r .ready .small)
+
+  -- the part's count k is 0 where the switch catches
+  pub switch-sum : ReadyAs 6 p index s e i n → {u w k : ℕ} → u ≤ boundS (signalAt p (n .b)) → w ≤ boundU (signalAt p (n .b))
+      → k ≤ max (boundU (signalAt p (aAt p i))) (boundU (signalAt p (cAt p i))) → u + w + k < 1048575
+  unfolding boundU
+  switch-sum r h g l =
+      let b = ap boundU (switch-tree p i (r .ready .node) (r .kind)) in
+      let x = ap (λ (k : ℕ). boundS (signalAt p k)) (r .fields .b-is) in
+      let y = ap (λ (k : ℕ). boundU (signalAt p k)) (r .fields .b-is) in
+      omega (arith, r .ready .small)
+
+  pub group-sum : ReadyAs 7 p index s e i n → {k : ℕ} → k ≤ boundU (signalAt p (n .a)) → k < 1048575
+  unfolding boundU
+  group-sum r h =
       let b = ap boundU (group-tree p i (r .ready .node) (r .kind)) in
-      pick-small (isClear st (cellsBefore p i)) _ _ (updS-within rec env (signalAt p (aAt p i)) st)
-      (updB-within rec env (branchIn st (cellsBefore p i)) (held st (cellsBefore p i)) (branchesAt p (bAt p i)) st)
-      (omega (arith, r .ready .small)) (omega (arith, r .ready .small)) m st₁ q
+      let x = ap (λ (k : ℕ). boundU (signalAt p k)) (r .fields .a-is) in
+      omega (arith, r .ready .small)
+
+  pub branch-sum : ReadyAs 7 p index s e i n → {which : ℕ} {t : Bool} {m : Node} → t ≡ hasBranch which (branchesAt p (n .b)) → t ≡ true → IsNode p which m
+      → {k : ℕ} → k ≤ boundU (signalAt p (m .a)) → k < 1048575
+  unfolding boundU
+  branch-sum r {which} h g q l =
+      let b = ap boundU (group-tree p i (r .ready .node) (r .kind)) in
+      let f = found p (n .b) which (group-list r) (sym h ∙ g) in
+      let u : boundU (signalAt p (aAt p which)) ≤ boundUB (branchesAt p (bAt p i)) = rw (r .fields .b-is) at (f .update) in
+      let x = ap (λ (k : ℕ). boundU (signalAt p k)) (q .a-is) in
+      omega (arith, r .ready .small)
+
+  -- an until by its walk alone, and by its walk and its signal
+  pub walk-sum : ReadyAs 8 p index s e i n → {u : ℕ} → u ≤ 1 + (boundSC (casesAt p (n .b)) + boundUC (casesAt p (n .b))) → u < 1048575
+  unfolding boundU
+  walk-sum r h =
+      let b = ap boundU (until-tree p i (r .ready .node) (r .kind)) in
+      let x = ap (λ (k : ℕ). boundSC (casesAt p k)) (r .fields .b-is) in
+      let y = ap (λ (k : ℕ). boundUC (casesAt p k)) (r .fields .b-is) in
+      omega (arith, r .ready .small, one-counted (signalAt p (aAt p i)))
+
+  pub until-sum : ReadyAs 8 p index s e i n → {u k : ℕ} → u ≤ boundSC (casesAt p (n .b)) + boundUC (casesAt p (n .b)) → k ≤ boundU (signalAt p (n .a)) → u + k < 1048575
+  unfolding boundU
+  until-sum r h g =
+      let b = ap boundU (until-tree p i (r .ready .node) (r .kind)) in
+      let x = ap (λ (k : ℕ). boundSC (casesAt p k)) (r .fields .b-is) in
+      let y = ap (λ (k : ℕ). boundUC (casesAt p k)) (r .fields .b-is) in
+      let z = ap (λ (k : ℕ). boundU (signalAt p k)) (r .fields .a-is) in
+      omega (arith, r .ready .small)
+
+  -- a case's event alone, and the walk from the next case on with the event's update
+  pub event-sum : CaseAs p index s e i n → {u : ℕ} → u ≤ boundS (signalAt p (n .a)) → u ≤ 1 + (boundSC (casesAt p i) + boundUC (casesAt p i))
+  unfolding boundSC
+  event-sum r h =
+      let b = ap boundSC (case-law p i (r .ready .node) refl) in
+      let x = ap (λ (k : ℕ). boundS (signalAt p k)) (r .fields .a-is) in
+      omega arith
+
+  pub rest-sum : CaseAs p index s e i n → (n .b ≡ 65535 → ⊥) → {u k : ℕ} → u ≤ boundSC (casesAt p (n .b)) + boundUC (casesAt p (n .b)) → k ≤ boundU (signalAt p (n .a))
+      → u + k < 1048576
+  unfolding boundSC boundUC
+  rest-sum r d h g =
+      let t = case-on p i (r .ready .node) (λ q. d (r .fields .b-is ∙ q)) in
+      let b = ap boundSC t in
+      let c = ap boundUC t in
+      let x = ap (λ (k : ℕ). boundSC (casesAt p k)) (r .fields .b-is) in
+      let y = ap (λ (k : ℕ). boundUC (casesAt p k)) (r .fields .b-is) in
+      let z = ap (λ (k : ℕ). boundU (signalAt p k)) (r .fields .a-is) in
+      omega (arith, r .ready .small)
 
 -- What a group does with the outcome of its part.
-module _ (k : ℕ) (body : Signal) (brs : Branches) (r : Moved) (st : Bytes) {x : Updated} where
-  pub caught-stay : {w : Tally} → r ≡ Stay w → x ≡ ruleᵘ (moved r st) → x ≡ ruleᵘ (caught k body brs (moved r st))
-  unfolding moved caught
-  caught-stay e z = z ∙ rw e
+module _ (k : ℕ) (part : Signal) (brs : Branches) (r : Moved) (st : Bytes) {x : Updated} where
+  pub leaves-stay : {w : Tally} → r ≡ Stay w → x ≡ ruleᵘ (moved r st) → x ≡ ruleᵘ (leaves k part brs (moved r st))
+  unfolding moved leaves
+  leaves-stay e z = z ∙ rw e
 
-  pub caught-stuck : r ≡ Moved.Stuck → x ≡ ruleᵘ (moved r st) → x ≡ ruleᵘ (caught k body brs (moved r st))
-  unfolding moved caught
-  caught-stuck e z = z ∙ rw e
+  pub leaves-stuck : r ≡ Moved.Stuck → x ≡ ruleᵘ (moved r st) → x ≡ ruleᵘ (leaves k part brs (moved r st))
+  unfolding moved leaves
+  leaves-stuck e z = z ∙ rw e
 
-  pub caught-other : {t : ℕ} {v : Value} {w : Tally} → r ≡ Moved.Jump t v w → hasBranch t brs ≡ false → x ≡ ruleᵘ (moved r st) → x ≡ ruleᵘ (caught k body brs (moved r st))
-  unfolding moved caught
-  caught-other e h z = z ∙ rw (e, h)
+  pub leaves-other : {t : ℕ} {v : Value} {w : Tally} → r ≡ Moved.Jump t v w → hasBranch t brs ≡ false → x ≡ ruleᵘ (moved r st) → x ≡ ruleᵘ (leaves k part brs (moved r st))
+  unfolding moved leaves
+  leaves-other e h z = z ∙ rw (e, h)
 
-  pub caught-here : {t : ℕ} {v : Value} {w : Tally} → r ≡ Moved.Jump t v w → hasBranch t brs ≡ true
-      → {st₁ : Bytes} → st₁ ≡ resetB brs (resetS body (holdBranch st k t v)) → x ≡ ruleᵘ (moved (Stay w) st₁)
-      → x ≡ ruleᵘ (caught k body brs (moved r st))
-  unfolding moved caught
-  caught-here {t} {v} {w} e h s z = z ∙ ap (λ (b : Bytes). ruleᵘ (Next b w)) s ∙ rw (e, h)
+  pub leaves-here : {t : ℕ} {v : Value} {w : Tally} → r ≡ Moved.Jump t v w → hasBranch t brs ≡ true
+      → {st₁ : Bytes} → st₁ ≡ resetS part (holdBranch st k t v) → x ≡ ruleᵘ (moved (Stay w) st₁)
+      → x ≡ ruleᵘ (leaves k part brs (moved r st))
+  unfolding moved leaves
+  leaves-here {t} {v} {w} e h s z = z ∙ ap (λ (b : Bytes). ruleᵘ (Next b w)) s ∙ rw (e, h)

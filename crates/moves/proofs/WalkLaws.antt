@@ -1,10 +1,12 @@
 -- The walk over an until's cases, from case to case, and the until itself by its walk.
 -- Assumes nothing.
 use mathlib.Core.Path.{_≡_, refl, sym, ap, _∙_}
-use Prim.Native.Nat.{ℕ, _+_, _≤_}
+use mathlib.Core.Bool.{Bool, true, false}
+use Prim.Native.Nat.{ℕ, _+_, _-_, _≤_}
+use lib.Dec.{eqb}
 use native.Mathlib.Omega.{arith}
-use Rattle.rules.specs.Bytes.{Bytes}
-use Rattle.rules.specs.Values.{unpacked}
+use Rattle.rules.specs.Bytes.{Bytes, if_then_else_}
+use Rattle.rules.specs.Values.{isPlain, isMaybe, typeIn, presentIn, wordIn, valueFrom, unpacked}
 use Rattle.rules.specs.Layout.{kindAt, aAt, bAt, cAt}
 use Rattle.rules.specs.Kinds.{isSignal, isCase}
 use Rattle.rules.specs.Node.{IsNode}
@@ -13,35 +15,58 @@ use Rattle.rules.specs.Tree.{Signal, time, until, Cases, noCase, case, signalAt
 use Rattle.rules.specs.Bound.{boundSC, boundU, boundUC}
 use Rattle.rules.specs.Work.{nothing, oneRule, _plus_, Updated, Next, Jump, Halted, moved, stays, leave, afterᵘ, ruleᵘ, _thenᵘ_}
 use Rattle.rules.specs.Evaluate.{Env, opened, evalS}
-use Rattle.rules.specs.Update.{laterᵒ, occursIf, occurs, firstPresent, onOccurrence, updS, updC}
+use Rattle.rules.specs.Update.{laterᵒ, occursIf, occurs, onOccurrence}
+use Rattle.current.specs.Current.{shortly, soonest, goS, goC}
+use Rattle.current.proofs.Bounds.{goS-within}
 use Rattle.rules.specs.declared.Node.{Node}
 use Rattle.rules.specs.declared.Tally.{Tally}
 use Rattle.rules.specs.declared.Value.{Value}
+use Rattle.rules.specs.declared.Value.the-variants.{Plain, Absent, Present}
 use Rattle.rules.specs.declared.Opened.{Opened}
 use Rattle.rules.specs.declared.Opened.the-variants.{Here, Gone, Amiss}
 use Rattle.rules.specs.declared.Moved.{Moved}
+use Rattle.rules.specs.declared.Moved.the-variants.{Stay}
 use Rattle.rules.specs.declared.Evaluated.{Evaluated}
 use Rattle.rules.specs.declared.Evaluated.the-variants.{Done, Stuck}
 use Rattle.rules.specs.declared.Occurrence.{Occurrence}
 use Rattle.rules.specs.declared.Occurrence.the-variants.{Took, Quiet}
 use Rattle.rules.proofs.Nodes.{below-lt, below-ge}
 use Rattle.rules.proofs.Signals.{until-tree, case-law, case-next}
-use Rattle.rules.proofs.Within.{Withinᵘ, updS-within}
+use Rattle.rules.proofs.Within.{Withinᵘ}
 use Rattle.outcomes.specs.Combine.{partsBy, partsOf}
 use Rattle.outcomes.specs.declared.Event.{Event}
 use Rattle.outcomes.specs.declared.Event.the-variants.{Occurs}
 use Rattle.outcomes.specs.declared.Parts.the-variants.{Maybe, Wrong}
-use Rattle.outcomes.proofs.Outcomes.{parts-here}
-use Rattle.moves.specs.Outcomes.{countOf, occurred, walked, walkedOn, nextCases}
-use Rattle.moves.proofs.KindLaws.{wrong-maybe, maybe-wrong, quiet-occurs, occurs-quiet}
+use Rattle.outcomes.specs.Outcome.{IsValue}
+use Rattle.outcomes.proofs.Outcomes.{take-value, parts-here}
+use Rattle.moves.specs.Outcomes.{workOf, calmOf, walked, walkedOn, nextCases}
+use Rattle.moves.specs.declared.Calm.the-variants.{Still, Broken}
+use Rattle.moves.proofs.OutcomeLaws.{still-broken, broken-still}
+use Rattle.moves.proofs.KindLaws.{wrong-maybe, maybe-wrong, occurs-quiet}
 
--- Two counts, one after the other.
+-- No constructor is another.
+amiss-here : {x : Value} → Amiss ≡ Here x → ⊥
+amiss-here e = let z : _≡_ {A = ℕ} 0 1 = cc in omega arith
+
+gone-here : {x : Value} → Gone ≡ Here x → ⊥
+gone-here e = let z : _≡_ {A = ℕ} 0 1 = cc in omega arith
+
+zero-one : _≡_ {A = ℕ} 0 1 → ⊥
+zero-one e = omega (arith, e)
+
+-- Two counts, one after the other, and none.
 pub after-after : (u w : Tally) (X : Updated) → afterᵘ u (afterᵘ w X) ≡ afterᵘ (u plus w) X
 unfolding afterᵘ _plus_
 after-after u w (Next st x) = ap (λ (k : ℕ). Next st (record { work = k })) (let e : u .work + (w .work + x .work) ≡ u .work + w .work + x .work = omega arith in e)
 after-after u w (Jump target v st x) =
     ap (λ (k : ℕ). Jump target v st (record { work = k })) (let e : u .work + (w .work + x .work) ≡ u .work + w .work + x .work = omega arith in e)
 after-after u w Halted = refl
+
+after-none : (X : Updated) → afterᵘ (record { work = 0 }) X ≡ X
+unfolding afterᵘ _plus_
+after-none (Next st w) = ap (λ (k : ℕ). Next st (record { work = k })) (let e : 0 + w .work ≡ w .work = omega arith in e)
+after-none (Jump target v st w) = ap (λ (k : ℕ). Jump target v st (record { work = k })) (let e : 0 + w .work ≡ w .work = omega arith in e)
+after-none Halted = refl
 
 -- No jump leaves the events.
 abbrev NoJump : Updated → Type 0
@@ -64,10 +89,10 @@ then-calm (Next st w) f = after-calm w (f st)
 then-calm (Jump target v st w) f = record { calmly = tt }
 then-calm Halted f = record { calmly = tt }
 
-events-calm : (rec : Bytes) (env : Env) (cs : Cases) (st : Bytes) → Calmly (updC rec env cs st)
-unfolding updC leave
+events-calm : (rec : Bytes) (env : Env) (cs : Cases) (st : Bytes) → Calmly (goC rec env cs st)
+unfolding goC leave
 events-calm rec env noCase st = record { calmly = tt }
-events-calm rec env (case n event target t next) st = then-calm (updC rec env next st) λ s. updS rec env event s
+events-calm rec env (case n event target t next) st = then-calm (goC rec env next st) λ s. goS rec env event s
 
 -- What goes on after the events goes on after the walk.
 on-walked : (F : Occurrence) (C : Updated) (st : Bytes) (g : Bytes → Updated) → Calmly C → onOccurrence F st (C thenᵘ g) ≡ walkedOn (onOccurrence F st C) g
@@ -119,103 +144,123 @@ workᵘ (Next st w) = w .work
 workᵘ (Jump target v st w) = w .work
 workᵘ Halted = 0
 
-occurred-work : (o : Occurrence) (st : Bytes) → countOf o ≡ workᵘ (occurred o st)
-unfolding occurred
-occurred-work (Took target v w) st = refl
-occurred-work (Quiet w) st = refl
-occurred-work Occurrence.Stuck st = refl
+moved-work : (m : Moved) (st : Bytes) → workOf m ≡ workᵘ (moved m st)
+unfolding moved
+moved-work (Stay w) st = refl
+moved-work (Moved.Jump target v w) st = refl
+moved-work Moved.Stuck st = refl
 
-after-work : (u : Tally) (X : Updated) → workᵘ X ≤ workᵘ (afterᵘ u X)
+-- What is counted before an outcome counts with it; nothing is where it is stuck.
+after-work : (u : Tally) (X : Updated) {b : ℕ} → workᵘ (afterᵘ u X) ≤ b → u .work ≤ b → u .work + workᵘ X ≤ b
 unfolding afterᵘ _plus_
-after-work u (Next st w) = omega arith
-after-work u (Jump target v st w) = omega arith
-after-work u Halted = omega arith
+after-work u (Next st w) h g = omega (arith, h)
+after-work u (Jump target v st w) h g = omega (arith, h)
+after-work u Halted h g = omega (arith, g)
+
+-- The same where it stays.
+abbrev calmWork : Updated → ℕ
+calmWork (Next st w) = w .work
+calmWork (Jump target v st w) = 0
+calmWork Halted = 0
+
+calm-work : (m : Moved) (st : Bytes) {w : Tally} → calmOf m ≡ Still w → w .work ≡ calmWork (moved m st)
+unfolding calmOf moved
+calm-work (Stay u) st {w} e = let q : w ≡ u = cc in ap (λ (x : Tally). x .work) q
+calm-work (Moved.Jump target v w) st e = absurd (broken-still e)
+calm-work Moved.Stuck st e = absurd (broken-still e)
 
 -- The count of a walk, from that of an until of a signal that counts one.
-one-more : (W : Updated) (a b : ℕ) → Withinᵘ (ruleᵘ (walkedOn W λ s. stays (ruleᵘ (leave s)))) (1 + (a + (b + 1))) → workᵘ W ≤ 1 + (a + b)
+one-more : (W : Updated) (a b : ℕ) → Withinᵘ (ruleᵘ (walkedOn W λ s. stays (ruleᵘ (leave s)))) (1 + (a + (b + 1)))
+    → (workᵘ W ≤ 1 + (a + b)) × (calmWork W ≤ a + b)
 unfolding ruleᵘ walkedOn afterᵘ oneRule _plus_ stays leave nothing
-one-more (Next st w) a b h = omega (arith, h .most)
-one-more (Jump target v st w) a b h = omega (arith, h .most)
-one-more Halted a b h = omega arith
+one-more (Next st w) a b h = (omega (arith, h .most), omega (arith, h .most))
+one-more (Jump target v st w) a b h = (omega (arith, h .most), omega arith)
+one-more Halted a b h = (omega arith, omega arith)
 
-pub walked-work : (rec : Bytes) (env : Env) (cs : Cases) (st : Bytes) → workᵘ (walked rec env cs st) ≤ 1 + (boundSC cs + boundUC cs)
-unfolding updS boundU walked
+walked-work : (rec : Bytes) (env : Env) (cs : Cases) (st : Bytes)
+    → (workᵘ (walked rec env cs st) ≤ 1 + (boundSC cs + boundUC cs)) × (calmWork (walked rec env cs st) ≤ boundSC cs + boundUC cs)
+unfolding goS boundU walked
 walked-work rec env cs st =
-    one-more (onOccurrence (firstPresent rec st env cs) st (updC rec env cs st)) (boundSC cs) (boundUC cs)
-    (rw (← on-walked (firstPresent rec st env cs) (updC rec env cs st) st (λ s. stays (ruleᵘ (leave s))) (events-calm rec env cs st))
-    (updS-within rec env (until 0 (time 0) cs) st))
+    one-more (onOccurrence (soonest rec st env cs) st (goC rec env cs st)) (boundSC cs) (boundUC cs)
+    (rw (← on-walked (soonest rec st env cs) (goC rec env cs st) st (λ s. stays (ruleᵘ (leave s))) (events-calm rec env cs st))
+    (goS-within rec env (until 0 (time 0) cs) st))
 
--- A walk that leaves its result as it is, and one that goes on.
-same-on : (o : Occurrence) (st : Bytes) (g : Bytes → Updated) {t : ℕ} {v : Value} {w : Tally} → o ≡ Took t v w → occurred o st ≡ walkedOn (occurred o st) g
-unfolding occurred walkedOn
-same-on o st g e = rw e
+-- A walk that does not stay leaves its result as it is, and one that does goes on.
+same-on : (m : Moved) (st : Bytes) (g : Bytes → Updated) → calmOf m ≡ Broken → moved m st ≡ walkedOn (moved m st) g
+unfolding calmOf moved walkedOn
+same-on (Stay w) st g e = absurd (still-broken e)
+same-on (Moved.Jump target v w) st g e = refl
+same-on Moved.Stuck st g e = refl
 
-stuck-on : (o : Occurrence) (st : Bytes) (g : Bytes → Updated) → o ≡ Occurrence.Stuck → occurred o st ≡ walkedOn (occurred o st) g
-unfolding occurred walkedOn
-stuck-on o st g e = rw e
+still-on : (m : Moved) (st : Bytes) (g : Bytes → Updated) {w : Tally} → calmOf m ≡ Still w → afterᵘ w (g st) ≡ walkedOn (moved m st) g
+unfolding calmOf moved walkedOn
+still-on (Stay u) st g {w} e = let q : w ≡ u = cc in ap (λ (x : Tally). afterᵘ x (g st)) q
+still-on (Moved.Jump target v w) st g e = absurd (broken-still e)
+still-on Moved.Stuck st g e = absurd (broken-still e)
 
-quiet-on : (o : Occurrence) (st : Bytes) (g : Bytes → Updated) {w : Tally} → o ≡ Quiet w → afterᵘ w (g st) ≡ walkedOn (occurred o st) g
-unfolding occurred walkedOn
-quiet-on o st g e = rw e
+-- What a walk has counted, and what where it stays.
+module _ (m : Moved) (st₁ : Bytes) (rec : Bytes) (env : Env) (cs : Cases) (st : Bytes) (e : moved m st₁ ≡ walked rec env cs st) where
+  pub walk-count : workOf m ≤ 1 + (boundSC cs + boundUC cs)
+  walk-count = omega (arith, moved-work m st₁, ap workᵘ e, walked-work rec env cs st .0)
+
+  pub walk-still : {w : Tally} → calmOf m ≡ Still w → w .work ≤ boundSC cs + boundUC cs
+  walk-still {w} c = omega (arith, calm-work m st₁ c, ap calmWork e, walked-work rec env cs st .1)
 
 module _ (p : Bytes) (j : ℕ) (k : NodeOf isCase p j) {n : Node} (f : IsNode p j n) (rec : Bytes) (env : Env) (st : Bytes) where
   walk-law : walked rec env (casesAt p j) st
-      ≡ onOccurrence (occurs (evalS rec st env (signalAt p (n .a))) (cAt p j) (firstPresent rec st env (nextCases p j))) st
-      (updC rec env (nextCases p j) st thenᵘ λ s. stays (updS rec env (signalAt p (aAt p j)) s))
-  unfolding walked firstPresent updC nextCases
-  walk-law = rw (f .a-is) (ap (λ (cs : Cases). onOccurrence (firstPresent rec st env cs) st (updC rec env cs st)) (case-law p j k refl))
+      ≡ onOccurrence (occurs (evalS rec st env (signalAt p (n .a))) (shortly (cAt p j)) (soonest rec st env (nextCases p j))) st
+      (goC rec env (nextCases p j) st thenᵘ λ s. stays (goS rec env (signalAt p (aAt p j)) s))
+  unfolding walked soonest goC nextCases
+  walk-law = rw (f .a-is) (ap (λ (cs : Cases). onOccurrence (soonest rec st env cs) st (goC rec env cs st)) (case-law p j k refl))
 
   -- The walk from case j on, by its event.
   module _ {r : Evaluated} (q : r ≡ evalS rec st env (signalAt p (n .a))) where
     F : Occurrence
-    F = firstPresent rec st env (nextCases p j)
+    F = soonest rec st env (nextCases p j)
 
     X : Updated
-    X = updC rec env (nextCases p j) st thenᵘ λ s. stays (updS rec env (signalAt p (aAt p j)) s)
+    X = goC rec env (nextCases p j) st thenᵘ λ s. stays (goS rec env (signalAt p (aAt p j)) s)
 
-    by-event : walked rec env (casesAt p j) st ≡ onOccurrence (occurs r (cAt p j) F) st X
+    by-event : walked rec env (casesAt p j) st ≡ onOccurrence (occurs r (shortly (cAt p j)) F) st X
     unfolding F X
-    by-event = walk-law ∙ ap (λ (e : Evaluated). onOccurrence (occurs e (cAt p j) F) st X) (sym q)
+    by-event = walk-law ∙ ap (λ (e : Evaluated). onOccurrence (occurs e (shortly (cAt p j)) F) st X) (sym q)
 
     pub walk-wrong : partsOf r ≡ Wrong → Halted ≡ walked rec env (casesAt p j) st
-    walk-wrong d = sym (by-event ∙ case-wrong (cAt p j) F st X r d)
+    walk-wrong d = sym (by-event ∙ case-wrong (shortly (cAt p j)) F st X r d)
 
-    pub walk-took : {v : ℕ} {a : Value} {u : Tally} → partsOf r ≡ Maybe (Occurs v) u → a ≡ unpacked v → {t : ℕ} → t ≡ cAt p j
-        → occurred (Took t a u) st ≡ walked rec env (casesAt p j) st
-    unfolding occurred
-    walk-took {v} {a} {u} d q e = (λ i. Jump (e i) (q i) st u) ∙ sym (by-event ∙ case-here (cAt p j) F st X r d)
+    pub walk-took : {v : ℕ} {u : Tally} → partsOf r ≡ Maybe (Occurs v) u → {y : Updated} → y ≡ Jump (shortly (n .c)) (unpacked v) st u
+        → y ≡ walked rec env (casesAt p j) st
+    walk-took {v} {u} d e =
+        e ∙ ap (λ (t : ℕ). Jump (shortly t) (unpacked v) st u) (f .c-is) ∙ sym (by-event ∙ case-here (shortly (cAt p j)) F st X r d)
 
     walk-gone : {u : Tally} → partsOf r ≡ Maybe Event.Quiet u
         → walked rec env (casesAt p j) st
-        ≡ afterᵘ u (walkedOn (walked rec env (nextCases p j) st) (λ s. stays (updS rec env (signalAt p (aAt p j)) s)))
+        ≡ afterᵘ u (walkedOn (walked rec env (nextCases p j) st) (λ s. stays (goS rec env (signalAt p (aAt p j)) s)))
     unfolding F X walked
     walk-gone {u} d =
-        by-event ∙ case-gone (cAt p j) F st X r d
-        ∙ ap (afterᵘ u) (on-walked F (updC rec env (nextCases p j) st) st (λ s. stays (updS rec env (signalAt p (aAt p j)) s)) (events-calm rec env (nextCases p j) st))
+        by-event ∙ case-gone (shortly (cAt p j)) F st X r d
+        ∙ ap (afterᵘ u) (on-walked F (goC rec env (nextCases p j) st) st (λ s. stays (goS rec env (signalAt p (aAt p j)) s)) (events-calm rec env (nextCases p j) st))
 
-    module _ {u : Tally} (d : partsOf r ≡ Maybe Event.Quiet u) {env₁ : Env} (h : env₁ ≡ env) (o : Occurrence) (st₁ : Bytes)
-        (x : occurred o st₁ ≡ walkedOn (walked rec env₁ (nextCases p j) st) (λ s. stays (updS rec env₁ (signalAt p (aAt p j)) s))) where
-      all-after : walked rec env (casesAt p j) st ≡ afterᵘ u (occurred o st₁)
+    module _ {u : Tally} (d : partsOf r ≡ Maybe Event.Quiet u) {env₁ : Env} (h : env₁ ≡ env) (m : Moved) (st₁ : Bytes)
+        (x : moved m st₁ ≡ walkedOn (walked rec env₁ (nextCases p j) st) (λ s. stays (goS rec env₁ (signalAt p (aAt p j)) s))) where
+      all-after : walked rec env (casesAt p j) st ≡ afterᵘ u (moved m st₁)
       all-after =
-          walk-gone d ∙ ap (afterᵘ u) (sym (x ∙ ap (λ (e : Env). walkedOn (walked rec e (nextCases p j) st) (λ s. stays (updS rec e (signalAt p (aAt p j)) s))) h))
+          walk-gone d ∙ ap (afterᵘ u) (sym (x ∙ ap (λ (e : Env). walkedOn (walked rec e (nextCases p j) st) (λ s. stays (goS rec e (signalAt p (aAt p j)) s))) h))
 
-      pub walk-quiet : {y : Updated} → y ≡ afterᵘ u (occurred o st₁) → y ≡ walked rec env (casesAt p j) st
+      pub walk-quiet : {y : Updated} → y ≡ afterᵘ u (moved m st₁) → y ≡ walked rec env (casesAt p j) st
       walk-quiet e = e ∙ sym all-after
 
-      pub rest-work : countOf o ≤ 1 + (boundSC (casesAt p j) + boundUC (casesAt p j))
-      rest-work =
-          omega (arith, occurred-work o st₁, after-work u (occurred o st₁), ap workᵘ all-after, walked-work rec env (casesAt p j) st)
+      pub rest-work : u .work ≤ 1 + (boundSC (casesAt p j) + boundUC (casesAt p j)) → u .work + workOf m ≤ 1 + (boundSC (casesAt p j) + boundUC (casesAt p j))
+      rest-work l =
+          rw (moved-work m st₁) (after-work u (moved m st₁) (rw (← all-after) (walked-work rec env (casesAt p j) st .0)) l)
 
   -- The cases after case j.
-  on-next : Bytes → Updated
-  on-next s = stays (updS rec env (signalAt p (aAt p j)) s)
-
-  pub last-on : n .b ≡ 65535 → (m : Moved) (st₁ : Bytes) → moved m st₁ ≡ updS rec env (signalAt p (n .a)) st
-      → {y : Updated} → y ≡ afterᵘ (record { work = 0 }) (stays (moved m st₁))
-      → y ≡ walkedOn (walked rec env (nextCases p j) st) (λ s. stays (updS rec env (signalAt p (aAt p j)) s))
-  unfolding nextCases walked firstPresent updC onOccurrence afterᵘ leave nothing _plus_ walkedOn
+  pub last-on : n .b ≡ 65535 → (m : Moved) (st₁ : Bytes) → moved m st₁ ≡ goS rec env (signalAt p (n .a)) st
+      → {y : Updated} → y ≡ stays (moved m st₁)
+      → y ≡ walkedOn (walked rec env (nextCases p j) st) (λ s. stays (goS rec env (signalAt p (aAt p j)) s))
+  unfolding nextCases walked soonest goC onOccurrence afterᵘ leave nothing _plus_ walkedOn
   last-on e m st₁ x y =
-      y ∙ ap (λ (o : Updated). afterᵘ (record { work = 0 }) (stays o)) (rw (f .a-is) at x)
+      y ∙ ap stays (rw (f .a-is) at x) ∙ sym (after-none (stays (goS rec env (signalAt p (aAt p j)) st)))
       ∙ rw (below-ge j noCase (casesAt p) (bAt p j) (omega (arith, f .b-is, k .inside, k .shaped .small)))
 
   next-is : (n .b ≡ 65535 → ⊥) → casesAt p (n .b) ≡ nextCases p j
@@ -223,53 +268,71 @@ module _ (p : Bytes) (j : ℕ) (k : NodeOf isCase p j) {n : Node} (f : IsNode p 
   next-is d =
       ap (casesAt p) (f .b-is) ∙ sym (below-lt j noCase (casesAt p) (bAt p j) (case-next p j k (λ q. d (f .b-is ∙ q)) .less))
 
-  module _ (d : n .b ≡ 65535 → ⊥) (o : Occurrence) (st₁ : Bytes) (x : occurred o st₁ ≡ walked rec env (casesAt p (n .b)) st) where
-    rest-is : (g : Bytes → Updated) → walkedOn (occurred o st₁) g ≡ walkedOn (walked rec env (nextCases p j) st) g
+  module _ (d : n .b ≡ 65535 → ⊥) (o : Moved) (st₁ : Bytes) (x : moved o st₁ ≡ walked rec env (casesAt p (n .b)) st) where
+    rest-is : (g : Bytes → Updated) → walkedOn (moved o st₁) g ≡ walkedOn (walked rec env (nextCases p j) st) g
     rest-is g = ap (λ (y : Updated). walkedOn y g) (x ∙ ap (λ (cs : Cases). walked rec env cs st) (next-is d))
 
-    pub took-on : {t : ℕ} {v : Value} {w : Tally} → o ≡ Took t v w
-        → occurred o st₁ ≡ walkedOn (walked rec env (nextCases p j) st) (λ s. stays (updS rec env (signalAt p (aAt p j)) s))
-    took-on e = same-on o st₁ (λ s. stays (updS rec env (signalAt p (aAt p j)) s)) e ∙ rest-is _
+    pub broken-on : calmOf o ≡ Broken → moved o st₁ ≡ walkedOn (walked rec env (nextCases p j) st) (λ s. stays (goS rec env (signalAt p (aAt p j)) s))
+    broken-on e = same-on o st₁ (λ s. stays (goS rec env (signalAt p (aAt p j)) s)) e ∙ rest-is _
 
-    pub lost-on : o ≡ Occurrence.Stuck → occurred o st₁ ≡ walkedOn (walked rec env (nextCases p j) st) (λ s. stays (updS rec env (signalAt p (aAt p j)) s))
-    lost-on e = stuck-on o st₁ (λ s. stays (updS rec env (signalAt p (aAt p j)) s)) e ∙ rest-is _
-
-    pub goes-on : {w : Tally} → o ≡ Quiet w → {env₁ : Env} → env₁ ≡ env → (m : Moved) (st₂ : Bytes) → moved m st₂ ≡ updS rec env₁ (signalAt p (n .a)) st₁
-        → {y : Updated} → y ≡ afterᵘ w (stays (moved m st₂))
-        → y ≡ walkedOn (walked rec env (nextCases p j) st) (λ s. stays (updS rec env (signalAt p (aAt p j)) s))
-    goes-on {w} e h m st₂ z y =
-        y ∙ ap (λ (a : Updated). afterᵘ w (stays a)) (z ∙ λ i. updS rec (h i) (signalAt p (f .a-is i)) st₁)
-        ∙ quiet-on o st₁ (λ s. stays (updS rec env (signalAt p (aAt p j)) s)) e ∙ rest-is _
+    pub goes-on : {w : Tally} → calmOf o ≡ Still w → {env₁ : Env} → env₁ ≡ env → (m : Moved) (st₂ : Bytes) → moved m st₂ ≡ goS rec env₁ (signalAt p (n .a)) st₁
+        → {y : Updated} → y ≡ stays (moved m st₂) → {z : Updated} → z ≡ afterᵘ w y
+        → z ≡ walkedOn (walked rec env (nextCases p j) st) (λ s. stays (goS rec env (signalAt p (aAt p j)) s))
+    goes-on {w} e h m st₂ q y z =
+        z ∙ ap (afterᵘ w) (y ∙ ap stays (q ∙ λ i. goS rec (h i) (signalAt p (f .a-is i)) st₁))
+        ∙ still-on o st₁ (λ s. stays (goS rec env (signalAt p (aAt p j)) s)) e ∙ rest-is _
 
 module _ (p : Bytes) (i : ℕ) (k : NodeOf isSignal p i) {n : Node} (f : IsNode p i n) (e : kindAt p i ≡ 8) (rec : Bytes) (env : Env) (st : Bytes) where
-  until-law : updS rec env (signalAt p i) st
-      ≡ ruleᵘ (walkedOn (walked rec env (casesAt p (n .b)) st) (λ s. stays (updS rec env (signalAt p (n .a)) s)))
-  unfolding updS walked
+  until-law : goS rec env (signalAt p i) st
+      ≡ ruleᵘ (walkedOn (walked rec env (casesAt p (n .b)) st) (λ s. stays (goS rec env (signalAt p (n .a)) s)))
+  unfolding goS walked
   until-law =
       rw (f .a-is, f .b-is)
-      (ap (λ (s : Signal). updS rec env s st) (until-tree p i k e)
-      ∙ ap ruleᵘ (on-walked (firstPresent rec st env (casesAt p (bAt p i))) (updC rec env (casesAt p (bAt p i)) st) st
-      (λ s. stays (updS rec env (signalAt p (aAt p i)) s)) (events-calm rec env (casesAt p (bAt p i)) st)))
+      (ap (λ (s : Signal). goS rec env s st) (until-tree p i k e)
+      ∙ ap ruleᵘ (on-walked (soonest rec st env (casesAt p (bAt p i))) (goC rec env (casesAt p (bAt p i)) st) st
+      (λ s. stays (goS rec env (signalAt p (aAt p i)) s)) (events-calm rec env (casesAt p (bAt p i)) st)))
 
-  module _ (o : Occurrence) (st₁ : Bytes) (x : occurred o st₁ ≡ walked rec env (casesAt p (n .b)) st) where
-    by-walk : ruleᵘ (walkedOn (occurred o st₁) (λ s. stays (updS rec env (signalAt p (n .a)) s))) ≡ updS rec env (signalAt p i) st
-    by-walk = ap (λ (y : Updated). ruleᵘ (walkedOn y (λ s. stays (updS rec env (signalAt p (n .a)) s)))) x ∙ sym until-law
+  module _ (o : Moved) (st₁ : Bytes) (x : moved o st₁ ≡ walked rec env (casesAt p (n .b)) st) where
+    by-walk : ruleᵘ (walkedOn (moved o st₁) (λ s. stays (goS rec env (signalAt p (n .a)) s))) ≡ goS rec env (signalAt p i) st
+    by-walk = ap (λ (y : Updated). ruleᵘ (walkedOn y (λ s. stays (goS rec env (signalAt p (n .a)) s)))) x ∙ sym until-law
 
-    pub until-took : {t : ℕ} {v : Value} {u : Tally} → o ≡ Took t v u → {y : Updated} → y ≡ ruleᵘ (moved (Moved.Jump t v u) st₁) → y ≡ updS rec env (signalAt p i) st
-    unfolding moved occurred walkedOn
-    until-took d y = y ∙ (rw d at by-walk)
+    pub until-broken : calmOf o ≡ Broken → {y : Updated} → y ≡ ruleᵘ (moved o st₁) → y ≡ goS rec env (signalAt p i) st
+    until-broken d y = y ∙ ap ruleᵘ (same-on o st₁ (λ s. stays (goS rec env (signalAt p (n .a)) s)) d) ∙ by-walk
 
-    pub until-stuck : o ≡ Occurrence.Stuck → Halted ≡ updS rec env (signalAt p i) st
-    unfolding ruleᵘ afterᵘ occurred walkedOn
-    until-stuck d = rw d at by-walk
-
-    pub until-quiet : {u : Tally} → o ≡ Quiet u → {env₁ : Env} → env₁ ≡ env → (m : Moved) (st₂ : Bytes) → moved m st₂ ≡ updS rec env₁ (signalAt p (n .a)) st₁
-        → {y : Updated} → y ≡ stays (moved m st₂) → {z : Updated} → z ≡ afterᵘ u y → {a : Updated} → a ≡ ruleᵘ z → a ≡ updS rec env (signalAt p i) st
-    until-quiet {u} d h m st₂ q y z a =
-        a ∙ ap ruleᵘ (z ∙ ap (afterᵘ u) (y ∙ ap stays (q ∙ ap (λ (b : Env). updS rec b (signalAt p (n .a)) st₁) h))
-        ∙ quiet-on o st₁ (λ s. stays (updS rec env (signalAt p (n .a)) s)) d)
+    pub until-still : {u : Tally} → calmOf o ≡ Still u → {env₁ : Env} → env₁ ≡ env → (m : Moved) (st₂ : Bytes) → moved m st₂ ≡ goS rec env₁ (signalAt p (n .a)) st₁
+        → {y : Updated} → y ≡ stays (moved m st₂) → {z : Updated} → z ≡ afterᵘ u y → {a : Updated} → a ≡ ruleᵘ z → a ≡ goS rec env (signalAt p i) st
+    until-still {u} d h m st₂ q y z a =
+        a ∙ ap ruleᵘ (z ∙ ap (afterᵘ u) (y ∙ ap stays (q ∙ ap (λ (b : Env). goS rec b (signalAt p (n .a)) st₁) h))
+        ∙ still-on o st₁ (λ s. stays (goS rec env (signalAt p (n .a)) s)) d)
         ∙ by-walk
 
--- What a walk has counted.
-pub walk-count : (o : Occurrence) (st₁ : Bytes) (rec : Bytes) (env : Env) (cs : Cases) (st : Bytes) → occurred o st₁ ≡ walked rec env cs st → countOf o ≤ 1 + (boundSC cs + boundUC cs)
-walk-count o st₁ rec env cs st e = omega (arith, occurred-work o st₁, ap workᵘ e, walked-work rec env cs st)
+-- An event that occurs is a plain value of 8 bytes.
+plainly : Value → ℕ
+plainly (Plain t w) = 1
+plainly (Absent t) = 0
+plainly (Present t w) = 0
+
+open-plain : (a x : Value) → opened a ≡ Here x → plainly x ≡ 1
+unfolding opened plainly
+open-plain (Plain t w) x e = absurd (amiss-here e)
+open-plain (Absent t) x e = absurd (gone-here e)
+open-plain (Present t w) x e = go (isMaybe t) e
+  where
+    go : (b : Bool) → (if b then Here (Plain (t - 4) w) else Amiss) ≡ Here x → plainly x ≡ 1
+    go true g = let q : Plain (t - 4) w ≡ x = cc in ap plainly (sym q)
+    go false g = absurd (amiss-here g)
+
+plain-type : (t present word : ℕ) → plainly (valueFrom t present word) ≡ 1 → isPlain t ≡ true
+unfolding valueFrom plainly
+plain-type t present word e = go (isPlain t) (eqb present 0) e
+  where
+    go : (b c : Bool) → plainly (if b then Plain t word else if c then Absent t else Present t word) ≡ 1 → b ≡ true
+    go true c e = refl
+    go false true e = absurd (zero-one e)
+    go false false e = absurd (zero-one e)
+
+pub occurs-plain : (r : Evaluated) {v : ℕ} {u : Tally} → partsOf r ≡ Maybe (Occurs v) u → IsValue v × (isPlain (typeIn v) ≡ true)
+unfolding partsOf unpacked
+occurs-plain (Done a w) {v} e =
+    (take-value (Done a w) e refl, plain-type (typeIn v) (presentIn v) (wordIn v) (open-plain a (unpacked v) (parts-here a w e .0)))
+occurs-plain Stuck e = absurd (wrong-maybe e)

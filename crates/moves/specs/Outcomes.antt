@@ -1,16 +1,17 @@
 -- Outcomes of updates in place: what they have counted, whether they stay, and what a walk over cases leaves.
 -- Assumes nothing: these are definitions.
-use Prim.Native.Nat.{ℕ}
-use Rattle.rules.specs.Bytes.{Bytes}
+use Prim.Native.Nat.{ℕ, _+_, _*_, _/_, _%_}
+use lib.Dec.{eqb, ltb}
+use Rattle.rules.specs.Bytes.{Bytes, if_then_else_}
+use Rattle.rules.specs.Values.{unpacked}
 use Rattle.rules.specs.Work.{Updated, Next, Jump, Halted, afterᵘ}
 use Rattle.rules.specs.Layout.{bAt}
 use Rattle.rules.specs.Tree.{Cases, noCase, below, casesAt}
 use Rattle.rules.specs.Evaluate.{Env}
-use Rattle.rules.specs.Update.{firstPresent, onOccurrence, updC}
+use Rattle.rules.specs.Update.{onOccurrence}
+use Rattle.current.specs.Current.{soonest, goC}
 use Rattle.rules.specs.declared.Moved.{Moved}
 use Rattle.rules.specs.declared.Moved.the-variants.{Stay}
-use Rattle.rules.specs.declared.Occurrence.{Occurrence}
-use Rattle.rules.specs.declared.Occurrence.the-variants.{Took, Quiet}
 use Rattle.moves.specs.declared.Calm.{Calm}
 use Rattle.moves.specs.declared.Calm.the-variants.{Still, Broken}
 
@@ -26,21 +27,27 @@ calmOf (Stay w) = Still w
 calmOf (Moved.Jump target v w) = Broken
 calmOf Moved.Stuck = Broken
 
--- What a walk over an until's cases has counted.
-abbrev pub countOf : Occurrence → ℕ
-countOf (Took target v w) = w .work
-countOf (Quiet w) = w .work
-countOf Occurrence.Stuck = 0
+-- An outcome as one number: 0 is stuck; below 1,048,576 it stays, and the number is what was counted; else it jumps, with what was counted in
+-- bits 0-19, the value's type in bits 20-21, the target in bits 22-31 and the value's word above.
+unfoldable pub countIn : ℕ → ℕ
+countIn m = m % 1048576
 
--- A walk that leaves a state: it took a branch from there, or the events were updated to it.
-unfoldable pub occurred : Occurrence → Bytes → Updated
-occurred (Took target v w) st = Jump target v st w
-occurred (Quiet w) st = Next st w
-occurred Occurrence.Stuck st = Halted
+unfoldable pub targetIn : ℕ → ℕ
+targetIn m = m / 4194304 % 1024
+
+-- The 8 bytes of a jump's value.
+unfoldable pub jumpValue : ℕ → ℕ
+jumpValue m = m / 1048576 % 4 + 256 + 4294967296 * (m / 4294967296)
+
+unfoldable pub movedIn : ℕ → Moved
+movedIn m =
+    if eqb m 0 then Moved.Stuck
+    else if ltb m 1048576 then Stay (record { work = m })
+    else Moved.Jump (targetIn m) (unpacked (jumpValue m)) (record { work = countIn m })
 
 -- The walk over the cases: the first present event, from the state as it was; where none is present, the events are updated.
 unfoldable pub walked : Bytes → Env → Cases → Bytes → Updated
-walked rec env cs st = onOccurrence (firstPresent rec st env cs) st (updC rec env cs st)
+walked rec env cs st = onOccurrence (soonest rec st env cs) st (goC rec env cs st)
 
 -- The walk from a case whose event is absent: on to the next case, and where none was present the event is updated on the way back.
 unfoldable pub walkedOn : Updated → (Bytes → Updated) → Updated

@@ -1,32 +1,31 @@
--- The current part of a switch and of a group, and what each does with its cells when it is entered anew.
+-- The current part of a switch, and what a switch and a group do with their cells when they are entered anew.
 -- Assumes nothing: these are definitions.
 use Prim.Native.Nat.{ℕ}
 use Rattle.rules.specs.Bytes.{Bytes, if_then_else_}
-use Rattle.rules.specs.Layout.{aAt, bAt, cAt, cellsBefore, held, hold, isClear, branchIn, holdBranch}
+use Rattle.rules.specs.Layout.{aAt, bAt, cAt, cellsBefore, held, isClear, branchIn, holdBranch}
 use Rattle.rules.specs.Tree.{signalAt, branchesAt}
 use Rattle.rules.specs.Work.{Updated}
 use Rattle.rules.specs.Evaluate.{Env, bind}
-use Rattle.rules.specs.Reset.{resetS, resetB}
-use Rattle.rules.specs.Update.{updS, updB}
+use Rattle.rules.specs.Reset.{resetS}
 use Rattle.rules.specs.declared.Value.{Value}
+use Rattle.current.specs.Current.{leaves, swapped, goS, goB}
 
 -- Switch i updates first until it has switched, then second, its variable bound.
 abbrev pub inSwitch : Bytes → ℕ → Bytes → Env → Bytes → Updated
 inSwitch p i rec env st =
-    if isClear st (cellsBefore p i) then updS rec env (signalAt p (aAt p i)) st
-    else updS rec (bind env i (held st (cellsBefore p i))) (signalAt p (cAt p i)) st
+    if isClear st (cellsBefore p i) then goS rec env (signalAt p (aAt p i)) st
+    else goS rec (bind env i (held st (cellsBefore p i))) (signalAt p (cAt p i)) st
 
--- Switch i catches a value: all cells of first and second go to start.
+-- Switch i catches a value: the part that is left goes to start.
 abbrev pub switched : Bytes → ℕ → Bytes → Value → Bytes
-switched p i st v = resetS (signalAt p (cAt p i)) (resetS (signalAt p (aAt p i)) (hold st (cellsBefore p i) v))
+switched p i st v = swapped (cellsBefore p i) (signalAt p (aAt p i)) (signalAt p (cAt p i)) st v
 
--- Group i updates its body, or the branch that its cell names, the argument bound.
+-- Group i updates its body, or the branch that its cell names, the argument bound; a jump out of it to one of its branches is caught.
 abbrev pub inGroup : Bytes → ℕ → Bytes → Env → Bytes → Updated
 inGroup p i rec env st =
-    if isClear st (cellsBefore p i) then updS rec env (signalAt p (aAt p i)) st
-    else updB rec env (branchIn st (cellsBefore p i)) (held st (cellsBefore p i)) (branchesAt p (bAt p i)) st
+    if isClear st (cellsBefore p i) then leaves (cellsBefore p i) (signalAt p (aAt p i)) (branchesAt p (bAt p i)) (goS rec env (signalAt p (aAt p i)) st)
+    else goB rec env (cellsBefore p i) (branchIn st (cellsBefore p i)) (held st (cellsBefore p i)) (branchesAt p (bAt p i)) (branchesAt p (bAt p i)) st
 
--- Group i takes a branch and a value: all cells below it go to start.
-abbrev pub entered : Bytes → ℕ → Bytes → ℕ → Value → Bytes
-entered p i st which v =
-    resetB (branchesAt p (bAt p i)) (resetS (signalAt p (aAt p i)) (holdBranch st (cellsBefore p i) which v))
+-- Group i takes a branch and a value: the part that is left goes to start.
+abbrev pub entered : Bytes → ℕ → ℕ → Bytes → ℕ → Value → Bytes
+entered p i part st which v = resetS (signalAt p part) (holdBranch st (cellsBefore p i) which v)

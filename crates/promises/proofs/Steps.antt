@@ -55,11 +55,11 @@ unfolding isMarked unmarked byteAt
 none-marked count b = ap (λ (m : ℕ). eqb m 1) (none-there count b)
 
 -- So whatever is in scope there is bound.
-nothing-known : (count : ℕ) (τ : ℕ → ℕ) (env : Env) (needs : ℕ → Bool) → Known (unmarked count) τ env needs
+pub nothing-known : (count : ℕ) (τ : ℕ → ℕ) (env : Env) (needs : ℕ → Bool) → Known (unmarked count) τ env needs
 nothing-known count τ env needs = record { known = λ b m s. absurd (not-both (sym (none-marked count b) ∙ m)) }
 
 -- The environment has a place for each node.
-unbound-length : (count : ℕ) → length (unbound count) ≡ count
+pub unbound-length : (count : ℕ) → length (unbound count) ≡ count
 unfolding unbound
 unbound-length count = length-replicate count 0
 

@@ -45,7 +45,7 @@ needed : {Γ : Marks} {τ : ℕ → ℕ} {env : Env} (some : ℕ → Bool) → A
 needed some k = known-part some k λ b p. refl
 
 -- One variable more is in scope, and bound.
-bound-more : (Γ : Marks) {τ : ℕ → ℕ} (env : Env) (n : ℕ) (v : Value) → n < length env → Valid v → typeOf v ≡ τ n → AllKnown Γ τ env
+pub bound-more : (Γ : Marks) {τ : ℕ → ℕ} (env : Env) (n : ℕ) (v : Value) → n < length env → Valid v → typeOf v ≡ τ n → AllKnown Γ τ env
     → AllKnown (mark Γ n) τ (bind env n v)
 bound-more Γ env n v l f e k = known-bind Γ env n v _ l f e λ b m p ne. k .known b m refl
 
@@ -61,7 +61,7 @@ unfolding isClear
 clear-same st st₁ k b e h = ap (λ (c : ℕ). eqb c 0) e ∙ h
 
 -- A switch's parts, where its cell and theirs stayed.
-switch-stays : (k t : ℕ) (x y : Signal) (st st₁ : Bytes) (own : ℕ → ℕ) → Kept own st st₁ → ((j : ℕ) → own j + (isCell j k + timesS j x + timesS j y) ≤ 1)
+pub switch-stays : (k t : ℕ) (x y : Signal) (st st₁ : Bytes) (own : ℕ → ℕ) → Kept own st st₁ → ((j : ℕ) → own j + (isCell j k + timesS j x + timesS j y) ≤ 1)
     → (if isClear st k then wellS st x and restsS st y else contentFits t 0 (cell st k) and restsS st x and wellS st y) ≡ true
     → (if isClear st₁ k then wellS st₁ x and restsS st₁ y else contentFits t 0 (cell st₁ k) and restsS st₁ x and wellS st₁ y) ≡ true
 unfolding isClear
@@ -232,7 +232,7 @@ module _ (count cells : ℕ) (τ : ℕ → ℕ) (rec : Bytes) (hr : Small rec) w
         (updateB-goes more (sits .3) (λ j. omega (arith, once j)) Γ Δ env l (s .1) (q .1) (r .1) kn st hs ls k (p₁ .1)))
 
     -- The events of an until: no jump leaves them.
-    updateC-goes : (cs : Cases) → SitsC count cells τ cs → ((k : ℕ) → timesC k cs ≤ 1) → (Γ : Marks) (Δ : Offers) (env : Env) → length env ≡ count
+    pub updateC-goes : (cs : Cases) → SitsC count cells τ cs → ((k : ℕ) → timesC k cs ≤ 1) → (Γ : Marks) (Δ : Offers) (env : Env) → length env ≡ count
         → scopeC Γ Δ cs ≡ Nowhere → typesC cs ≡ Nowhere → readyC cs ≡ Nowhere → AllKnown Γ τ env
         → (st : Bytes) → Small st → length st ≡ cellAt cells → wellC st cs ≡ true
         → Goes [] τ (λ j. timesC j cs) (λ q. wellC q cs) st (updC rec env cs st)

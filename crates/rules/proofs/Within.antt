@@ -179,13 +179,13 @@ mutual
       either (eqb n which) _ _ (evalS-within rec st (bind env n v) body) (evalB-within rec st env which v next)
 
 -- the events of an until
-abbrev AtMostᵒ : Occurrence → ℕ → Type 0
+abbrev pub AtMostᵒ : Occurrence → ℕ → Type 0
 AtMostᵒ (Took target v w) b = w .work ≤ b
 AtMostᵒ (Quiet w) b = w .work ≤ b
 AtMostᵒ Occurrence.Stuck b = Unit {0}
 
-record Withinᵒ (o : Occurrence) (b : ℕ) : Type 0 where
-  most : AtMostᵒ o b
+pub record Withinᵒ (o : Occurrence) (b : ℕ) : Type 0 where
+  pub most : AtMostᵒ o b
 
 later-within : (u : Tally) (o : Occurrence) {b c : ℕ} → u .work ≤ b → Withinᵒ o c → Withinᵒ (laterᵒ u o) (b + c)
 unfolding laterᵒ _plus_
@@ -200,7 +200,7 @@ occursIf-within (Here v) u target rest h g = record { most = omega arith }
 occursIf-within Gone u target rest h g = later-within u rest h g
 occursIf-within Amiss u target rest h g = record { most = tt }
 
-occurs-within : (r : Evaluated) (target : ℕ) (rest : Occurrence) {b c : ℕ} → Within r b → Withinᵒ rest c
+pub occurs-within : (r : Evaluated) (target : ℕ) (rest : Occurrence) {b c : ℕ} → Within r b → Withinᵒ rest c
     → Withinᵒ (occurs r target rest) (b + c)
 unfolding occurs
 occurs-within (Done v u) target rest h g = occursIf-within _ u target rest (h .most) g
@@ -221,10 +221,10 @@ AtMostᵘ Halted b = Unit {0}
 pub record Withinᵘ (r : Updated) (b : ℕ) : Type 0 where
   pub most : AtMostᵘ r b
 
-freeᵘ : {b : ℕ} → Withinᵘ Halted b
+pub freeᵘ : {b : ℕ} → Withinᵘ Halted b
 freeᵘ = record { most = tt }
 
-widerᵘ : (r : Updated) {b c : ℕ} → Withinᵘ r b → b ≤ c → Withinᵘ r c
+pub widerᵘ : (r : Updated) {b c : ℕ} → Withinᵘ r b → b ≤ c → Withinᵘ r c
 widerᵘ (Next st w) h g = record { most = omega (arith, h .most) }
 widerᵘ (Jump target v st w) h g = record { most = omega (arith, h .most) }
 widerᵘ Halted h g = freeᵘ
@@ -235,36 +235,36 @@ after-withinᵘ u (Next st w) h g = record { most = omega (arith, g .most) }
 after-withinᵘ u (Jump target v st w) h g = record { most = omega (arith, g .most) }
 after-withinᵘ u Halted h g = freeᵘ
 
-rule-withinᵘ : (r : Updated) {b : ℕ} → Withinᵘ r b → Withinᵘ (ruleᵘ r) (1 + b)
+pub rule-withinᵘ : (r : Updated) {b : ℕ} → Withinᵘ r b → Withinᵘ (ruleᵘ r) (1 + b)
 unfolding ruleᵘ oneRule
 rule-withinᵘ r h = after-withinᵘ oneRule r (le-refl 1) h
 
-leave-within : (st : Bytes) {b : ℕ} → Withinᵘ (leave st) b
+pub leave-within : (st : Bytes) {b : ℕ} → Withinᵘ (leave st) b
 unfolding leave nothing
 leave-within st = record { most = omega arith }
 
-with-within : (r : Evaluated) (f : Value → Updated) {b c : ℕ} → Within r b → ((v : Value) → Withinᵘ (f v) c) → Withinᵘ (r with f) (b + c)
+pub with-within : (r : Evaluated) (f : Value → Updated) {b c : ℕ} → Within r b → ((v : Value) → Withinᵘ (f v) c) → Withinᵘ (r with f) (b + c)
 unfolding _with_
 with-within (Done v u) f h g = after-withinᵘ u (f v) (h .most) (g v)
 with-within Stuck f h g = freeᵘ
 
-then-withinᵘ : (r : Updated) (f : Bytes → Updated) {b c : ℕ} → Withinᵘ r b → ((st : Bytes) → Withinᵘ (f st) c) → Withinᵘ (r thenᵘ f) (b + c)
+pub then-withinᵘ : (r : Updated) (f : Bytes → Updated) {b c : ℕ} → Withinᵘ r b → ((st : Bytes) → Withinᵘ (f st) c) → Withinᵘ (r thenᵘ f) (b + c)
 unfolding _thenᵘ_
 then-withinᵘ (Next st u) f h g = after-withinᵘ u (f st) (h .most) (g st)
 then-withinᵘ (Jump target v st u) f h g = freeᵘ
 then-withinᵘ Halted f h g = freeᵘ
 
-stays-within : (r : Updated) {b : ℕ} → Withinᵘ r b → Withinᵘ (stays r) b
+pub stays-within : (r : Updated) {b : ℕ} → Withinᵘ r b → Withinᵘ (stays r) b
 unfolding stays
 stays-within (Next st w) h = h
 stays-within (Jump target v st w) h = freeᵘ
 stays-within Halted h = freeᵘ
 
-eitherᵘ : (t : Bool) (r s : Updated) {b : ℕ} → Withinᵘ r b → Withinᵘ s b → Withinᵘ (if t then r else s) b
+pub eitherᵘ : (t : Bool) (r s : Updated) {b : ℕ} → Withinᵘ r b → Withinᵘ s b → Withinᵘ (if t then r else s) b
 eitherᵘ true r s h g = h
 eitherᵘ false r s h g = g
 
-onOccurrence-within : (o : Occurrence) (st : Bytes) (q : Updated) {b c : ℕ} → Withinᵒ o b → Withinᵘ q c → Withinᵘ (onOccurrence o st q) (b + c)
+pub onOccurrence-within : (o : Occurrence) (st : Bytes) (q : Updated) {b c : ℕ} → Withinᵒ o b → Withinᵘ q c → Withinᵘ (onOccurrence o st q) (b + c)
 unfolding onOccurrence
 onOccurrence-within (Took target v u) st q h e = record { most = omega (arith, h .most) }
 onOccurrence-within (Quiet u) st q h e = after-withinᵘ u q (h .most) e
@@ -276,7 +276,7 @@ caught-within k body brs (Next st w) h = h
 caught-within k body brs (Jump target v st w) h = eitherᵘ (hasBranch target brs) _ _ (record { most = h .most }) h
 caught-within k body brs Halted h = freeᵘ
 
-onEvent-within : (o : Opened) (f : Value → Updated) (q : Updated) {c : ℕ} → ((v : Value) → Withinᵘ (f v) c) → Withinᵘ q c
+pub onEvent-within : (o : Opened) (f : Value → Updated) (q : Updated) {c : ℕ} → ((v : Value) → Withinᵘ (f v) c) → Withinᵘ q c
     → Withinᵘ (onEvent o f q) c
 unfolding onEvent
 onEvent-within (Here v) f q g e = g v

@@ -1,6 +1,6 @@
 -- The scope of a program is that of its last node, with no binder marked and no group above.
 -- Assumes nothing.
-use mathlib.Core.Path.{_≡_, refl, ap}
+use mathlib.Core.Path.{_≡_, ap}
 use mathlib.Core.List.{[]}
 use Prim.Native.Nat.{ℕ, _-_}
 use lib.ListN.{replicate}

@@ -3,7 +3,7 @@
 use mathlib.Core.Path.{_≡_, refl, sym, ap, _∙_}
 use mathlib.Core.List.{List, [], _∷_}
 use mathlib.Core.Bool.{Bool, true, false}
-use Prim.Native.Nat.{ℕ, _≤_, _<_}
+use Prim.Native.Nat.{ℕ, _≤_}
 use native.Mathlib.Omega.{arith}
 use lib.Dec.{eqb}
 use borrow.Author.Tests.{leb-true, eq-eqb, ne-eqb, eqb-true, eqb-false}
@@ -12,12 +12,13 @@ use Rattle.rules.specs.Layout.{kindAt, aAt, bAt, cAt}
 use Rattle.rules.specs.Kinds.{isSignal, isBranch, isCase}
 use Rattle.rules.specs.Places.{sooner, wrongUnless}
 use Rattle.rules.specs.declared.Place.the-variants.{Nowhere}
-use Rattle.rules.specs.Tree.{Branches, exprAt, signalAt, branchesAt, casesAt, noBranch, noCase}
+use Rattle.rules.specs.Tree.{exprAt, signalAt, branchesAt, casesAt, noBranch, noCase}
 use Rattle.rules.specs.Scope.{Marks, Offers, mark, hasBranch, isOffered, scopeE, scopeS, scopeB, scopeC}
 use Rattle.rules.proofs.Static.{and-both}
 use Rattle.rules.proofs.Nodes.{below-lt, below-ge, signal-input, signal-time, signal-ext, signal-delay, signal-let, signal-switch, signal-group, signal-until}
 use Rattle.rules.specs.Shaped.{NodeOf}
-use Rattle.rules.proofs.Signals.{less, ext-kid, delay-kid, let-kids, switch-kids, group-kids, until-kids, branch-kid, branch-next, branch-law, case-kid, case-next, case-law}
+use Rattle.rules.proofs.Signals.{less, ext-kid, delay-kid, let-kids, switch-kids, group-kids, until-kids, branch-next, branch-law, case-next, case-law}
+use Rattle.cells.specs.Indexed.{Listed}
 use Rattle.scope.specs.Offers.{offersAt, Offered}
 
 pub none-offered : (p : Bytes) → offersAt p 65535 ≡ []
@@ -41,26 +42,15 @@ pub offered-some : (p : Bytes) (g k : ℕ) → (g ≡ 65535 → ⊥) → isOffer
 unfolding isOffered
 offered-some p g k d = ap (isOffered k) (some-offered p g d) ∙ or-false _
 
-pub no-offer : (p : Bytes) → Offered p 65535
-no-offer p = record { offered = λ d. absurd (d refl) }
+-- What the recursion carries where no group is to be left for,
+pub no-offer : {p : Bytes} {homes : List ℕ} → Listed p homes → Offered p homes 65535
+no-offer x = record { listed = x; offered = λ d. absurd (d refl); first = λ d. absurd (d refl) }
+
+-- and below a group, by the field that was read: its first branch has its own number in the table.
+pub own-offer : {p : Bytes} {homes : List ℕ} {i b : ℕ} → Listed p homes → NodeOf isSignal p i → kindAt p i ≡ 7 → b ≡ bAt p i → Offered p homes b
+own-offer {p} {i = i} x w k e = rw e (record { listed = x; offered = λ _. group-kids p i w k .1 .node; first = λ _. x .firsts i w k })
 
 module _ (p : Bytes) (n : ℕ) (w : NodeOf isBranch p n) where
-  pub has-here : (k : ℕ) → n ≡ k → hasBranch k (branchesAt p n) ≡ true
-  unfolding hasBranch _or_
-  has-here k e = ap (hasBranch k) (branch-law p n w refl) ∙ simp (eq-eqb n k e)
-
-  pub has-last : (k : ℕ) → (n ≡ k → ⊥) → bAt p n ≡ 65535 → hasBranch k (branchesAt p n) ≡ false
-  unfolding hasBranch _or_
-  has-last k d e =
-      ap (hasBranch k) (branch-law p n w (below-ge n noBranch (branchesAt p) (bAt p n) (omega (arith, w .inside, w .shaped .small))))
-      ∙ simp (ne-eqb n k d)
-
-  pub has-more : (k : ℕ) → (n ≡ k → ⊥) → (bAt p n ≡ 65535 → ⊥) → hasBranch k (branchesAt p n) ≡ hasBranch k (branchesAt p (bAt p n))
-  unfolding hasBranch _or_
-  has-more k d e =
-      ap (hasBranch k) (branch-law p n w (below-lt n noBranch (branchesAt p) (bAt p n) (branch-next p n w e .less)))
-      ∙ simp (ne-eqb n k d)
-
   pub branch-last-scope : (Γ : Marks) (Δ : Offers) → bAt p n ≡ 65535
       → scopeB Γ Δ (branchesAt p n) ≡ sooner (scopeS (mark Γ n) Δ (signalAt p (aAt p n))) Nowhere
   unfolding scopeB

@@ -6,10 +6,13 @@ ghost use Rattle.rules.specs.Layout.{nodes};
 ghost use Rattle.rules.specs.Kinds.{isExpression, isSignal, isBranch, isCase};
 ghost use Rattle.rules.specs.Places.{sooner as soonerOf, wrongUnless};
 ghost use Rattle.rules.specs.Tree.{exprAt, signalAt, branchesAt, casesAt};
-ghost use Rattle.rules.specs.Scope.{mark, isMarked, hasBranch, isOffered, scopeE, scopeS, scopeB, scopeC, scopeFault};
+ghost use Rattle.rules.specs.Scope.{mark, isMarked, isOffered, scopeE, scopeS, scopeB, scopeC, scopeFault};
 ghost use Rattle.rules.specs.Shaped.{NodeOf};
 ghost use Rattle.places.specs.Numbers.{placeIn};
+ghost use Rattle.cells.specs.Indexed.{ListedOnce};
 ghost use Rattle.scope.specs.Offers.{offersAt, Offered};
+use branches::lists;
+use cells::index_branches;
 use places::NOWHERE;
 use places::place;
 use places::sooner;
@@ -85,60 +88,52 @@ fn inside_e(p: &&[u8], marks: &mut [u8; 1008], i: usize, k: usize) -> u32
     r
 }
 
-// Whether the list of branches at j has the branch k.
-pub fn has_branch(p: &&[u8], j: usize, k: usize) -> bool
-    requires { ⌜ NodeOf isBranch (now (now p)) j ⌝ }
-    ensures { λ r. ⌜ r ≡ hasBranch k (branchesAt (now (now (p .entry))) j) ⌝ }
-{
-    if j == k {
-        return true;
-    }
-    let n = node(*p, j);
-    if n.b == 65535 {
-        return false;
-    }
-    has_branch(p, n.b, k)
-}
-
-fn offered(p: &&[u8], group: usize, k: usize) -> bool
-    requires { ⌜ Offered (now (now p)) group ⌝ }
+// Whether a case may leave for branch k, by the table of the lists' first branches.
+fn offered(p: &&[u8], homes: &[u16; 1008], group: usize, k: usize) -> bool
+    requires { ⌜ Offered (now (now p)) (now homes) group ⌝ }
     ensures { λ r. ⌜ r ≡ isOffered k (offersAt (now (now (p .entry))) group) ⌝ }
 {
     if group == 65535 {
         return false;
     }
-    has_branch(p, group, k)
+    lists(*p, homes, group, k)
 }
 
 // Signal i; a case may leave for the group whose first branch is given, if it is not 65535.
-pub fn scope_s(p: &&[u8], marks: &mut [u8; 1008], i: usize, group: usize) -> u32
-    requires { ⌜ NodeOf isSignal (now (now p)) i × Offered (now (now p)) group ⌝ }
+pub fn scope_s(
+    p: &&[u8],
+    homes: &[u16; 1008],
+    marks: &mut [u8; 1008],
+    i: usize,
+    group: usize,
+) -> u32
+    requires { ⌜ NodeOf isSignal (now (now p)) i × Offered (now (now p)) (now homes) group ⌝ }
     ensures { λ r. ⌜ (placeIn r ≡ scopeS (now (marks .entry)) (offersAt (now (now (p .entry))) group) (signalAt (now (now (p .entry))) i)) × (now (marks .exit) ≡ now (marks .entry)) ⌝ }
 {
     let n = node(*p, i);
     let k = n.kind;
     match k {
         3 => scope_e(p, marks, n.a),
-        4 => scope_s(p, marks, n.a, 65535),
+        4 => scope_s(p, homes, marks, n.a, 65535),
         5 => {
-            let d = inside_s(p, marks, i, n.a, 65535);
-            let b = inside_s(p, marks, i, n.b, group);
+            let d = inside_s(p, homes, marks, i, n.a, 65535);
+            let b = inside_s(p, homes, marks, i, n.b, group);
             sooner(d, b)
         }
         6 => {
-            let x = scope_s(p, marks, n.a, 65535);
-            let e = scope_s(p, marks, n.b, 65535);
-            let y = inside_s(p, marks, i, n.c, 65535);
+            let x = scope_s(p, homes, marks, n.a, 65535);
+            let e = scope_s(p, homes, marks, n.b, 65535);
+            let y = inside_s(p, homes, marks, i, n.c, 65535);
             sooner(x, sooner(e, y))
         }
         7 => {
-            let body = scope_s(p, marks, n.a, n.b);
-            let brs = scope_b(p, marks, n.b, n.b);
+            let body = scope_s(p, homes, marks, n.a, n.b);
+            let brs = scope_b(p, homes, marks, n.b, n.b);
             sooner(body, brs)
         }
         8 => {
-            let s = scope_s(p, marks, n.a, 65535);
-            let cases = scope_c(p, marks, n.b, group);
+            let s = scope_s(p, homes, marks, n.a, 65535);
+            let cases = scope_c(p, homes, marks, n.b, group);
             sooner(s, cases)
         }
         _ => NOWHERE,
@@ -146,49 +141,58 @@ pub fn scope_s(p: &&[u8], marks: &mut [u8; 1008], i: usize, group: usize) -> u32
 }
 
 // Signal k, below binder i.
-fn inside_s(p: &&[u8], marks: &mut [u8; 1008], i: usize, k: usize, group: usize) -> u32
-    requires { ⌜ NodeOf isSignal (now (now p)) k × Offered (now (now p)) group × (i < 1008) ⌝ }
+fn inside_s(
+    p: &&[u8],
+    homes: &[u16; 1008],
+    marks: &mut [u8; 1008],
+    i: usize,
+    k: usize,
+    group: usize,
+) -> u32
+    requires { ⌜ NodeOf isSignal (now (now p)) k × Offered (now (now p)) (now homes) group × (i < 1008) ⌝ }
     ensures { λ r. ⌜ (placeIn r ≡ scopeS (mark (now (marks .entry)) i) (offersAt (now (now (p .entry))) group) (signalAt (now (now (p .entry))) k)) × (now (marks .exit) ≡ now (marks .entry)) ⌝ }
 {
     let old = marks[i];
     marks[i] = 1;
-    let r = scope_s(p, marks, k, group);
+    let r = scope_s(p, homes, marks, k, group);
     marks[i] = old;
     r
 }
 
-fn scope_b(p: &&[u8], marks: &mut [u8; 1008], j: usize, group: usize) -> u32
-    requires { ⌜ NodeOf isBranch (now (now p)) j × Offered (now (now p)) group ⌝ }
+fn scope_b(p: &&[u8], homes: &[u16; 1008], marks: &mut [u8; 1008], j: usize, group: usize) -> u32
+    requires { ⌜ NodeOf isBranch (now (now p)) j × Offered (now (now p)) (now homes) group ⌝ }
     ensures { λ r. ⌜ (placeIn r ≡ scopeB (now (marks .entry)) (offersAt (now (now (p .entry))) group) (branchesAt (now (now (p .entry))) j)) × (now (marks .exit) ≡ now (marks .entry)) ⌝ }
 {
     let n = node(*p, j);
-    let body = inside_s(p, marks, j, n.a, group);
+    let body = inside_s(p, homes, marks, j, n.a, group);
     if n.b == 65535 {
         return sooner(body, NOWHERE);
     }
-    let rest = scope_b(p, marks, n.b, group);
+    let rest = scope_b(p, homes, marks, n.b, group);
     sooner(body, rest)
 }
 
-fn scope_c(p: &&[u8], marks: &mut [u8; 1008], j: usize, group: usize) -> u32
-    requires { ⌜ NodeOf isCase (now (now p)) j × Offered (now (now p)) group ⌝ }
+fn scope_c(p: &&[u8], homes: &[u16; 1008], marks: &mut [u8; 1008], j: usize, group: usize) -> u32
+    requires { ⌜ NodeOf isCase (now (now p)) j × Offered (now (now p)) (now homes) group ⌝ }
     ensures { λ r. ⌜ (placeIn r ≡ scopeC (now (marks .entry)) (offersAt (now (now (p .entry))) group) (casesAt (now (now (p .entry))) j)) × (now (marks .exit) ≡ now (marks .entry)) ⌝ }
 {
     let n = node(*p, j);
-    let here = wrong_unless(offered(p, group, n.c), j);
-    let event = scope_s(p, marks, n.a, 65535);
+    let here = wrong_unless(offered(p, homes, group, n.c), j);
+    let event = scope_s(p, homes, marks, n.a, 65535);
     if n.b == 65535 {
         return sooner(here, sooner(event, NOWHERE));
     }
-    let rest = scope_c(p, marks, n.b, group);
+    let rest = scope_c(p, homes, marks, n.b, group);
     sooner(here, sooner(event, rest))
 }
 
 // The smallest variable or case out of scope, of a program whose root is a signal: above it no binder is marked, and no group is left for.
 pub fn scope_fault(p: &[u8], count: usize) -> Place
-    requires { ⌜ (count ≡ nodes (now p)) × (0 < count) × NodeOf isSignal (now p) (count - 1) ⌝ }
+    requires { ⌜ (count ≡ nodes (now p)) × (0 < count) × NodeOf isSignal (now p) (count - 1) × ListedOnce (now p) ⌝ }
     ensures { λ r. ⌜ r ≡ scopeFault (now (p .entry)) ⌝ }
 {
     let mut marks: [u8; 1008] = [0; 1008];
-    place(scope_s(&p, &mut marks, count - 1, 65535))
+    let mut homes: [u16; 1008] = [0; 1008];
+    index_branches(p, &mut homes, count);
+    place(scope_s(&p, &homes, &mut marks, count - 1, 65535))
 }

@@ -1,15 +1,15 @@
 -- What a recursion over a program and a state carries, from a node to its children; and the cell of a node.
 -- Assumes nothing.
-use mathlib.Core.Path.{_≡_, refl, sym, ap, _∙_}
+use mathlib.Core.Path.{_≡_, refl, ap, _∙_}
 use mathlib.Core.Bool.{Bool, true, false}
 use mathlib.Core.List.{List}
-use Prim.Native.Nat.{ℕ, _+_, _*_, _≤_, _<_}
+use Prim.Native.Nat.{ℕ, _+_, _≤_, _<_}
 use native.Mathlib.Omega.{arith}
 use borrow.Author.Tests.{leb-true, eqb-true, eqb-false}
 use lib.Dec.{eqb}
 use lib.ListN.{length, getD}
 use Rattle.rules.specs.Bytes.{Bytes, _or_}
-use Rattle.rules.specs.Layout.{nodes, kindAt, aAt, hasCell, cells, cellsBefore, cellAt, stateLength}
+use Rattle.rules.specs.Layout.{kindAt, aAt, hasCell, cells, cellsBefore, cellAt, stateLength}
 use Rattle.rules.specs.Kinds.{isSignal}
 use Rattle.rules.specs.Shaped.{NodeOf}
 use Rattle.rules.specs.Tree.{Expr, Signal, input, time, ext, exprAt, signalAt}
@@ -18,7 +18,6 @@ use Rattle.rules.proofs.Kids.{Child}
 use Rattle.rules.proofs.Nodes.{signal-input, signal-time}
 use Rattle.rules.proofs.Signals.{less, ext-tree}
 use Rattle.rules.proofs.CellNumbers.{cell-below}
-use Rattle.cells.specs.Indexed.{Indexed}
 use Rattle.state.specs.Stated.{Stated}
 
 -- A child, in a state of the same length.

@@ -1,13 +1,13 @@
 -- A signal of each kind, a list of branches and a list of cases: their cells put to start.
 -- Assumes nothing.
-use mathlib.Core.Path.{_≡_, refl, sym, ap, _∙_}
+use mathlib.Core.Path.{_≡_, refl, ap}
 use mathlib.Core.List.{List}
 use Prim.Native.Nat.{ℕ, _≤_}
 use native.Mathlib.Omega.{arith}
 use lib.ListN.{getD}
 use Rattle.rules.specs.Bytes.{Bytes}
 use Rattle.rules.specs.Values.{packed, valueFrom}
-use Rattle.rules.specs.Layout.{kindAt, typeAt, aAt, bAt, cAt, wordAt, cellsBefore, setCell, hold, clear}
+use Rattle.rules.specs.Layout.{kindAt, typeAt, aAt, bAt, cAt, wordAt, setCell, hold, clear}
 use Rattle.rules.specs.Kinds.{isSignal, isBranch, isCase}
 use Rattle.rules.specs.Reset.{resetS, resetB, resetC}
 use Rattle.rules.specs.Tree.{Signal, Branches, Cases, signalAt, branchesAt, casesAt, valueAt}

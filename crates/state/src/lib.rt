@@ -12,12 +12,12 @@ ghost use Rattle.rules.specs.Reset.{resetS, resetB, resetC, startState};
 ghost use Rattle.cells.specs.Indexed.{Indexed};
 ghost use Rattle.state.specs.Stated.{Stated};
 use cells::cell;
-use cells::kind_of;
+use cells::kind_by;
+use cells::node_by;
 use cells::number_of;
 use cells::put32;
 use cells::set_cell;
 use rules::Node;
-use table::node;
 use values::pack;
 use values::value_from;
 
@@ -47,22 +47,22 @@ fn set_own(index: &[u16], st: &mut [u8], i: usize, m: u64)
 }
 
 // All cells of the signal at node i put to start; input, time and ext, which have none, without a call.
-pub fn resets(p: &&[u8], index: &[u16; 1008], st: &mut [u8], i: usize)
+pub fn resets(p: &&[u8], index: &[u16; 2016], st: &mut [u8], i: usize)
     requires { ⌜ Stated isSignal (now (now p)) (now index) (length (now st)) i ⌝ }
     ensures { λ _. ⌜ now (st .exit) ≡ resetS (signalAt (now (now (p .entry))) i) (now (st .entry)) ⌝ }
 {
-    let kind = kind_of(*p, i);
+    let kind = kind_by(*p, index, i);
     if kind > 3 {
         reset_s(p, index, st, i);
     }
 }
 
 // All cells of the signal at node i put to start.
-fn reset_s(p: &&[u8], index: &[u16; 1008], st: &mut [u8], i: usize)
+fn reset_s(p: &&[u8], index: &[u16; 2016], st: &mut [u8], i: usize)
     requires { ⌜ Stated isSignal (now (now p)) (now index) (length (now st)) i ⌝ }
     ensures { λ _. ⌜ now (st .exit) ≡ resetS (signalAt (now (now (p .entry))) i) (now (st .entry)) ⌝ }
 {
-    let n = node(*p, i);
+    let n = node_by(*p, index, i);
     let k = n.kind;
     match k {
         4 => {
@@ -93,11 +93,11 @@ fn reset_s(p: &&[u8], index: &[u16; 1008], st: &mut [u8], i: usize)
 }
 
 // All cells of the list of branches at node j put to start.
-pub fn reset_b(p: &&[u8], index: &[u16; 1008], st: &mut [u8], j: usize)
+pub fn reset_b(p: &&[u8], index: &[u16; 2016], st: &mut [u8], j: usize)
     requires { ⌜ Stated isBranch (now (now p)) (now index) (length (now st)) j ⌝ }
     ensures { λ _. ⌜ now (st .exit) ≡ resetB (branchesAt (now (now (p .entry))) j) (now (st .entry)) ⌝ }
 {
-    let n = node(*p, j);
+    let n = node_by(*p, index, j);
     resets(p, index, st, n.a);
     if n.b != 65535 {
         reset_b(p, index, st, n.b);
@@ -105,11 +105,11 @@ pub fn reset_b(p: &&[u8], index: &[u16; 1008], st: &mut [u8], j: usize)
 }
 
 // All cells of the list of cases at node j put to start.
-pub fn reset_c(p: &&[u8], index: &[u16; 1008], st: &mut [u8], j: usize)
+pub fn reset_c(p: &&[u8], index: &[u16; 2016], st: &mut [u8], j: usize)
     requires { ⌜ Stated isCase (now (now p)) (now index) (length (now st)) j ⌝ }
     ensures { λ _. ⌜ now (st .exit) ≡ resetC (casesAt (now (now (p .entry))) j) (now (st .entry)) ⌝ }
 {
-    let n = node(*p, j);
+    let n = node_by(*p, index, j);
     resets(p, index, st, n.a);
     if n.b != 65535 {
         reset_c(p, index, st, n.b);
@@ -136,7 +136,7 @@ fn put_header(p: &[u8], st: &mut [u8])
 }
 
 // The start state of a program of so many nodes, in memory of its length.
-pub fn fill_start(p: &[u8], index: &[u16; 1008], st: &mut [u8], count: usize)
+pub fn fill_start(p: &[u8], index: &[u16; 2016], st: &mut [u8], count: usize)
     requires { ⌜ NodeOf isSignal (now p) (nodes (now p) - 1) × Indexed (now p) (now index) × (count ≡ nodes (now p)) × (length (now st) ≡ stateLength (now p)) ⌝ }
     ensures { λ _. ⌜ now (st .exit) ≡ startState (now (p .entry)) ⌝ }
 {

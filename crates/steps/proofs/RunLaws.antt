@@ -6,8 +6,8 @@ use native.Mathlib.Omega.{arith}
 use Rattle.rules.specs.Bytes.{Bytes, writeAt}
 use Rattle.rules.specs.Values.{valueBytes}
 use Rattle.rules.specs.Layout.{inputAt}
-use Rattle.rules.specs.Update.{Made, NotMade, stepOf}
-use Rattle.rules.specs.Calls.{RunOutcome, recordVerdict, runFrom}
+use Rattle.rules.specs.Update.{Made, stepOf}
+use Rattle.rules.specs.Calls.{recordVerdict, runFrom}
 use Rattle.rules.specs.declared.Value.{Value}
 use Rattle.rules.specs.declared.Tally.{Tally}
 use Rattle.rules.specs.declared.Refusal.{Refusal}

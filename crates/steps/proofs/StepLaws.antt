@@ -15,9 +15,9 @@ use Rattle.rules.specs.Tree.{root, signalAt}
 use Rattle.rules.specs.Bound.{bound, boundS, boundU}
 use Rattle.rules.specs.Work.{_plus_, Updated, Next, Jump, Halted, moved}
 use Rattle.rules.specs.Accepted.{Accepted}
-use Rattle.rules.specs.WellFormed.{wellFormed, lastMoment}
+use Rattle.rules.specs.WellFormed.{wellFormed}
 use Rattle.rules.specs.Evaluate.{Env, unbound, evalS}
-use Rattle.rules.specs.Update.{Stepped, Made, NotMade, updS, updated, evaluated, stepOf}
+use Rattle.rules.specs.Update.{Made, NotMade, updS, updated, evaluated, stepOf}
 use Rattle.rules.specs.declared.Value.{Value}
 use Rattle.rules.specs.declared.Tally.{Tally}
 use Rattle.rules.specs.declared.Evaluated.{Evaluated}
@@ -28,7 +28,6 @@ use Rattle.rules.proofs.Once.{bound-small, tree-small}
 use Rattle.rules.proofs.Bounds.{boundS≤}
 use Rattle.rules.specs.Size.{sizeS}
 use Rattle.outcomes.specs.Outcome.{Slots}
-use Rattle.cells.specs.Indexed.{Indexed}
 use Rattle.evaluate.specs.Ready.{ReadyS}
 use Rattle.moves.specs.Lent.{Ready}
 use native.Mathlib.Nat.{mul-le-mul}
@@ -38,6 +37,10 @@ use Rattle.rules.specs.Calls.{totalWrong}
 use Rattle.outcomes.specs.Combine.{workOf}
 use Rattle.outcomes.proofs.Outcomes.{work-within, slots-none}
 use Rattle.rules.proofs.Within.{evalS-within}
+use Rattle.current.specs.Current.{goS}
+use Rattle.current.proofs.SameUpdate.{root-same}
+use Rattle.moves.specs.Outcomes.{calmOf}
+use Rattle.moves.specs.declared.Calm.the-variants.{Still, Broken}
 use Rattle.promises.specs.Small.{Small}
 use Rattle.promises.proofs.FromTable.{seated}
 use Rattle.promises.proofs.Steps.{StepGoes, step-goes, well-parts}
@@ -178,29 +181,48 @@ module _ {p : Bytes} {index : List ℕ} {size : ℕ} {env : Env} {count : ℕ} (
     shows f {out} {out₁} {place} a b =
         rw (sym evaluated-at ∙ f) (record { written = a ∙ ap (λ (n : ℕ). writeAt out place (bytesOf 8 n)) b; counted = refl; below = evaluation-small f })
 
+-- an update that is calm stays
+still-stay : (x : Moved) {t : Tally} → calmOf x ≡ Still t → x ≡ Moved.Stay t
+unfolding calmOf
+still-stay (Moved.Stay u) {t} e = let q : u ≡ t = cc in ap Moved.Stay q
+still-stay (Moved.Jump j w u) e = let z : _≡_ {A = ℕ} 0 1 = cc in absurd (omega arith)
+still-stay Moved.Stuck e = let z : _≡_ {A = ℕ} 0 1 = cc in absurd (omega arith)
+
 -- the update neither halts nor jumps, and stays
 module _ {p st : Bytes} {index : List ℕ} {env : Env} {count : ℕ} (g : Going p index st env count) where
   module _ {rec : Bytes} (hp : Small p) (hs : Small st) (hr : Small rec) where
     goes : StepGoes p rec st
     goes = step-goes p rec st (g .accepted) (seated p hp (g .accepted)) (g .well) hs hr
 
-    updated-at : {u : Updated} → u ≡ updS rec env (signalAt p (count - 1)) st → updS rec (unbound mostNodes) (root p) st ≡ u
-    updated-at h = sym (h ∙ (λ i. updS rec (g .blank i) (root-at p count (g .counted) i) st))
+    updated-at : {u : Updated} → u ≡ goS rec env (signalAt p (count - 1)) st → updS rec (unbound mostNodes) (root p) st ≡ u
+    updated-at h =
+        sym (h ∙ (λ i. goS rec (g .blank i) (root-at p count (g .counted) i) st)
+        ∙ root-same p rec st (g .accepted) (seated p hp (g .accepted)) (g .well) hs hr)
 
-    module _ {x : Moved} (st₁ : Bytes) (h : moved x st₁ ≡ updS rec env (signalAt p (count - 1)) st) where
-      pub never-halted : x ≡ Moved.Stuck → ⊥
+    module _ (x : Moved) (st₁ : Bytes) (h : moved x st₁ ≡ goS rec env (signalAt p (count - 1)) st) where
+      never-halted : x ≡ Moved.Stuck → ⊥
       unfolding moved
       never-halted k = let e = both p rec st goes .updates in let z : _≡_ {A = ℕ} 0 1 = cc (updated-at h ∙ ap (λ (y : Moved). moved y st₁) k) in omega arith
 
-      pub never-jumps : {w : Value} {t : Tally} {j : ℕ} → x ≡ Moved.Jump j w t → ⊥
+      never-jumps : {w : Value} {t : Tally} {j : ℕ} → x ≡ Moved.Jump j w t → ⊥
       unfolding moved
       never-jumps k = let e = both p rec st goes .updates in let z : _≡_ {A = ℕ} 0 1 = cc (updated-at h ∙ ap (λ (y : Moved). moved y st₁) k) in omega arith
 
-      pub advances : {t : Tally} → x ≡ Moved.Stay t → {st₂ : Bytes} {moment : ℕ} → st₂ ≡ setTime st₁ moment → moment ≡ timeIn rec
+      broken : (y : Moved) → x ≡ y → calmOf y ≡ Broken → ⊥
+      unfolding calmOf
+      broken (Moved.Stay t) k e = let z : _≡_ {A = ℕ} 0 1 = cc in omega arith
+      broken (Moved.Jump j w t) k e = never-jumps k
+      broken Moved.Stuck k e = never-halted k
+
+      pub never-broken : calmOf x ≡ Broken → ⊥
+      never-broken e = broken x refl e
+
+      pub advances : {t : Tally} → calmOf x ≡ Still t → {st₂ : Bytes} {moment : ℕ} → st₂ ≡ setTime st₁ moment → moment ≡ timeIn rec
           → Advanced p rec st st₂ (t .work)
       unfolding moved _plus_
-      advances {t} k {st₂} a b =
+      advances {t} c {st₂} a b =
           let m = goes in
+          let k = still-stay x c in
           let e = both p rec st m .evaluates in
           let q : stepOf p rec st ≡ Made (both p rec st m .value) st₂ (both p rec st m .seen plus t) =
           by-parts p rec st e (updated-at h ∙ ap (λ (y : Moved). moved y st₁) k)
@@ -219,7 +241,7 @@ module _ {p st : Bytes} {index : List ℕ} {env : Env} {count : ℕ} (g : Going 
             below = omega (arith, small-bound p (g .accepted), m .within, ap (λ (x : Tally). x .work) w);
           }
 
-      pub update-small : {t : Tally} → x ≡ Moved.Stay t → t .work ≤ mostWork
+      pub update-small : {t : Tally} → calmOf x ≡ Still t → t .work ≤ mostWork
       update-small k = advances k {st₂ = setTime st₁ (timeIn rec)} {moment = timeIn rec} refl refl .below
 
 -- shown and advanced, a step is taken

@@ -14,11 +14,12 @@ use answers::refuse_if;
 use cells::put64;
 use cells::set_time;
 use evaluate::evaluated;
+use moves::Calm;
+use moves::settled;
 use outcomes::Shown;
 use record::input_wrong;
 use record::time_of;
 use record::time_wrong;
-use rules::Moved;
 use rules::Ran;
 use rules::Refusal;
 use rules::Verdict;
@@ -55,7 +56,7 @@ fn step_verdict(st: &[u8], rec: &[u8]) -> Verdict
 // The output of a step: the root is evaluated, and its value goes to the output room. The answer is the work.
 fn show(
     p: &[u8],
-    index: &[u16; 1008],
+    index: &[u16; 2016],
     rec: &[u8],
     st: &[u8],
     env: &mut [u64; 1008],
@@ -78,10 +79,10 @@ fn show(
 }
 
 // The state after a step: the root is updated, and the time becomes the record's. The answer is the work. (No accepted program halts in a
-// well-formed state, nor jumps out of its root: those arms are never taken.)
+// well-formed state, nor jumps out of its root: that arm is never taken.)
 fn advance(
     p: &[u8],
-    index: &[u16; 1008],
+    index: &[u16; 2016],
     rec: &[u8],
     st: &mut [u8],
     env: &mut [u64; 1008],
@@ -91,20 +92,17 @@ fn advance(
     ensures { λ w. ⌜ Advanced (now (p .entry)) (now (rec .entry)) (now (st .entry)) (now (st .exit)) w × Held (now (p .entry)) (now (index .entry)) (length (now (st .exit))) (now (env .exit)) count ⌝ }
 {
     let moved = update_s(&p, index, &rec, st, env, count - 1);
-    match moved {
-        Moved::Stuck => 0,
-        Moved::Jump(_, _, _) => 0,
-        Moved::Stay(w) => {
-            set_time(st, time_of(rec));
-            w.work as u32
-        }
-    }
+    let Calm::Still(w) = settled(moved) else {
+        return 0;
+    };
+    set_time(st, time_of(rec));
+    w.work as u32
 }
 
 // A step: its value is that of the state before the update. The answer is the work.
 fn make_step(
     p: &[u8],
-    index: &[u16; 1008],
+    index: &[u16; 2016],
     rec: &[u8],
     st: &mut [u8],
     env: &mut [u64; 1008],
@@ -123,7 +121,7 @@ fn make_step(
 // The records of a run, one after the other, until one is refused. More records may follow in another run.
 pub fn run_records(
     p: &[u8],
-    index: &[u16; 1008],
+    index: &[u16; 2016],
     recs: &[u8],
     st: &mut [u8],
     env: &mut [u64; 1008],
@@ -155,7 +153,7 @@ pub fn run_records(
 // The one record of a step.
 pub fn step_record(
     p: &[u8],
-    index: &[u16; 1008],
+    index: &[u16; 2016],
     rec: &[u8],
     st: &mut [u8],
     env: &mut [u64; 1008],

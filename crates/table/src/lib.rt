@@ -57,7 +57,7 @@ pub fn node_at(p: &[u8], i: usize) -> usize
 }
 
 // The fields of the record at a position.
-fn read(p: &[u8], at: usize) -> Node
+pub fn read(p: &[u8], at: usize) -> Node
     requires { ⌜ at + 12 ≤ length (now p) ⌝ }
     ensures { λ n. ⌜ (n .kind ≡ byteAt (now (p .entry)) at) × (n .ty ≡ byteAt (now (p .entry)) (at + 1)) × (n .a ≡ u16At (now (p .entry)) (at + 2)) × (n .b ≡ u16At (now (p .entry)) (at + 4)) × (n .c ≡ u16At (now (p .entry)) (at + 6)) × (n .word ≡ u32At (now (p .entry)) (at + 8)) ⌝ }
 {

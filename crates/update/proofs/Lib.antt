@@ -1,3 +1,4 @@
 pub mod Evaluable
+pub mod CatchLaws
 pub mod PassLaws
 pub mod QuietLaws

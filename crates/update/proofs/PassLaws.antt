@@ -8,6 +8,7 @@ use native.Mathlib.Omega.{arith}
 use lib.ListN.{length}
 use borrow.Author.Tests.{eq-eqb, ne-eqb}
 use Rattle.rules.specs.Bytes.{Bytes}
+use Rattle.rules.specs.Values.{unpacked}
 use Rattle.rules.specs.Layout.{kindAt, typeAt, aAt, bAt, cAt, wordAt, mostNodes}
 use Rattle.rules.specs.Kinds.{isCase}
 use Rattle.rules.specs.Node.{IsNode}
@@ -15,20 +16,20 @@ use Rattle.rules.specs.Shaped.{NodeOf}
 use Rattle.rules.specs.Tree.{signalAt, casesAt}
 use Rattle.rules.specs.Work.{_plus_, Updated, Next, Jump, Halted, moved, stays, afterᵘ}
 use Rattle.rules.specs.Evaluate.{Env, evalS}
-use Rattle.rules.specs.Update.{updS}
 use Rattle.rules.specs.declared.Node.{Node}
+use Rattle.rules.specs.declared.Moved.{Moved}
 use Rattle.rules.specs.declared.Moved.the-variants.{Stay}
-use Rattle.rules.specs.declared.Occurrence.{Occurrence}
-use Rattle.rules.specs.declared.Occurrence.the-variants.{Took, Quiet}
 use Rattle.outcomes.specs.Combine.{partsOf}
 use Rattle.outcomes.specs.declared.Event.{Event}
 use Rattle.outcomes.specs.declared.Parts.the-variants.{Maybe}
-use Rattle.moves.specs.Outcomes.{occurred, walked}
+use Rattle.current.specs.Current.{goS}
+use Rattle.moves.specs.Outcomes.{workOf, calmOf, countIn, targetIn, jumpValue, movedIn, walked}
 use Rattle.moves.specs.Lent.{ReadyC, CaseAs}
 use Rattle.moves.proofs.KindLaws.{low-updates}
 use Rattle.moves.proofs.ReadyLaws.{case-part, case-rest}
-use Rattle.moves.proofs.WalkLaws.{walk-quiet, took-on, lost-on, goes-on}
-use Rattle.update.specs.Passes.{quietly, quietWork, onward, passedFrom}
+use Rattle.moves.proofs.NumberLaws.{moved-stays, moved-jumps, more-moved}
+use Rattle.moves.proofs.WalkLaws.{walk-quiet, walk-count, goes-on, broken-on}
+use Rattle.update.specs.Passes.{Fits, quietly, quietWork, onward, passedFrom}
 use Rattle.update.specs.declared.Passed.{Passed}
 use Rattle.update.proofs.QuietLaws.{IsQuiet, quiet-tells}
 
@@ -59,21 +60,21 @@ module _ {p : Bytes} {index : List ℕ} (rec st : Bytes) {env : Env} {j : ℕ} {
   gone : partsOf (evalS rec st env (signalAt p (n .a))) ≡ Maybe Event.Quiet (record { work = u })
   gone = rw (r .fields .a-is) (q .absent o)
 
-  updates : (s : Bytes) → moved (Stay (record { work = 1 })) s ≡ updS rec env (signalAt p (n .a)) s
+  updates : (s : Bytes) → moved (movedIn 1) s ≡ goS rec env (signalAt p (n .a)) s
   updates s = low-updates p (n .a) (case-part r .ready .node) rec env s refl (rw (r .fields .a-is) (q .idle o))
 
   passed-by : (X : Updated) → X ≡ walked rec env (casesAt p (n .b)) st → quietly u 1 X ≡ walked rec env (casesAt p j) st
-  unfolding quietly afterᵘ _plus_ occurred moved stays
+  unfolding quietly afterᵘ _plus_ moved movedIn stays calmOf
   passed-by (Next s w) h =
-      walk-quiet p j (r .ready .node) (r .fields) rec env st refl gone refl (Quiet (w plus record { work = 1 })) s
-      (goes-on p j (r .ready .node) (r .fields) rec env st on (Quiet w) s h refl refl (Stay (record { work = 1 })) s (updates s) refl)
+      walk-quiet p j (r .ready .node) (r .fields) rec env st refl gone refl (Stay (w plus record { work = 1 })) s
+      (goes-on p j (r .ready .node) (r .fields) rec env st on (Stay w) s h refl refl (movedIn 1) s (updates s) refl refl)
       (ap (λ (x : ℕ). Next s (record { work = x })) (let z : u + (1 + w .work) ≡ u + (w .work + 1) = omega arith in z))
   passed-by (Jump target v s w) h =
-      walk-quiet p j (r .ready .node) (r .fields) rec env st refl gone refl (Took target v w) s
-      (took-on p j (r .ready .node) (r .fields) rec env st on (Took target v w) s h refl) refl
+      walk-quiet p j (r .ready .node) (r .fields) rec env st refl gone refl (Moved.Jump target v w) s
+      (broken-on p j (r .ready .node) (r .fields) rec env st on (Moved.Jump target v w) s h refl) refl
   passed-by Halted h =
-      walk-quiet p j (r .ready .node) (r .fields) rec env st refl gone refl Occurrence.Stuck st
-      (lost-on p j (r .ready .node) (r .fields) rec env st on Occurrence.Stuck st h refl) refl
+      walk-quiet p j (r .ready .node) (r .fields) rec env st refl gone refl Moved.Stuck st
+      (broken-on p j (r .ready .node) (r .fields) rec env st on Moved.Stuck st h refl) refl
 
   pub counted-small : u < 65536
   counted-small = q .small
@@ -251,3 +252,31 @@ still-less {i = i} {k = k} e g h = rw (e, g) (let z : k + 1 < i + 1 = omega (ari
 
 pub still-end : (i k : ℕ) {a b : Bool} → a ≡ true → b ≡ false → still b k < still a i
 still-end i k e g = rw (e, g) (let z : 0 < i + 1 = omega arith in z)
+
+-- What was passed may be added to the walk's outcome: both together are the walk from case j, whose count is within its bound.
+pub passes-fit : {p : Bytes} {index : List ℕ} {rec st : Bytes} {env : Env} {j : ℕ} {s : Passed} → ReadyC p index (length st) env j
+    → Passes p index rec st env j s → (o : ℕ) (st₁ : Bytes) → moved (movedIn o) st₁ ≡ walked rec env (casesAt p (s .at)) st → Fits s o
+unfolding quietly moved
+passes-fit {p} {index} {rec} {st} {env} {j} {s} r x o st₁ e =
+    record {
+      still = λ n l. small (Stay (record { work = s .seen + (s .kept + o) })) (rw (moved-stays o n l) at whole);
+      jumps = λ l. small (Moved.Jump (targetIn o) (unpacked (jumpValue o)) (record { work = s .seen + countIn o })) (rw (moved-jumps o l) at whole);
+    }
+  where
+    whole : quietly (s .seen) (s .kept) (moved (movedIn o) st₁) ≡ walked rec env (casesAt p j) st
+    whole = ap (quietly (s .seen) (s .kept)) e ∙ sym (x .same)
+
+    small : (m : Moved) → moved m st₁ ≡ walked rec env (casesAt p j) st → workOf m < 1048576
+    small m h = omega (arith, r .small, walk-count m st₁ rec env (casesAt p j) st h)
+
+-- The sum, by what the outcome's number is.
+module _ (s : Passed) (o : ℕ) (f : Fits s o) (st : Bytes) where
+  pub added-stays : 0 < o → o < 1048576 → moved (movedIn (s .seen + (s .kept + o))) st ≡ quietly (s .seen) (s .kept) (moved (movedIn o) st)
+  unfolding quietly moved
+  added-stays n l = rw (moved-stays (s .seen + (s .kept + o)) (omega arith) (f .still n l), moved-stays o n l)
+
+  pub added-jumps : 1048576 ≤ o → moved (movedIn (s .seen + o)) st ≡ quietly (s .seen) (s .kept) (moved (movedIn o) st)
+  unfolding quietly moved afterᵘ _plus_
+  added-jumps l =
+      let c : s .seen + o ≡ o + s .seen = omega arith in
+      rw c (more-moved o (s .seen) (f .jumps l) (omega arith) st ∙ rw (moved-jumps o l))

@@ -1,6 +1,6 @@
 -- The cases of an until that a loop passes: their events are absent, and to update them does nothing.
 -- Assumes nothing: these are definitions.
-use Prim.Native.Nat.{ℕ, zero, suc, _+_}
+use Prim.Native.Nat.{ℕ, zero, suc, _+_, _≤_, _<_}
 use lib.Dec.{eqb, ltb}
 use Rattle.rules.specs.Bytes.{Bytes, if_then_else_}
 use Rattle.rules.specs.Layout.{kindAt, aAt, bAt, noNext}
@@ -11,6 +11,7 @@ use Rattle.outcomes.specs.Combine.{partsOf}
 use Rattle.outcomes.specs.declared.Event.the-variants.{Occurs, Quiet}
 use Rattle.outcomes.specs.declared.Parts.{Parts}
 use Rattle.outcomes.specs.declared.Parts.the-variants.{Maybe, Wrong}
+use Rattle.moves.specs.Outcomes.{countIn}
 use Rattle.update.specs.declared.Passed.{Passed}
 
 -- A walk with what was counted before it: the evaluations always, a rule for each update only where no event was present.
@@ -42,3 +43,8 @@ passedFrom p rec st env zero j = record { at = j; seen = 0; kept = 0 }
 passedFrom p rec st env (suc fuel) j =
     if eqb (quietWork p rec st env j) 0 then record { at = j; seen = 0; kept = 0 }
     else onward (quietWork p rec st env j) (passedFrom p rec st env fuel (bAt p j))
+
+-- What was counted before a walk whose outcome is the number o may be added to it.
+pub record Fits (s : Passed) (o : ℕ) : Type 0 where
+  pub still : 0 < o → o < 1048576 → s .seen + (s .kept + o) < 1048576
+  pub jumps : 1048576 ≤ o → s .seen + countIn o < 1048576

@@ -1,10 +1,10 @@
 -- The parts of the verdict, joined.
 -- Assumes nothing.
-use mathlib.Core.Path.{_≡_, refl, sym, ap, _∙_}
+use mathlib.Core.Path.{_≡_, refl, sym, _∙_}
 use mathlib.Core.Bool.{true, false}
 use Rattle.rules.specs.Bytes.{Bytes, first}
-use Rattle.rules.specs.Layout.{blocks, records, nodes}
-use Rattle.rules.specs.Format.{lengthWrong, sumWrong, numberWrong, recordWrong}
+use Rattle.rules.specs.Layout.{nodes}
+use Rattle.rules.specs.Format.{lengthWrong}
 use Rattle.rules.specs.Shape.{shapeWrong}
 use Rattle.rules.specs.Accepted.{Formed}
 use Rattle.rules.specs.Calls.{_otherwise_, refuseIf, refuseAt, programVerdict}
@@ -19,6 +19,8 @@ use Rattle.rules.specs.Shaped.{NodeOf}
 use Rattle.rules.proofs.Established.{root-signal}
 use Rattle.rules.proofs.Rooted.{some-node}
 use Rattle.rules.proofs.Verdicts.{not-fine, both-fine, at-fine}
+use Rattle.cells.specs.Indexed.{ListedOnce}
+use Rattle.cells.proofs.Listed.{listed-once}
 use Rattle.verdict.specs.declared.Judged.{Judged}
 use Rattle.verdict.specs.Parts.{formatVerdict, treeVerdict, shapeVerdict, Judges}
 
@@ -70,10 +72,11 @@ shape-right p e = rw e
 
 -- what the codes on the tree require, of a program whose format and shape are right
 pub tree-ready : (p : Bytes) (count : ℕ) → Formed p → count ≡ nodes p → first (shapeWrong p) (nodes p) ≡ Nowhere
-    → (count ≡ nodes p) × (0 < count) × NodeOf isSignal p (count - 1)
+    → (count ≡ nodes p) × (0 < count) × NodeOf isSignal p (count - 1) × ListedOnce p
 tree-ready p count f e s =
     let h = some-node p f in
-    (e, rw e h, rw e (root-signal p (f .length-right) s h))
+    let root = root-signal p (f .length-right) s h in
+    (e, rw e h, rw e root, listed-once p s root)
 
 -- a fault is the verdict, and of it no more is said
 pub judges-fault : (p : Bytes) {v : Verdict} {r : Refusal} {j : Judged} → j .verdict ≡ Refuse r → v ≡ Refuse r → Judges p v j

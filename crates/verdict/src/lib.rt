@@ -8,6 +8,7 @@ ghost use Rattle.rules.specs.Format.{lengthWrong};
 ghost use Rattle.rules.specs.Shaped.{NodeOf};
 ghost use Rattle.rules.specs.Accepted.{Formed};
 ghost use Rattle.rules.specs.Calls.{programVerdict};
+ghost use Rattle.cells.specs.Indexed.{ListedOnce};
 ghost use Rattle.verdict.specs.Parts.{formatVerdict, treeVerdict, shapeVerdict, Judges};
 use answers::number_at;
 use answers::otherwise;
@@ -49,7 +50,7 @@ fn format_verdict(p: &[u8]) -> Verdict
 
 // Codes 6-8, of a program whose shape is right.
 fn judge_tree(p: &[u8], count: usize) -> Judged
-    requires { ⌜ (count ≡ nodes (now p)) × (0 < count) × NodeOf isSignal (now p) (count - 1) ⌝ }
+    requires { ⌜ (count ≡ nodes (now p)) × (0 < count) × NodeOf isSignal (now p) (count - 1) × ListedOnce (now p) ⌝ }
     ensures { λ r. ⌜ Judges (now (p .entry)) (treeVerdict (now (p .entry))) r ⌝ }
 {
     let root = type_root(p, count);

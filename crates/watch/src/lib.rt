@@ -71,7 +71,7 @@ pub fn check(program: &[u8]) -> Checked
 
 // The start of an accepted program, for a caller that makes its steps one by one: the table of its cells and the start state, if the room for it
 // is of the right length.
-pub fn begin(p: &[u8], index: &mut [u16; 1008], st: &mut [u8], count: usize) -> Started
+pub fn begin(p: &[u8], index: &mut [u16; 2016], st: &mut [u8], count: usize) -> Started
     requires { ⌜ Accepted (now p) × (count ≡ nodes (now p)) ⌝ }
     ensures { λ r. ⌜ Begun (now (p .entry)) (now (index .exit)) (now (st .entry)) (now (st .exit)) r ⌝ }
 {
@@ -88,7 +88,7 @@ fn start_accepted(p: &[u8], st: &mut [u8], count: usize) -> Started
     requires { ⌜ Accepted (now p) × (count ≡ nodes (now p)) ⌝ }
     ensures { λ r. ⌜ (r ≡ startRest (now (p .entry)) (now (st .entry)) .answer) × (now (st .exit) ≡ startRest (now (p .entry)) (now (st .entry)) .state) ⌝ }
 {
-    let mut index: [u16; 1008] = [0; 1008];
+    let mut index: [u16; 2016] = [0; 2016];
     begin(p, &mut index, st, count)
 }
 
@@ -107,7 +107,7 @@ pub fn start(program: &[u8], state: &mut [u8]) -> Started
 // Codes 9-11.
 fn lent_verdict(
     p: &[u8],
-    index: &[u16; 1008],
+    index: &[u16; 2016],
     st: &[u8],
     recs: &[u8],
     out: &[u8],
@@ -141,7 +141,7 @@ fn run_accepted(p: &[u8], st: &mut [u8], recs: &[u8], out: &mut [u8], count: usi
     requires { ⌜ Accepted (now p) × (count ≡ nodes (now p)) ⌝ }
     ensures { λ r. ⌜ Leaves (runOutcome (now (p .entry)) (now (st .entry)) (now (recs .entry)) (now (out .entry)) (lentRest (now (p .entry)) (now (st .entry)) (now (recs .entry)) (now (out .entry)) (runFits (now (recs .entry))))) r (now (st .exit)) (now (out .exit)) ⌝ }
 {
-    let mut index: [u16; 1008] = [0; 1008];
+    let mut index: [u16; 2016] = [0; 2016];
     let held = index_cells(p, &mut index, count);
     let fit = run_fits(recs);
     let fault = lent_verdict(p, &index, st, recs, out, count, held, fit);
@@ -172,7 +172,7 @@ fn step_accepted(p: &[u8], st: &mut [u8], rec: &[u8], out: &mut [u8], count: usi
     requires { ⌜ Accepted (now p) × (count ≡ nodes (now p)) ⌝ }
     ensures { λ r. ⌜ Leaves (stepOutcome (now (st .entry)) (now (out .entry)) (lentRest (now (p .entry)) (now (st .entry)) (now (rec .entry)) (now (out .entry)) (eqb (length (now (rec .entry))) inputLength) otherwise stepVerdict (now (st .entry)) (now (rec .entry))) (stepOf (now (p .entry)) (now (rec .entry)) (now (st .entry)))) r (now (st .exit)) (now (out .exit)) ⌝ }
 {
-    let mut index: [u16; 1008] = [0; 1008];
+    let mut index: [u16; 2016] = [0; 2016];
     let held = index_cells(p, &mut index, count);
     let fit = rec.len() == 40;
     let fault = lent_verdict(p, &index, st, rec, out, count, held, fit);

@@ -115,7 +115,7 @@ fn step(
     done: u32,
     total: u32,
     program: &[u8],
-    index: &[u16; 1008],
+    index: &[u16; 2016],
     state: &mut [u8],
     env: &mut [u64; 1008],
     input: &mut [u8],
@@ -157,7 +157,7 @@ fn no_more(place: Place, done: u32, total: u32, input: &mut [u8]) {
 fn steps(
     place: Place,
     program: &[u8],
-    index: &[u16; 1008],
+    index: &[u16; 2016],
     state: &mut [u8],
     env: &mut [u64; 1008],
     input: &mut [u8],
@@ -205,7 +205,7 @@ fn started(
 )
     requires { ⌜ Accepted (now program) × (count ≡ nodes (now program)) × (most ≡ bound (now program)) ⌝ }
 {
-    let mut index: [u16; 1008] = [0; 1008];
+    let mut index: [u16; 2016] = [0; 2016];
     let ready = watch::begin(program, &mut index, state, count);
     match ready {
         Started::Ready => {

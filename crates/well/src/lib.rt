@@ -67,7 +67,7 @@ fn content_fits(t: u8, middle: usize, m: u64) -> bool
 }
 
 // All cells of the signal at node i hold their start content.
-fn rests_s(p: &&[u8], index: &[u16; 1008], st: &&[u8], i: usize) -> bool
+fn rests_s(p: &&[u8], index: &[u16; 2016], st: &&[u8], i: usize) -> bool
     requires { ⌜ Stated isSignal (now (now p)) (now index) (length (now (now st))) i ⌝ }
     ensures { λ r. ⌜ r ≡ restsS (now (now (st .entry))) (signalAt (now (now (p .entry))) i) ⌝ }
 {
@@ -99,7 +99,7 @@ fn rests_s(p: &&[u8], index: &[u16; 1008], st: &&[u8], i: usize) -> bool
 }
 
 // All cells of the list of branches at node j hold their start content.
-fn rests_b(p: &&[u8], index: &[u16; 1008], st: &&[u8], j: usize) -> bool
+fn rests_b(p: &&[u8], index: &[u16; 2016], st: &&[u8], j: usize) -> bool
     requires { ⌜ Stated isBranch (now (now p)) (now index) (length (now (now st))) j ⌝ }
     ensures { λ r. ⌜ r ≡ restsB (now (now (st .entry))) (branchesAt (now (now (p .entry))) j) ⌝ }
 {
@@ -113,7 +113,7 @@ fn rests_b(p: &&[u8], index: &[u16; 1008], st: &&[u8], j: usize) -> bool
 }
 
 // All cells of the list of cases at node j hold their start content.
-fn rests_c(p: &&[u8], index: &[u16; 1008], st: &&[u8], j: usize) -> bool
+fn rests_c(p: &&[u8], index: &[u16; 2016], st: &&[u8], j: usize) -> bool
     requires { ⌜ Stated isCase (now (now p)) (now index) (length (now (now st))) j ⌝ }
     ensures { λ r. ⌜ r ≡ restsC (now (now (st .entry))) (casesAt (now (now (p .entry))) j) ⌝ }
 {
@@ -127,7 +127,7 @@ fn rests_c(p: &&[u8], index: &[u16; 1008], st: &&[u8], j: usize) -> bool
 }
 
 // The cells of the signal at node i are valid, and start where they are not current.
-fn well_s(p: &&[u8], index: &[u16; 1008], st: &&[u8], i: usize) -> bool
+fn well_s(p: &&[u8], index: &[u16; 2016], st: &&[u8], i: usize) -> bool
     requires { ⌜ Stated isSignal (now (now p)) (now index) (length (now (now st))) i ⌝ }
     ensures { λ r. ⌜ r ≡ wellS (now (now (st .entry))) (signalAt (now (now (p .entry))) i) ⌝ }
 {
@@ -169,7 +169,7 @@ fn well_s(p: &&[u8], index: &[u16; 1008], st: &&[u8], i: usize) -> bool
 }
 
 // One branch of the list at node j is the one that the content m of its group's cell names.
-fn well_b(p: &&[u8], index: &[u16; 1008], st: &&[u8], j: usize, m: u64) -> bool
+fn well_b(p: &&[u8], index: &[u16; 2016], st: &&[u8], j: usize, m: u64) -> bool
     requires { ⌜ Stated isBranch (now (now p)) (now index) (length (now (now st))) j ⌝ }
     ensures { λ r. ⌜ r ≡ wellB (now (now (st .entry))) m (branchesAt (now (now (p .entry))) j) ⌝ }
 {
@@ -192,7 +192,7 @@ fn well_b(p: &&[u8], index: &[u16; 1008], st: &&[u8], j: usize, m: u64) -> bool
 }
 
 // The cells of the list of cases at node j are valid, and start where they are not current.
-fn well_c(p: &&[u8], index: &[u16; 1008], st: &&[u8], j: usize) -> bool
+fn well_c(p: &&[u8], index: &[u16; 2016], st: &&[u8], j: usize) -> bool
     requires { ⌜ Stated isCase (now (now p)) (now index) (length (now (now st))) j ⌝ }
     ensures { λ r. ⌜ r ≡ wellC (now (now (st .entry))) (casesAt (now (now (p .entry))) j) ⌝ }
 {
@@ -206,7 +206,7 @@ fn well_c(p: &&[u8], index: &[u16; 1008], st: &&[u8], j: usize) -> bool
 }
 
 // A state of any length is well-formed, for a program of so many nodes and cells.
-pub fn well_formed(p: &[u8], index: &[u16; 1008], st: &[u8], count: usize, cells: usize) -> bool
+pub fn well_formed(p: &[u8], index: &[u16; 2016], st: &[u8], count: usize, cells: usize) -> bool
     requires { ⌜ NodeOf isSignal (now p) (nodes (now p) - 1) × Indexed (now p) (now index) × (count ≡ nodes (now p)) × (cells ≡ cellsOf (now p)) ⌝ }
     ensures { λ r. ⌜ r ≡ wellFormed (now (p .entry)) (now (st .entry)) ⌝ }
 {

@@ -15,6 +15,7 @@ use Rattle.cells.proofs.index_cells.Lts as lts
 use Rattle.cells.proofs.has_cell.Reads as has-cell-reads
 use Rattle.cells.proofs.kind_of.Reads as kind-of-reads
 use Rattle.cells.proofs.index_branches.Reads as index-branches-reads
+use Rattle.cells.proofs.index_places.Reads as index-places-reads
 
 abbrev Inv-loop : tie.InvT-loop
 Inv-loop p index₀ count seen₀ i₀ index seen i = (i ≤ count) × (seen ≡ cellsBefore p i) × (length index ≡ length index₀) × Below p index i
@@ -22,44 +23,44 @@ Inv-loop p index₀ count seen₀ i₀ index seen i = (i ≤ count) × (seen ≡
 abbrev μ-loop : tie.MeasureT-loop
 μ-loop p index₀ count seen₀ i₀ index seen i = count - i
 
--- src/lib.rt:172:5
+-- src/lib.rt:203:5
 loop-holds : tie.Need-loop-holds Inv-loop μ-loop
 unfolding cellsBefore howMany
 loop-holds c = (omega arith, refl, refl, λ j h. absurd (not-suc-le-zero h))
 
--- src/lib.rt:173:20
+-- src/lib.rt:204:20
 cast-index : tie.Need-cast-index Inv-loop μ-loop
 cast-index c = omega (arith, cells-most (c .before .before .before .before .args .p .now) (c .before .loop .i), c .before .before .before .before .pre .0 .small)
 
--- src/lib.rt:173:9
+-- src/lib.rt:204:9
 mul-index : tie.Need-mul-index Inv-loop μ-loop
 mul-index c = omega arith
 
--- src/lib.rt:173:9
+-- src/lib.rt:204:9
 slice-write-index : tie.Need-slice-write-index Inv-loop μ-loop
 slice-write-index c = omega arith
 
--- src/lib.rt:174:21
+-- src/lib.rt:205:21
 kind-of-requires : tie.Need-kind-of-requires Inv-loop μ-loop
 kind-of-requires c κs = let s = c .before .before .before .before .pre .0 in (omega (arith, s .within), omega (arith, s .small))
 
--- src/lib.rt:174:12
+-- src/lib.rt:205:12
 has-cell-requires : tie.Need-has-cell-requires Inv-loop μ-loop
 has-cell-requires c κs = search needs
 
--- src/lib.rt:175:13
+-- src/lib.rt:206:13
 add-seen : tie.Need-add-seen Inv-loop μ-loop
 add-seen c = omega (arith, cells-most (c .before .before .before .before .before .before .before .args .p .now) (c .before .before .before .before .loop .i))
 
--- src/lib.rt:177:9
+-- src/lib.rt:208:9
 add-i : tie.Need-add-i Inv-loop μ-loop
 add-i c = omega arith
 
--- src/lib.rt:172:5
+-- src/lib.rt:203:5
 loop-less : tie.Need-loop-less Inv-loop μ-loop
 loop-less c = omega arith
 
--- src/lib.rt:172:5
+-- src/lib.rt:203:5
 loop-again : tie.Need-loop-again Inv-loop μ-loop
 loop-again c = let p = c .before .before .before .before .before .before .before .args .p .now in
     let i = c .before .before .before .before .loop .i in
@@ -75,17 +76,21 @@ loop-again c = let p = c .before .before .before .before .before .before .before
       one-more p (c .before .before .before .before .loop .index) i _ inside (c .before .before .before .before .loop .inv .1) (c .before .before .before .before .loop .inv .3),
     )
 
--- src/lib.rt:179:5
+-- src/lib.rt:210:5
 index-branches-requires : tie.Need-index-branches-requires Inv-loop μ-loop
-index-branches-requires c κs = (c .before .before .before .before .before .pre .0, c .before .before .before .before .before .pre .1, c .before .before .before .before .before .pre .2, omega (arith, c .before .before .before .before .before .pre .3, c .before .before .loop .inv .2), λ i w. c .before .before .loop .inv .3 i (omega (arith, c .before .before .before .before .before .pre .2, w .inside)))
+index-branches-requires c κs = (c .before .before .before .before .before .pre .0, c .before .before .before .before .before .pre .1, c .before .before .before .before .before .pre .2, omega (arith, c .before .before .before .before .before .pre .3, c .before .before .loop .inv .2))
 
--- src/lib.rt:166:1
+-- src/lib.rt:211:5
+index-places-requires : tie.Need-index-places-requires Inv-loop μ-loop
+index-places-requires c κs = let x = c .before .before .before .before .before .before .before .before .before .pre in (x .0, x .2, omega (arith, x .3, c .before .before .before .index-branches .kept .1 .0, c .before .before .before .before .before .before .loop .inv .2), c .before .before .before .index-branches .ensures .0, λ i w. c .before .before .before .index-branches .ensures .1 i w ∙ c .before .before .before .before .before .before .loop .inv .3 i (omega (arith, x .2, w .inside)))
+
+-- src/lib.rt:197:1
 same-length : tie.Need-same-length Inv-loop μ-loop
-same-length c = c .before .before .index-branches .kept .1 .0 ∙ c .before .before .before .before .before .loop .inv .2
+same-length c = c .before .before .index-places .kept .1 .0 ∙ c .before .before .before .before .before .before .index-branches .kept .1 .0 ∙ c .before .before .before .before .before .before .before .before .before .loop .inv .2
 
--- src/lib.rt:166:1
+-- src/lib.rt:197:1
 returns : tie.Need-returns Inv-loop μ-loop
-returns c = let e : c .before .before .before .before .before .loop .i ≡ c .before .before .before .before .before .before .before .before .args .count = omega arith in (c .before .before .index-branches .ensures, c .before .before .before .before .before .loop .inv .1 ∙ ap (cellsBefore (c .before .before .before .before .before .before .before .before .args .p .now)) e)
+returns c = let e : c .before .before .before .before .before .before .before .before .before .loop .i ≡ c .before .before .before .before .before .before .before .before .before .before .before .before .args .count = omega arith in (c .before .before .index-places .ensures, c .before .before .before .before .before .before .before .before .before .loop .inv .1 ∙ ap (cellsBefore (c .before .before .before .before .before .before .before .before .before .before .before .before .args .p .now)) e)
 
 pub index-cells-spec : {M : Type 1} → statement M
 index-cells-spec =
@@ -104,5 +109,6 @@ index-cells-spec =
     loop-less
     loop-again
     index-branches-requires
+    index-places-requires
     same-length
     returns)

@@ -2,24 +2,20 @@ use Rattle.rules.specs.Layout.{hold}
 use borrow.Author.Needs.{needs}
 use Rattle.moves.proofs.hold.Statement.{statement}
 use Rattle.moves.proofs.hold.Tie as tie
-use Rattle.moves.proofs.hold.Reads as reads
-use Rattle.moves.proofs.hold.Lts as lts
-use Rattle.cells.proofs.number_of.Reads as number-of-reads
-use Rattle.cells.proofs.set_cell.Reads as set-cell-reads
 
--- src/lib.rt:120:18
+-- src/lib.rt:131:18
 number-of-requires : tie.Need-number-of-requires
 number-of-requires c κs = search needs
 
--- src/lib.rt:120:5
+-- src/lib.rt:131:5
 set-cell-requires : tie.Need-set-cell-requires
 set-cell-requires c κs = rw (c .number-of .ensures) (c .before .before .before .before .pre .0 .room)
 
--- src/lib.rt:116:1
+-- src/lib.rt:127:1
 same-length : tie.Need-same-length
 same-length c = search needs
 
--- src/lib.rt:116:1
+-- src/lib.rt:127:1
 returns : tie.Need-returns
 unfolding hold
 returns c = rw (c .before .before .set-cell .ensures, c .before .before .before .number-of .ensures, c .before .before .before .before .before .before .before .pre .1)

@@ -3,11 +3,11 @@ use borrow.Author.Needs.{needs}
 use Rattle.moves.proofs.ruled.Statement.{statement}
 use Rattle.moves.proofs.ruled.Tie as tie
 
--- src/lib.rt:65:5
+-- src/lib.rt:60:5
 after-requires : tie.Need-after-requires
 after-requires c κs = search needs
 
--- src/lib.rt:61:1
+-- src/lib.rt:56:1
 returns : tie.Need-returns
 unfolding ruleᵘ oneRule
 returns c = λ st. c .after .ensures .0 st

@@ -1,7 +1,7 @@
 -- Each arm is the scope of a signal of its kind, from those of its parts; a binder's mark is put back.
 use Rattle.rules.proofs.PutBack.{put-back}
 use Rattle.places.proofs.NumberLaws.{no-place}
-use Rattle.scope.proofs.SignalScope.{no-offer, ext-scope, delay-scope, let-scope, switch-scope, group-scope, until-scope, leaf-scope, branch-last-scope, branch-more-scope, case-last-scope, case-more-scope}
+use Rattle.scope.proofs.SignalScope.{no-offer, own-offer, ext-scope, delay-scope, let-scope, switch-scope, group-scope, until-scope, leaf-scope, branch-last-scope, branch-more-scope, case-last-scope, case-more-scope}
 use Rattle.scope.specs.Offers.{offersAt}
 use Rattle.rules.proofs.Signals.{ext-kid, delay-kid, let-kids, switch-kids, group-kids, until-kids, branch-kid, branch-next, case-kid, case-next}
 use Rattle.rules.proofs.Kids.{Child, read}
@@ -10,7 +10,6 @@ use lib.ListN.{set, getD}
 use Prim.Native.Nat.{_*_, _+_}
 use mathlib.Core.List.{List}
 use borrow.Author.Needs.{needs}
-use Rattle.scope.specs.Offers.{Offered}
 use native.Mathlib.Omega.{arith}
 use mathlib.Core.Path.{_≡_, refl, sym, ap, _∙_}
 use Prim.Native.Nat.{ℕ, _<_}
@@ -36,42 +35,42 @@ use Rattle.places.proofs.wrong_unless.Reads as wrong-unless-reads
 use Rattle.scope.proofs.+inside_s+scope_b+scope_c+scope_s.{statement}
 use Rattle.scope.proofs.+inside_s+scope_b+scope_c+scope_s.Tie.{close}
 
-abbrev μ-inside-s : Measures 3 inside-s-kinds.ps ℕ
-μ-inside-s κs a = 2 * a .1 .1 .1 .0 + 1
+abbrev μ-inside-s : Measures 4 inside-s-kinds.ps ℕ
+μ-inside-s κs a = 2 * a .1 .1 .1 .1 .0 + 1
 
-abbrev μ-scope-b : Measures 3 scope-b-kinds.ps ℕ
-μ-scope-b κs a = 2 * a .1 .1 .0
+abbrev μ-scope-b : Measures 4 scope-b-kinds.ps ℕ
+μ-scope-b κs a = 2 * a .1 .1 .1 .0
 
-abbrev μ-scope-c : Measures 3 scope-c-kinds.ps ℕ
-μ-scope-c κs a = 2 * a .1 .1 .0
+abbrev μ-scope-c : Measures 4 scope-c-kinds.ps ℕ
+μ-scope-c κs a = 2 * a .1 .1 .1 .0
 
-abbrev μ-scope-s : Measures 3 scope-s-kinds.ps ℕ
-μ-scope-s κs a = 2 * a .1 .1 .0
+abbrev μ-scope-s : Measures 4 scope-s-kinds.ps ℕ
+μ-scope-s κs a = 2 * a .1 .1 .1 .0
 
-abbrev inside-s-at : ℕ → In 3 inside-s-kinds.ps
-inside-s-at t = and 3 inside-s-kinds.ps (is 3 inside-s-kinds.ps μ-inside-s t) inside-s.Pre
+abbrev inside-s-at : ℕ → In 4 inside-s-kinds.ps
+inside-s-at t = and 4 inside-s-kinds.ps (is 4 inside-s-kinds.ps μ-inside-s t) inside-s.Pre
 
-abbrev inside-s-below : ℕ → In 3 inside-s-kinds.ps
+abbrev inside-s-below : ℕ → In 4 inside-s-kinds.ps
 inside-s-below t =
-    and 3 inside-s-kinds.ps (falls 3 inside-s-kinds.ps _<_ μ-inside-s t) inside-s.Pre
+    and 4 inside-s-kinds.ps (falls 4 inside-s-kinds.ps _<_ μ-inside-s t) inside-s.Pre
 
-abbrev scope-b-at : ℕ → In 3 scope-b-kinds.ps
-scope-b-at t = and 3 scope-b-kinds.ps (is 3 scope-b-kinds.ps μ-scope-b t) scope-b.Pre
+abbrev scope-b-at : ℕ → In 4 scope-b-kinds.ps
+scope-b-at t = and 4 scope-b-kinds.ps (is 4 scope-b-kinds.ps μ-scope-b t) scope-b.Pre
 
-abbrev scope-b-below : ℕ → In 3 scope-b-kinds.ps
-scope-b-below t = and 3 scope-b-kinds.ps (falls 3 scope-b-kinds.ps _<_ μ-scope-b t) scope-b.Pre
+abbrev scope-b-below : ℕ → In 4 scope-b-kinds.ps
+scope-b-below t = and 4 scope-b-kinds.ps (falls 4 scope-b-kinds.ps _<_ μ-scope-b t) scope-b.Pre
 
-abbrev scope-c-at : ℕ → In 3 scope-c-kinds.ps
-scope-c-at t = and 3 scope-c-kinds.ps (is 3 scope-c-kinds.ps μ-scope-c t) scope-c.Pre
+abbrev scope-c-at : ℕ → In 4 scope-c-kinds.ps
+scope-c-at t = and 4 scope-c-kinds.ps (is 4 scope-c-kinds.ps μ-scope-c t) scope-c.Pre
 
-abbrev scope-c-below : ℕ → In 3 scope-c-kinds.ps
-scope-c-below t = and 3 scope-c-kinds.ps (falls 3 scope-c-kinds.ps _<_ μ-scope-c t) scope-c.Pre
+abbrev scope-c-below : ℕ → In 4 scope-c-kinds.ps
+scope-c-below t = and 4 scope-c-kinds.ps (falls 4 scope-c-kinds.ps _<_ μ-scope-c t) scope-c.Pre
 
-abbrev scope-s-at : ℕ → In 3 scope-s-kinds.ps
-scope-s-at t = and 3 scope-s-kinds.ps (is 3 scope-s-kinds.ps μ-scope-s t) scope-s.Pre
+abbrev scope-s-at : ℕ → In 4 scope-s-kinds.ps
+scope-s-at t = and 4 scope-s-kinds.ps (is 4 scope-s-kinds.ps μ-scope-s t) scope-s.Pre
 
-abbrev scope-s-below : ℕ → In 3 scope-s-kinds.ps
-scope-s-below t = and 3 scope-s-kinds.ps (falls 3 scope-s-kinds.ps _<_ μ-scope-s t) scope-s.Pre
+abbrev scope-s-below : ℕ → In 4 scope-s-kinds.ps
+scope-s-below t = and 4 scope-s-kinds.ps (falls 4 scope-s-kinds.ps _<_ μ-scope-s t) scope-s.Pre
 
 abbrev inside-s-calls : ℕ → inside-s-lts.Claims
 inside-s-calls t = (scope-s-below t, scope-s.Post)
@@ -85,194 +84,194 @@ scope-c-calls t = (node-reads.Asked, node-reads.Learnt, offered-reads.Asked, off
 abbrev scope-s-calls : ℕ → scope-s-lts.Claims
 scope-s-calls t = (node-reads.Asked, node-reads.Learnt, scope-e-reads.Asked, scope-e-reads.Learnt, scope-s-below t, scope-s.Post, inside-s-below t, inside-s.Post, sooner-reads.Asked, sooner-reads.Learnt, scope-b-below t, scope-b.Post, scope-c-below t, scope-c.Post)
 
--- src/lib.rt:153:15
+-- src/lib.rt:155:15
 inside-s-element-copy-out-old : (t : ℕ) → inside-s-lts.Need-element-copy-out-old (inside-s-calls t) (inside-s-at t) inside-s.Post
 inside-s-element-copy-out-old t c = search needs
 
--- src/lib.rt:154:5
+-- src/lib.rt:156:5
 inside-s-element-write-marks : (t : ℕ) → inside-s-lts.Need-element-write-marks (inside-s-calls t) (inside-s-at t) inside-s.Post
 inside-s-element-write-marks t c = search needs
 
--- src/lib.rt:155:9
+-- src/lib.rt:157:9
 inside-s-scope-s-requires : (t : ℕ) → inside-s-lts.Need-scope-s-requires (inside-s-calls t) (inside-s-at t) inside-s.Post
 inside-s-scope-s-requires t c κs = (omega (arith, c .before .before .pre .0), (c .before .before .pre .1 .0, c .before .before .pre .1 .1))
 
--- src/lib.rt:156:5
+-- src/lib.rt:158:5
 inside-s-element-write-marks-2 : (t : ℕ) → inside-s-lts.Need-element-write-marks-2 (inside-s-calls t) (inside-s-at t) inside-s.Post
 inside-s-element-write-marks-2 t c = search needs
 
--- src/lib.rt:149:1
+-- src/lib.rt:144:1
 inside-s-returns :
     (t : ℕ) →
     inside-s-lts.Need-returns (inside-s-calls t) (inside-s-at t) inside-s.Post
 unfolding mark
 inside-s-returns t c = (c .scope-s .ensures .0, ap (λ (l : List ℕ). set l (c .before .before .before .args .i) (getD (c .before .before .before .args .marks .now) (c .before .before .before .args .i) 0)) (c .scope-s .ensures .1) ∙ put-back _ _ 1)
 
--- src/lib.rt:164:9
+-- src/lib.rt:166:9
 scope-b-node-requires : (t : ℕ) → scope-b-lts.Need-node-requires (scope-b-calls t) (scope-b-at t) scope-b.Post
 scope-b-node-requires t c κs = let w = c .before .pre .1 .0 in (omega (arith, w .inside, w .shaped .within), omega (arith, w .inside, w .shaped .small))
 
--- src/lib.rt:165:9
+-- src/lib.rt:167:9
 scope-b-inside-s-requires : (t : ℕ) → scope-b-lts.Need-inside-s-requires (scope-b-calls t) (scope-b-at t) scope-b.Post
 scope-b-inside-s-requires t c κs = let k = read (c .before .node .ensures .a-is) (branch-kid (c .before .before .before .args .p .now .now) (c .before .before .before .args .j) (c .before .before .before .pre .1 .0)) in (omega (arith, k .less, c .before .before .before .pre .0), (k .node, c .before .before .before .pre .1 .1, omega (arith, c .before .before .before .pre .1 .0 .inside, c .before .before .before .pre .1 .0 .shaped .small)))
 
--- src/lib.rt:167:9
+-- src/lib.rt:169:9
 scope-b-sooner-requires : (t : ℕ) → scope-b-lts.Need-sooner-requires (scope-b-calls t) (scope-b-at t) scope-b.Post
 scope-b-sooner-requires t c κs = search needs
 
--- src/lib.rt:167:9
+-- src/lib.rt:169:9
 scope-b-returns : (t : ℕ) → scope-b-lts.Need-returns (scope-b-calls t) (scope-b-at t) scope-b.Post
 scope-b-returns t c = (cc (branch-last-scope (c .before .before .before .before .before .before .before .args .p .now .now) (c .before .before .before .before .before .before .before .args .j) (c .before .before .before .before .before .before .before .pre .1 .0) (c .before .before .before .before .before .before .before .args .marks .now) (offersAt (c .before .before .before .before .before .before .before .args .p .now .now) (c .before .before .before .before .before .before .before .args .group)) (sym (c .before .before .before .before .before .node .ensures .b-is) ∙ c .before .if1 .taken), no-place), c .before .before .before .inside-s .ensures .1)
 
--- src/lib.rt:169:9
+-- src/lib.rt:171:9
 scope-b-scope-b-requires : (t : ℕ) → scope-b-lts.Need-scope-b-requires (scope-b-calls t) (scope-b-at t) scope-b.Post
 scope-b-scope-b-requires t c κs = let k = read (c .before .before .before .before .before .node .ensures .b-is) (branch-next (c .before .before .before .before .before .before .before .args .p .now .now) (c .before .before .before .before .before .before .before .args .j) (c .before .before .before .before .before .before .before .pre .1 .0) (λ h. c .before .if1 .left (c .before .before .before .before .before .node .ensures .b-is ∙ h))) in (omega (arith, k .less, c .before .before .before .before .before .before .before .pre .0), (k .node, c .before .before .before .before .before .before .before .pre .1 .1))
 
--- src/lib.rt:170:5
+-- src/lib.rt:172:5
 scope-b-sooner-requires-2 : (t : ℕ) → scope-b-lts.Need-sooner-requires-2 (scope-b-calls t) (scope-b-at t) scope-b.Post
 scope-b-sooner-requires-2 t c κs = search needs
 
--- src/lib.rt:160:1
+-- src/lib.rt:162:1
 scope-b-returns-2 : (t : ℕ) → scope-b-lts.Need-returns-2 (scope-b-calls t) (scope-b-at t) scope-b.Post
 scope-b-returns-2 t c = (cc (branch-more-scope (c .before .before .before .before .before .before .before .before .before .args .p .now .now) (c .before .before .before .before .before .before .before .before .before .args .j) (c .before .before .before .before .before .before .before .before .before .pre .1 .0) (c .before .before .before .before .before .before .before .before .before .args .marks .now) (offersAt (c .before .before .before .before .before .before .before .before .before .args .p .now .now) (c .before .before .before .before .before .before .before .before .before .args .group)) (λ h. c .before .before .before .if1 .left (c .before .before .before .before .before .before .before .node .ensures .b-is ∙ h))), c .before .scope-b .ensures .1 ∙ c .before .before .before .before .before .inside-s .ensures .1)
 
--- src/lib.rt:177:9
+-- src/lib.rt:179:9
 scope-c-node-requires : (t : ℕ) → scope-c-lts.Need-node-requires (scope-c-calls t) (scope-c-at t) scope-c.Post
 scope-c-node-requires t c κs = let w = c .before .pre .1 .0 in (omega (arith, w .inside, w .shaped .within), omega (arith, w .inside, w .shaped .small))
 
--- src/lib.rt:178:29
+-- src/lib.rt:180:29
 scope-c-offered-requires : (t : ℕ) → scope-c-lts.Need-offered-requires (scope-c-calls t) (scope-c-at t) scope-c.Post
 scope-c-offered-requires t c κs = c .before .before .pre .1 .1
 
--- src/lib.rt:178:9
+-- src/lib.rt:180:9
 scope-c-wrong-unless-requires : (t : ℕ) → scope-c-lts.Need-wrong-unless-requires (scope-c-calls t) (scope-c-at t) scope-c.Post
 scope-c-wrong-unless-requires t c κs = omega (arith, c .before .before .before .pre .1 .0 .inside, c .before .before .before .pre .1 .0 .shaped .small)
 
--- src/lib.rt:179:9
+-- src/lib.rt:181:9
 scope-c-scope-s-requires : (t : ℕ) → scope-c-lts.Need-scope-s-requires (scope-c-calls t) (scope-c-at t) scope-c.Post
-scope-c-scope-s-requires t c κs = let k = read (c .before .before .before .node .ensures .a-is) (case-kid (c .before .before .before .before .before .args .p .now .now) (c .before .before .before .before .before .args .j) (c .before .before .before .before .before .pre .1 .0)) in (omega (arith, k .less, c .before .before .before .before .before .pre .0), (k .node, no-offer (c .before .before .before .before .before .args .p .now .now)))
+scope-c-scope-s-requires t c κs = let k = read (c .before .before .before .node .ensures .a-is) (case-kid (c .before .before .before .before .before .args .p .now .now) (c .before .before .before .before .before .args .j) (c .before .before .before .before .before .pre .1 .0)) in (omega (arith, k .less, c .before .before .before .before .before .pre .0), (k .node, no-offer (c .before .before .before .before .before .pre .1 .1 .listed)))
 
--- src/lib.rt:181:29
+-- src/lib.rt:183:29
 scope-c-sooner-requires : (t : ℕ) → scope-c-lts.Need-sooner-requires (scope-c-calls t) (scope-c-at t) scope-c.Post
 scope-c-sooner-requires t c κs = search needs
 
--- src/lib.rt:181:9
+-- src/lib.rt:183:9
 scope-c-sooner-requires-2 : (t : ℕ) → scope-c-lts.Need-sooner-requires-2 (scope-c-calls t) (scope-c-at t) scope-c.Post
 scope-c-sooner-requires-2 t c κs = search needs
 
--- src/lib.rt:181:9
+-- src/lib.rt:183:9
 scope-c-returns : (t : ℕ) → scope-c-lts.Need-returns (scope-c-calls t) (scope-c-at t) scope-c.Post
 scope-c-returns t c = (cc (case-last-scope (c .before .before .before .before .before .before .before .before .before .before .args .p .now .now) (c .before .before .before .before .before .before .before .before .before .before .args .j) (c .before .before .before .before .before .before .before .before .before .before .pre .1 .0) (c .before .before .before .before .before .before .before .before .before .before .args .marks .now) (offersAt (c .before .before .before .before .before .before .before .before .before .before .args .p .now .now) (c .before .before .before .before .before .before .before .before .before .before .args .group)) (sym (c .before .before .before .before .before .before .before .before .node .ensures .b-is) ∙ c .before .before .if1 .taken), no-place), c .before .before .before .before .scope-s .ensures .1)
 
--- src/lib.rt:183:9
+-- src/lib.rt:185:9
 scope-c-scope-c-requires : (t : ℕ) → scope-c-lts.Need-scope-c-requires (scope-c-calls t) (scope-c-at t) scope-c.Post
 scope-c-scope-c-requires t c κs = let k = read (c .before .before .before .before .before .before .before .node .ensures .b-is) (case-next (c .before .before .before .before .before .before .before .before .before .args .p .now .now) (c .before .before .before .before .before .before .before .before .before .args .j) (c .before .before .before .before .before .before .before .before .before .pre .1 .0) (λ h. c .before .if1 .left (c .before .before .before .before .before .before .before .node .ensures .b-is ∙ h))) in (omega (arith, k .less, c .before .before .before .before .before .before .before .before .before .pre .0), (k .node, c .before .before .before .before .before .before .before .before .before .pre .1 .1))
 
--- src/lib.rt:184:18
+-- src/lib.rt:186:18
 scope-c-sooner-requires-3 : (t : ℕ) → scope-c-lts.Need-sooner-requires-3 (scope-c-calls t) (scope-c-at t) scope-c.Post
 scope-c-sooner-requires-3 t c κs = search needs
 
--- src/lib.rt:184:5
+-- src/lib.rt:186:5
 scope-c-sooner-requires-4 : (t : ℕ) → scope-c-lts.Need-sooner-requires-4 (scope-c-calls t) (scope-c-at t) scope-c.Post
 scope-c-sooner-requires-4 t c κs = search needs
 
--- src/lib.rt:173:1
+-- src/lib.rt:175:1
 scope-c-returns-2 : (t : ℕ) → scope-c-lts.Need-returns-2 (scope-c-calls t) (scope-c-at t) scope-c.Post
 scope-c-returns-2 t c = (cc (case-more-scope (c .before .before .before .before .before .before .before .before .before .before .before .before .args .p .now .now) (c .before .before .before .before .before .before .before .before .before .before .before .before .args .j) (c .before .before .before .before .before .before .before .before .before .before .before .before .pre .1 .0) (c .before .before .before .before .before .before .before .before .before .before .before .before .args .marks .now) (offersAt (c .before .before .before .before .before .before .before .before .before .before .before .before .args .p .now .now) (c .before .before .before .before .before .before .before .before .before .before .before .before .args .group)) (λ h. c .before .before .before .before .if1 .left (c .before .before .before .before .before .before .before .before .before .before .node .ensures .b-is ∙ h))), c .before .before .scope-c .ensures .1 ∙ c .before .before .before .before .before .before .scope-s .ensures .1)
 
--- src/lib.rt:118:9
+-- src/lib.rt:113:9
 scope-s-node-requires : (t : ℕ) → scope-s-lts.Need-node-requires (scope-s-calls t) (scope-s-at t) scope-s.Post
 scope-s-node-requires t c κs = let w = c .before .pre .1 .0 in (omega (arith, w .inside, w .shaped .within), omega (arith, w .inside, w .shaped .small))
 
--- src/lib.rt:121:14
+-- src/lib.rt:116:14
 scope-s-scope-e-requires : (t : ℕ) → scope-s-lts.Need-scope-e-requires (scope-s-calls t) (scope-s-at t) scope-s.Post
 scope-s-scope-e-requires t c κs = let k = read (c .before .before .node .ensures .a-is) (ext-kid (c .before .before .before .before .args .p .now .now) (c .before .before .before .before .args .i) (c .before .before .before .before .pre .1 .0) (sym (c .before .before .node .ensures .kind-is) ∙ c .before .match .keys1)) in k .node
 
--- src/lib.rt:122:14
+-- src/lib.rt:117:14
 scope-s-scope-s-requires : (t : ℕ) → scope-s-lts.Need-scope-s-requires (scope-s-calls t) (scope-s-at t) scope-s.Post
-scope-s-scope-s-requires t c κs = let k = read (c .before .before .node .ensures .a-is) (delay-kid (c .before .before .before .before .args .p .now .now) (c .before .before .before .before .args .i) (c .before .before .before .before .pre .1 .0) (sym (c .before .before .node .ensures .kind-is) ∙ c .before .match .keys2)) in (omega (arith, k .less, c .before .before .before .before .pre .0), (k .node, let none = no-offer (c .before .before .before .before .args .p .now .now) in let above = c .before .before .before .before .pre .1 .1 in search needs))
+scope-s-scope-s-requires t c κs = let k = read (c .before .before .node .ensures .a-is) (delay-kid (c .before .before .before .before .args .p .now .now) (c .before .before .before .before .args .i) (c .before .before .before .before .pre .1 .0) (sym (c .before .before .node .ensures .kind-is) ∙ c .before .match .keys2)) in (omega (arith, k .less, c .before .before .before .before .pre .0), (k .node, no-offer (c .before .before .before .before .pre .1 .1 .listed)))
 
--- src/lib.rt:124:17
+-- src/lib.rt:119:17
 scope-s-inside-s-requires : (t : ℕ) → scope-s-lts.Need-inside-s-requires (scope-s-calls t) (scope-s-at t) scope-s.Post
-scope-s-inside-s-requires t c κs = let k = read (c .before .before .node .ensures .a-is) (let-kids (c .before .before .before .before .args .p .now .now) (c .before .before .before .before .args .i) (c .before .before .before .before .pre .1 .0) (sym (c .before .before .node .ensures .kind-is) ∙ c .before .match .keys3) .0) in (omega (arith, k .less, c .before .before .before .before .pre .0), (k .node, no-offer (c .before .before .before .before .args .p .now .now), omega (arith, c .before .before .before .before .pre .1 .0 .inside, c .before .before .before .before .pre .1 .0 .shaped .small)))
+scope-s-inside-s-requires t c κs = let k = read (c .before .before .node .ensures .a-is) (let-kids (c .before .before .before .before .args .p .now .now) (c .before .before .before .before .args .i) (c .before .before .before .before .pre .1 .0) (sym (c .before .before .node .ensures .kind-is) ∙ c .before .match .keys3) .0) in (omega (arith, k .less, c .before .before .before .before .pre .0), (k .node, no-offer (c .before .before .before .before .pre .1 .1 .listed), omega (arith, c .before .before .before .before .pre .1 .0 .inside, c .before .before .before .before .pre .1 .0 .shaped .small)))
 
--- src/lib.rt:125:17
+-- src/lib.rt:120:17
 scope-s-inside-s-requires-2 : (t : ℕ) → scope-s-lts.Need-inside-s-requires-2 (scope-s-calls t) (scope-s-at t) scope-s.Post
 scope-s-inside-s-requires-2 t c κs = let k = read (c .before .before .before .before .node .ensures .b-is) (let-kids (c .before .before .before .before .before .before .args .p .now .now) (c .before .before .before .before .before .before .args .i) (c .before .before .before .before .before .before .pre .1 .0) (sym (c .before .before .before .before .node .ensures .kind-is) ∙ c .before .before .before .match .keys3) .1) in (omega (arith, k .less, c .before .before .before .before .before .before .pre .0), (k .node, c .before .before .before .before .before .before .pre .1 .1, omega (arith, c .before .before .before .before .before .before .pre .1 .0 .inside, c .before .before .before .before .before .before .pre .1 .0 .shaped .small)))
 
--- src/lib.rt:126:13
+-- src/lib.rt:121:13
 scope-s-sooner-requires : (t : ℕ) → scope-s-lts.Need-sooner-requires (scope-s-calls t) (scope-s-at t) scope-s.Post
 scope-s-sooner-requires t c κs = search needs
 
--- src/lib.rt:129:17
+-- src/lib.rt:124:17
 scope-s-scope-s-requires-2 : (t : ℕ) → scope-s-lts.Need-scope-s-requires-2 (scope-s-calls t) (scope-s-at t) scope-s.Post
-scope-s-scope-s-requires-2 t c κs = let k = read (c .before .before .node .ensures .a-is) (switch-kids (c .before .before .before .before .args .p .now .now) (c .before .before .before .before .args .i) (c .before .before .before .before .pre .1 .0) (sym (c .before .before .node .ensures .kind-is) ∙ c .before .match .keys4) .0) in (omega (arith, k .less, c .before .before .before .before .pre .0), (k .node, no-offer (c .before .before .before .before .args .p .now .now)))
+scope-s-scope-s-requires-2 t c κs = let k = read (c .before .before .node .ensures .a-is) (switch-kids (c .before .before .before .before .args .p .now .now) (c .before .before .before .before .args .i) (c .before .before .before .before .pre .1 .0) (sym (c .before .before .node .ensures .kind-is) ∙ c .before .match .keys4) .0) in (omega (arith, k .less, c .before .before .before .before .pre .0), (k .node, no-offer (c .before .before .before .before .pre .1 .1 .listed)))
 
--- src/lib.rt:130:17
+-- src/lib.rt:125:17
 scope-s-scope-s-requires-3 : (t : ℕ) → scope-s-lts.Need-scope-s-requires-3 (scope-s-calls t) (scope-s-at t) scope-s.Post
-scope-s-scope-s-requires-3 t c κs = let k = read (c .before .before .before .before .node .ensures .b-is) (switch-kids (c .before .before .before .before .before .before .args .p .now .now) (c .before .before .before .before .before .before .args .i) (c .before .before .before .before .before .before .pre .1 .0) (sym (c .before .before .before .before .node .ensures .kind-is) ∙ c .before .before .before .match .keys4) .1) in (omega (arith, k .less, c .before .before .before .before .before .before .pre .0), (k .node, no-offer (c .before .before .before .before .before .before .args .p .now .now)))
+scope-s-scope-s-requires-3 t c κs = let k = read (c .before .before .before .before .node .ensures .b-is) (switch-kids (c .before .before .before .before .before .before .args .p .now .now) (c .before .before .before .before .before .before .args .i) (c .before .before .before .before .before .before .pre .1 .0) (sym (c .before .before .before .before .node .ensures .kind-is) ∙ c .before .before .before .match .keys4) .1) in (omega (arith, k .less, c .before .before .before .before .before .before .pre .0), (k .node, no-offer (c .before .before .before .before .before .before .pre .1 .1 .listed)))
 
--- src/lib.rt:131:17
+-- src/lib.rt:126:17
 scope-s-inside-s-requires-3 : (t : ℕ) → scope-s-lts.Need-inside-s-requires-3 (scope-s-calls t) (scope-s-at t) scope-s.Post
-scope-s-inside-s-requires-3 t c κs = let k = read (c .before .before .before .before .before .before .node .ensures .c-is) (switch-kids (c .before .before .before .before .before .before .before .before .args .p .now .now) (c .before .before .before .before .before .before .before .before .args .i) (c .before .before .before .before .before .before .before .before .pre .1 .0) (sym (c .before .before .before .before .before .before .node .ensures .kind-is) ∙ c .before .before .before .before .before .match .keys4) .2) in (omega (arith, k .less, c .before .before .before .before .before .before .before .before .pre .0), (k .node, no-offer (c .before .before .before .before .before .before .before .before .args .p .now .now), omega (arith, c .before .before .before .before .before .before .before .before .pre .1 .0 .inside, c .before .before .before .before .before .before .before .before .pre .1 .0 .shaped .small)))
+scope-s-inside-s-requires-3 t c κs = let k = read (c .before .before .before .before .before .before .node .ensures .c-is) (switch-kids (c .before .before .before .before .before .before .before .before .args .p .now .now) (c .before .before .before .before .before .before .before .before .args .i) (c .before .before .before .before .before .before .before .before .pre .1 .0) (sym (c .before .before .before .before .before .before .node .ensures .kind-is) ∙ c .before .before .before .before .before .match .keys4) .2) in (omega (arith, k .less, c .before .before .before .before .before .before .before .before .pre .0), (k .node, no-offer (c .before .before .before .before .before .before .before .before .pre .1 .1 .listed), omega (arith, c .before .before .before .before .before .before .before .before .pre .1 .0 .inside, c .before .before .before .before .before .before .before .before .pre .1 .0 .shaped .small)))
 
--- src/lib.rt:132:23
+-- src/lib.rt:127:23
 scope-s-sooner-requires-2 : (t : ℕ) → scope-s-lts.Need-sooner-requires-2 (scope-s-calls t) (scope-s-at t) scope-s.Post
 scope-s-sooner-requires-2 t c κs = search needs
 
--- src/lib.rt:132:13
+-- src/lib.rt:127:13
 scope-s-sooner-requires-3 : (t : ℕ) → scope-s-lts.Need-sooner-requires-3 (scope-s-calls t) (scope-s-at t) scope-s.Post
 scope-s-sooner-requires-3 t c κs = search needs
 
--- src/lib.rt:135:17
+-- src/lib.rt:130:17
 scope-s-scope-s-requires-4 : (t : ℕ) → scope-s-lts.Need-scope-s-requires-4 (scope-s-calls t) (scope-s-at t) scope-s.Post
-scope-s-scope-s-requires-4 t c κs = let k = read (c .before .before .node .ensures .a-is) (group-kids (c .before .before .before .before .args .p .now .now) (c .before .before .before .before .args .i) (c .before .before .before .before .pre .1 .0) (sym (c .before .before .node .ensures .kind-is) ∙ c .before .match .keys5) .0) in (omega (arith, k .less, c .before .before .before .before .pre .0), (k .node, let own : Offered (c .before .before .before .before .args .p .now .now) (c .before .before .node .result .b) = record { offered = λ d. read (c .before .before .node .ensures .b-is) (group-kids (c .before .before .before .before .args .p .now .now) (c .before .before .before .before .args .i) (c .before .before .before .before .pre .1 .0) (sym (c .before .before .node .ensures .kind-is) ∙ c .before .match .keys5) .1) .node } in let above = c .before .before .before .before .pre .1 .1 in search needs))
+scope-s-scope-s-requires-4 t c κs = let k = read (c .before .before .node .ensures .a-is) (group-kids (c .before .before .before .before .args .p .now .now) (c .before .before .before .before .args .i) (c .before .before .before .before .pre .1 .0) (sym (c .before .before .node .ensures .kind-is) ∙ c .before .match .keys5) .0) in (omega (arith, k .less, c .before .before .before .before .pre .0), (k .node, own-offer (c .before .before .before .before .pre .1 .1 .listed) (c .before .before .before .before .pre .1 .0) (sym (c .before .before .node .ensures .kind-is) ∙ c .before .match .keys5) (c .before .before .node .ensures .b-is)))
 
--- src/lib.rt:136:17
+-- src/lib.rt:131:17
 scope-s-scope-b-requires : (t : ℕ) → scope-s-lts.Need-scope-b-requires (scope-s-calls t) (scope-s-at t) scope-s.Post
-scope-s-scope-b-requires t c κs = let k = read (c .before .before .before .before .node .ensures .b-is) (group-kids (c .before .before .before .before .before .before .args .p .now .now) (c .before .before .before .before .before .before .args .i) (c .before .before .before .before .before .before .pre .1 .0) (sym (c .before .before .before .before .node .ensures .kind-is) ∙ c .before .before .before .match .keys5) .1) in (omega (arith, k .less, c .before .before .before .before .before .before .pre .0), (k .node, record { offered = λ d. read (c .before .before .before .before .node .ensures .b-is) (group-kids (c .before .before .before .before .before .before .args .p .now .now) (c .before .before .before .before .before .before .args .i) (c .before .before .before .before .before .before .pre .1 .0) (sym (c .before .before .before .before .node .ensures .kind-is) ∙ c .before .before .before .match .keys5) .1) .node }))
+scope-s-scope-b-requires t c κs = let k = read (c .before .before .before .before .node .ensures .b-is) (group-kids (c .before .before .before .before .before .before .args .p .now .now) (c .before .before .before .before .before .before .args .i) (c .before .before .before .before .before .before .pre .1 .0) (sym (c .before .before .before .before .node .ensures .kind-is) ∙ c .before .before .before .match .keys5) .1) in (omega (arith, k .less, c .before .before .before .before .before .before .pre .0), (k .node, own-offer (c .before .before .before .before .before .before .pre .1 .1 .listed) (c .before .before .before .before .before .before .pre .1 .0) (sym (c .before .before .before .before .node .ensures .kind-is) ∙ c .before .before .before .match .keys5) (c .before .before .before .before .node .ensures .b-is)))
 
--- src/lib.rt:137:13
+-- src/lib.rt:132:13
 scope-s-sooner-requires-4 : (t : ℕ) → scope-s-lts.Need-sooner-requires-4 (scope-s-calls t) (scope-s-at t) scope-s.Post
 scope-s-sooner-requires-4 t c κs = search needs
 
--- src/lib.rt:140:17
+-- src/lib.rt:135:17
 scope-s-scope-s-requires-5 : (t : ℕ) → scope-s-lts.Need-scope-s-requires-5 (scope-s-calls t) (scope-s-at t) scope-s.Post
-scope-s-scope-s-requires-5 t c κs = let k = read (c .before .before .node .ensures .a-is) (until-kids (c .before .before .before .before .args .p .now .now) (c .before .before .before .before .args .i) (c .before .before .before .before .pre .1 .0) (sym (c .before .before .node .ensures .kind-is) ∙ c .before .match .keys6) .0) in (omega (arith, k .less, c .before .before .before .before .pre .0), (k .node, no-offer (c .before .before .before .before .args .p .now .now)))
+scope-s-scope-s-requires-5 t c κs = let k = read (c .before .before .node .ensures .a-is) (until-kids (c .before .before .before .before .args .p .now .now) (c .before .before .before .before .args .i) (c .before .before .before .before .pre .1 .0) (sym (c .before .before .node .ensures .kind-is) ∙ c .before .match .keys6) .0) in (omega (arith, k .less, c .before .before .before .before .pre .0), (k .node, no-offer (c .before .before .before .before .pre .1 .1 .listed)))
 
--- src/lib.rt:141:17
+-- src/lib.rt:136:17
 scope-s-scope-c-requires : (t : ℕ) → scope-s-lts.Need-scope-c-requires (scope-s-calls t) (scope-s-at t) scope-s.Post
 scope-s-scope-c-requires t c κs = let k = read (c .before .before .before .before .node .ensures .b-is) (until-kids (c .before .before .before .before .before .before .args .p .now .now) (c .before .before .before .before .before .before .args .i) (c .before .before .before .before .before .before .pre .1 .0) (sym (c .before .before .before .before .node .ensures .kind-is) ∙ c .before .before .before .match .keys6) .1) in (omega (arith, k .less, c .before .before .before .before .before .before .pre .0), (k .node, c .before .before .before .before .before .before .pre .1 .1))
 
--- src/lib.rt:142:13
+-- src/lib.rt:137:13
 scope-s-sooner-requires-5 : (t : ℕ) → scope-s-lts.Need-sooner-requires-5 (scope-s-calls t) (scope-s-at t) scope-s.Post
 scope-s-sooner-requires-5 t c κs = search needs
 
--- src/lib.rt:114:1
+-- src/lib.rt:103:1
 scope-s-returns : (t : ℕ) → scope-s-lts.Need-returns (scope-s-calls t) (scope-s-at t) scope-s.Post
 scope-s-returns t c = (cc (ext-scope (c .before .before .before .before .before .args .p .now .now) (c .before .before .before .before .before .args .i) (c .before .before .before .before .before .pre .1 .0) (c .before .before .before .before .before .args .marks .now) (offersAt (c .before .before .before .before .before .args .p .now .now) (c .before .before .before .before .before .args .group)) (sym (c .before .before .before .node .ensures .kind-is) ∙ c .before .before .match .keys1)), c .scope-e .ensures .1)
 
--- src/lib.rt:114:1
+-- src/lib.rt:103:1
 scope-s-returns-2 : (t : ℕ) → scope-s-lts.Need-returns-2 (scope-s-calls t) (scope-s-at t) scope-s.Post
 scope-s-returns-2 t c = (cc (delay-scope (c .before .before .before .before .before .args .p .now .now) (c .before .before .before .before .before .args .i) (c .before .before .before .before .before .pre .1 .0) (c .before .before .before .before .before .args .marks .now) (offersAt (c .before .before .before .before .before .args .p .now .now) (c .before .before .before .before .before .args .group)) (sym (c .before .before .before .node .ensures .kind-is) ∙ c .before .before .match .keys2)), c .scope-s .ensures .1)
 
--- src/lib.rt:114:1
+-- src/lib.rt:103:1
 scope-s-returns-3 : (t : ℕ) → scope-s-lts.Need-returns-3 (scope-s-calls t) (scope-s-at t) scope-s.Post
 scope-s-returns-3 t c = (cc (let-scope (c .before .before .before .before .before .before .before .before .args .p .now .now) (c .before .before .before .before .before .before .before .before .args .i) (c .before .before .before .before .before .before .before .before .pre .1 .0) (c .before .before .before .before .before .before .before .before .args .marks .now) (offersAt (c .before .before .before .before .before .before .before .before .args .p .now .now) (c .before .before .before .before .before .before .before .before .args .group)) (sym (c .before .before .before .before .before .before .node .ensures .kind-is) ∙ c .before .before .before .before .before .match .keys3)), c .before .inside-s2 .ensures .1 ∙ c .before .before .before .inside-s .ensures .1)
 
--- src/lib.rt:114:1
+-- src/lib.rt:103:1
 scope-s-returns-4 : (t : ℕ) → scope-s-lts.Need-returns-4 (scope-s-calls t) (scope-s-at t) scope-s.Post
 scope-s-returns-4 t c = (cc (switch-scope (c .before .before .before .before .before .before .before .before .before .before .before .args .p .now .now) (c .before .before .before .before .before .before .before .before .before .before .before .args .i) (c .before .before .before .before .before .before .before .before .before .before .before .pre .1 .0) (c .before .before .before .before .before .before .before .before .before .before .before .args .marks .now) (offersAt (c .before .before .before .before .before .before .before .before .before .before .before .args .p .now .now) (c .before .before .before .before .before .before .before .before .before .before .before .args .group)) (sym (c .before .before .before .before .before .before .before .before .before .node .ensures .kind-is) ∙ c .before .before .before .before .before .before .before .before .match .keys4)), c .before .before .inside-s3 .ensures .1 ∙ c .before .before .before .before .scope-s3 .ensures .1 ∙ c .before .before .before .before .before .before .scope-s2 .ensures .1)
 
--- src/lib.rt:114:1
+-- src/lib.rt:103:1
 scope-s-returns-5 : (t : ℕ) → scope-s-lts.Need-returns-5 (scope-s-calls t) (scope-s-at t) scope-s.Post
 scope-s-returns-5 t c = (cc (group-scope (c .before .before .before .before .before .before .before .before .args .p .now .now) (c .before .before .before .before .before .before .before .before .args .i) (c .before .before .before .before .before .before .before .before .pre .1 .0) (c .before .before .before .before .before .before .before .before .args .marks .now) (offersAt (c .before .before .before .before .before .before .before .before .args .p .now .now) (c .before .before .before .before .before .before .before .before .args .group)) (sym (c .before .before .before .before .before .before .node .ensures .kind-is) ∙ c .before .before .before .before .before .match .keys5)), c .before .scope-b .ensures .1 ∙ c .before .before .before .scope-s4 .ensures .1)
 
--- src/lib.rt:114:1
+-- src/lib.rt:103:1
 scope-s-returns-6 : (t : ℕ) → scope-s-lts.Need-returns-6 (scope-s-calls t) (scope-s-at t) scope-s.Post
 scope-s-returns-6 t c = (cc (until-scope (c .before .before .before .before .before .before .before .before .args .p .now .now) (c .before .before .before .before .before .before .before .before .args .i) (c .before .before .before .before .before .before .before .before .pre .1 .0) (c .before .before .before .before .before .before .before .before .args .marks .now) (offersAt (c .before .before .before .before .before .before .before .before .args .p .now .now) (c .before .before .before .before .before .before .before .before .args .group)) (sym (c .before .before .before .before .before .before .node .ensures .kind-is) ∙ c .before .before .before .before .before .match .keys6)), c .before .scope-c .ensures .1 ∙ c .before .before .before .scope-s5 .ensures .1)
 
--- src/lib.rt:114:1
+-- src/lib.rt:103:1
 scope-s-returns-7 : (t : ℕ) → scope-s-lts.Need-returns-7 (scope-s-calls t) (scope-s-at t) scope-s.Post
 scope-s-returns-7 t c = (cc (leaf-scope (c .before .before .before .args .p .now .now) (c .before .before .before .args .i) (c .before .before .before .pre .1 .0) (c .before .before .before .args .marks .now) (offersAt (c .before .before .before .args .p .now .now) (c .before .before .before .args .group)) (c .before .node .ensures .kind-is) (c .match .rest), no-place), refl)
 

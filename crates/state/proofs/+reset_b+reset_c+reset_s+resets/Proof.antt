@@ -20,13 +20,13 @@ use Rattle.state.proofs.reset_s.Kinds as reset-s-kinds
 use Rattle.state.proofs.+reset_b+reset_c+reset_s+resets.Lts-reset_s as reset-s-lts
 use Rattle.state.proofs.first_value.Reads as first-value-reads
 use Rattle.state.proofs.set_own.Reads as set-own-reads
-use Rattle.table.proofs.node.Reads as node-reads
+use Rattle.cells.proofs.node_by.Reads as node-by-reads
 use Rattle.state.proofs.+reset_b+reset_c+reset_s+resets.{statement}
 use Rattle.state.proofs.+reset_b+reset_c+reset_s+resets.Tie.{close}
 use Rattle.state.proofs.resets.Reads as resets
 use Rattle.state.proofs.resets.Kinds as resets-kinds
 use Rattle.state.proofs.+reset_b+reset_c+reset_s+resets.Lts-resets as resets-lts
-use Rattle.cells.proofs.kind_of.Reads as kind-of-reads
+use Rattle.cells.proofs.kind_by.Reads as kind-by-reads
 
 abbrev μ-resets : Measures 4 resets-kinds.ps ℕ
 μ-resets κs a = 2 * a .1 .1 .1 .0 + 1
@@ -65,35 +65,35 @@ abbrev reset-s-below : ℕ → In 4 reset-s-kinds.ps
 reset-s-below t = and 4 reset-s-kinds.ps (falls 4 reset-s-kinds.ps _<_ μ-reset-s t) reset-s.Pre
 
 abbrev reset-b-calls : ℕ → reset-b-lts.Claims
-reset-b-calls t = (node-reads.Asked, node-reads.Learnt, resets-below t, resets.Post, reset-b-below t, reset-b.Post)
+reset-b-calls t = (node-by-reads.Asked, node-by-reads.Learnt, resets-below t, resets.Post, reset-b-below t, reset-b.Post)
 
 abbrev reset-c-calls : ℕ → reset-c-lts.Claims
-reset-c-calls t = (node-reads.Asked, node-reads.Learnt, resets-below t, resets.Post, reset-c-below t, reset-c.Post)
+reset-c-calls t = (node-by-reads.Asked, node-by-reads.Learnt, resets-below t, resets.Post, reset-c-below t, reset-c.Post)
 
 abbrev reset-s-calls : ℕ → reset-s-lts.Claims
-reset-s-calls t = (node-reads.Asked, node-reads.Learnt, first-value-reads.Asked, first-value-reads.Learnt, set-own-reads.Asked, set-own-reads.Learnt, resets-below t, resets.Post, reset-b-below t, reset-b.Post, reset-c-below t, reset-c.Post)
+reset-s-calls t = (node-by-reads.Asked, node-by-reads.Learnt, first-value-reads.Asked, first-value-reads.Learnt, set-own-reads.Asked, set-own-reads.Learnt, resets-below t, resets.Post, reset-b-below t, reset-b.Post, reset-c-below t, reset-c.Post)
 
 abbrev resets-calls : ℕ → resets-lts.Claims
-resets-calls t = (kind-of-reads.Asked, kind-of-reads.Learnt, reset-s-below t, reset-s.Post)
+resets-calls t = (kind-by-reads.Asked, kind-by-reads.Learnt, reset-s-below t, reset-s.Post)
 
 -- src/lib.rt:100:9
-reset-b-node-requires : (t : ℕ) → reset-b-lts.Need-node-requires (reset-b-calls t) (reset-b-at t) reset-b.Post
-reset-b-node-requires t c κs =
-    let w = c .before .before .pre .1 .node in
-    (omega (arith, w .inside, w .shaped .within), omega (arith, w .inside, w .shaped .small))
+reset-b-node-by-requires : (t : ℕ) → reset-b-lts.Need-node-by-requires (reset-b-calls t) (reset-b-at t) reset-b.Post
+reset-b-node-by-requires t c κs =
+    let w = c .before .before .pre .1 in
+    (w .indexed, w .node .shaped, w .node .inside)
 
 -- src/lib.rt:101:5
 reset-b-resets-requires : (t : ℕ) → reset-b-lts.Need-resets-requires (reset-b-calls t) (reset-b-at t) reset-b.Post
 reset-b-resets-requires t c κs =
     let s = c .before .before .before .before in
-    let k = read (c .before .node .ensures .a-is) (branch-kid (s .args .p .now .now) (s .args .j) (s .pre .1 .node)) in
+    let k = read (c .before .node-by .ensures .a-is) (branch-kid (s .args .p .now .now) (s .args .j) (s .pre .1 .node)) in
     (omega (arith, k .less, s .pre .0), carried (s .pre .1) (refl) k)
 
 -- src/lib.rt:103:9
 reset-b-reset-b-requires : (t : ℕ) → reset-b-lts.Need-reset-b-requires (reset-b-calls t) (reset-b-at t) reset-b.Post
 reset-b-reset-b-requires t c κs =
     let s = c .before .before .before .before .before .before .before .before .before .before in
-    let node = c .before .before .before .before .before .before .before .node .ensures in
+    let node = c .before .before .before .before .before .before .before .node-by .ensures in
     let k = read (node .b-is) (branch-next (s .args .p .now .now) (s .args .j) (s .pre .1 .node) (λ h. c .before .if1 .taken (node .b-is ∙ h))) in
     (omega (arith, k .less, s .pre .0), carried (s .pre .1) (c .before .before .before .before .before .resets .kept .1 .1 .0) k)
 
@@ -105,7 +105,7 @@ reset-b-same-length t c = c .before .before .reset-b .kept .1 .1 .0 ∙ c .befor
 reset-b-returns : (t : ℕ) → reset-b-lts.Need-returns (reset-b-calls t) (reset-b-at t) reset-b.Post
 reset-b-returns t c =
     let s = c .before .before .before .before .before .before .before .before .before .before .before .before .before in
-    cc (branch-reset-on (s .args .p .now .now) (s .args .j) (s .pre .1 .node) (s .args .st .now) (λ h. c .before .before .before .before .if1 .taken (c .before .before .before .before .before .before .before .before .before .before .node .ensures .b-is ∙ h)))
+    cc (branch-reset-on (s .args .p .now .now) (s .args .j) (s .pre .1 .node) (s .args .st .now) (λ h. c .before .before .before .before .if1 .taken (c .before .before .before .before .before .before .before .before .before .before .node-by .ensures .b-is ∙ h)))
 
 -- src/lib.rt:96:1
 reset-b-same-length-2 : (t : ℕ) → reset-b-lts.Need-same-length-2 (reset-b-calls t) (reset-b-at t) reset-b.Post
@@ -115,26 +115,26 @@ reset-b-same-length-2 t c = c .before .before .before .before .resets .kept .1 .
 reset-b-returns-2 : (t : ℕ) → reset-b-lts.Need-returns-2 (reset-b-calls t) (reset-b-at t) reset-b.Post
 reset-b-returns-2 t c =
     let s = c .before .before .before .before .before .before .before .before .before in
-    cc (branch-reset-end (s .args .p .now .now) (s .args .j) (s .pre .1 .node) (s .args .st .now) (sym (c .before .before .before .before .before .before .node .ensures .b-is) ∙ c .if1 .left))
+    cc (branch-reset-end (s .args .p .now .now) (s .args .j) (s .pre .1 .node) (s .args .st .now) (sym (c .before .before .before .before .before .before .node-by .ensures .b-is) ∙ c .if1 .left))
 
 -- src/lib.rt:112:9
-reset-c-node-requires : (t : ℕ) → reset-c-lts.Need-node-requires (reset-c-calls t) (reset-c-at t) reset-c.Post
-reset-c-node-requires t c κs =
-    let w = c .before .before .pre .1 .node in
-    (omega (arith, w .inside, w .shaped .within), omega (arith, w .inside, w .shaped .small))
+reset-c-node-by-requires : (t : ℕ) → reset-c-lts.Need-node-by-requires (reset-c-calls t) (reset-c-at t) reset-c.Post
+reset-c-node-by-requires t c κs =
+    let w = c .before .before .pre .1 in
+    (w .indexed, w .node .shaped, w .node .inside)
 
 -- src/lib.rt:113:5
 reset-c-resets-requires : (t : ℕ) → reset-c-lts.Need-resets-requires (reset-c-calls t) (reset-c-at t) reset-c.Post
 reset-c-resets-requires t c κs =
     let s = c .before .before .before .before in
-    let k = read (c .before .node .ensures .a-is) (case-kid (s .args .p .now .now) (s .args .j) (s .pre .1 .node)) in
+    let k = read (c .before .node-by .ensures .a-is) (case-kid (s .args .p .now .now) (s .args .j) (s .pre .1 .node)) in
     (omega (arith, k .less, s .pre .0), carried (s .pre .1) (refl) k)
 
 -- src/lib.rt:115:9
 reset-c-reset-c-requires : (t : ℕ) → reset-c-lts.Need-reset-c-requires (reset-c-calls t) (reset-c-at t) reset-c.Post
 reset-c-reset-c-requires t c κs =
     let s = c .before .before .before .before .before .before .before .before .before .before in
-    let node = c .before .before .before .before .before .before .before .node .ensures in
+    let node = c .before .before .before .before .before .before .before .node-by .ensures in
     let k = read (node .b-is) (case-next (s .args .p .now .now) (s .args .j) (s .pre .1 .node) (λ h. c .before .if1 .taken (node .b-is ∙ h))) in
     (omega (arith, k .less, s .pre .0), carried (s .pre .1) (c .before .before .before .before .before .resets .kept .1 .1 .0) k)
 
@@ -146,7 +146,7 @@ reset-c-same-length t c = c .before .before .reset-c .kept .1 .1 .0 ∙ c .befor
 reset-c-returns : (t : ℕ) → reset-c-lts.Need-returns (reset-c-calls t) (reset-c-at t) reset-c.Post
 reset-c-returns t c =
     let s = c .before .before .before .before .before .before .before .before .before .before .before .before .before in
-    cc (case-reset-on (s .args .p .now .now) (s .args .j) (s .pre .1 .node) (s .args .st .now) (λ h. c .before .before .before .before .if1 .taken (c .before .before .before .before .before .before .before .before .before .before .node .ensures .b-is ∙ h)))
+    cc (case-reset-on (s .args .p .now .now) (s .args .j) (s .pre .1 .node) (s .args .st .now) (λ h. c .before .before .before .before .if1 .taken (c .before .before .before .before .before .before .before .before .before .before .node-by .ensures .b-is ∙ h)))
 
 -- src/lib.rt:108:1
 reset-c-same-length-2 : (t : ℕ) → reset-c-lts.Need-same-length-2 (reset-c-calls t) (reset-c-at t) reset-c.Post
@@ -156,13 +156,13 @@ reset-c-same-length-2 t c = c .before .before .before .before .resets .kept .1 .
 reset-c-returns-2 : (t : ℕ) → reset-c-lts.Need-returns-2 (reset-c-calls t) (reset-c-at t) reset-c.Post
 reset-c-returns-2 t c =
     let s = c .before .before .before .before .before .before .before .before .before in
-    cc (case-reset-end (s .args .p .now .now) (s .args .j) (s .pre .1 .node) (s .args .st .now) (sym (c .before .before .before .before .before .before .node .ensures .b-is) ∙ c .if1 .left))
+    cc (case-reset-end (s .args .p .now .now) (s .args .j) (s .pre .1 .node) (s .args .st .now) (sym (c .before .before .before .before .before .before .node-by .ensures .b-is) ∙ c .if1 .left))
 
 -- src/lib.rt:65:9
-reset-s-node-requires : (t : ℕ) → reset-s-lts.Need-node-requires (reset-s-calls t) (reset-s-at t) reset-s.Post
-reset-s-node-requires t c κs =
-    let w = c .before .before .pre .1 .node in
-    (omega (arith, w .inside, w .shaped .within), omega (arith, w .inside, w .shaped .small))
+reset-s-node-by-requires : (t : ℕ) → reset-s-lts.Need-node-by-requires (reset-s-calls t) (reset-s-at t) reset-s.Post
+reset-s-node-by-requires t c κs =
+    let w = c .before .before .pre .1 in
+    (w .indexed, w .node .shaped, w .node .inside)
 
 -- src/lib.rt:69:35
 reset-s-first-value-requires : (t : ℕ) → reset-s-lts.Need-first-value-requires (reset-s-calls t) (reset-s-at t) reset-s.Post
@@ -172,13 +172,13 @@ reset-s-first-value-requires t c κs = search needs
 reset-s-set-own-requires : (t : ℕ) → reset-s-lts.Need-set-own-requires (reset-s-calls t) (reset-s-at t) reset-s.Post
 reset-s-set-own-requires t c κs =
     let s = c .before .before .before .before .before .before .before in
-    own-delay (s .args .p .now .now) (s .args .index .now) _ (s .args .i) (s .pre .1) (sym (c .before .before .before .before .node .ensures .kind-is) ∙ c .before .before .before .match .keys1)
+    own-delay (s .args .p .now .now) (s .args .index .now) _ (s .args .i) (s .pre .1) (sym (c .before .before .before .before .node-by .ensures .kind-is) ∙ c .before .before .before .match .keys1)
 
 -- src/lib.rt:70:13
 reset-s-resets-requires : (t : ℕ) → reset-s-lts.Need-resets-requires (reset-s-calls t) (reset-s-at t) reset-s.Post
 reset-s-resets-requires t c κs =
     let s = c .before .before .before .before .before .before .before .before .before .before .before in
-    let node = c .before .before .before .before .before .before .before .before .node .ensures in
+    let node = c .before .before .before .before .before .before .before .before .node-by .ensures in
     let k = read (node .a-is) (delay-kid (s .args .p .now .now) (s .args .i) (s .pre .1 .node) (sym (node .kind-is) ∙ c .before .before .before .before .before .before .before .match .keys1)) in
     (omega (arith, k .less, s .pre .0), carried (s .pre .1) (c .before .before .before .set-own .kept .1 .0) k)
 
@@ -186,7 +186,7 @@ reset-s-resets-requires t c κs =
 reset-s-resets-requires-2 : (t : ℕ) → reset-s-lts.Need-resets-requires-2 (reset-s-calls t) (reset-s-at t) reset-s.Post
 reset-s-resets-requires-2 t c κs =
     let s = c .before .before .before .before .before in
-    let node = c .before .before .node .ensures in
+    let node = c .before .before .node-by .ensures in
     let k = read (node .a-is) (let-kids (s .args .p .now .now) (s .args .i) (s .pre .1 .node) (sym (node .kind-is) ∙ c .before .match .keys2) .0) in
     (omega (arith, k .less, s .pre .0), carried (s .pre .1) (refl) k)
 
@@ -194,7 +194,7 @@ reset-s-resets-requires-2 t c κs =
 reset-s-resets-requires-3 : (t : ℕ) → reset-s-lts.Need-resets-requires-3 (reset-s-calls t) (reset-s-at t) reset-s.Post
 reset-s-resets-requires-3 t c κs =
     let s = c .before .before .before .before .before .before .before .before .before in
-    let node = c .before .before .before .before .before .before .node .ensures in
+    let node = c .before .before .before .before .before .before .node-by .ensures in
     let k = read (node .b-is) (let-kids (s .args .p .now .now) (s .args .i) (s .pre .1 .node) (sym (node .kind-is) ∙ c .before .before .before .before .before .match .keys2) .1) in
     (omega (arith, k .less, s .pre .0), carried (s .pre .1) (c .before .before .before .resets2 .kept .1 .1 .0) k)
 
@@ -202,13 +202,13 @@ reset-s-resets-requires-3 t c κs =
 reset-s-set-own-requires-2 : (t : ℕ) → reset-s-lts.Need-set-own-requires-2 (reset-s-calls t) (reset-s-at t) reset-s.Post
 reset-s-set-own-requires-2 t c κs =
     let s = c .before .before .before .before .before .before in
-    own-switch (s .args .p .now .now) (s .args .index .now) _ (s .args .i) (s .pre .1) (sym (c .before .before .before .node .ensures .kind-is) ∙ c .before .before .match .keys3)
+    own-switch (s .args .p .now .now) (s .args .index .now) _ (s .args .i) (s .pre .1) (sym (c .before .before .before .node-by .ensures .kind-is) ∙ c .before .before .match .keys3)
 
 -- src/lib.rt:78:13
 reset-s-resets-requires-4 : (t : ℕ) → reset-s-lts.Need-resets-requires-4 (reset-s-calls t) (reset-s-at t) reset-s.Post
 reset-s-resets-requires-4 t c κs =
     let s = c .before .before .before .before .before .before .before .before .before .before in
-    let node = c .before .before .before .before .before .before .before .node .ensures in
+    let node = c .before .before .before .before .before .before .before .node-by .ensures in
     let k = read (node .a-is) (switch-kids (s .args .p .now .now) (s .args .i) (s .pre .1 .node) (sym (node .kind-is) ∙ c .before .before .before .before .before .before .match .keys3) .0) in
     (omega (arith, k .less, s .pre .0), carried (s .pre .1) (c .before .before .before .set-own2 .kept .1 .0) k)
 
@@ -216,7 +216,7 @@ reset-s-resets-requires-4 t c κs =
 reset-s-resets-requires-5 : (t : ℕ) → reset-s-lts.Need-resets-requires-5 (reset-s-calls t) (reset-s-at t) reset-s.Post
 reset-s-resets-requires-5 t c κs =
     let s = c .before .before .before .before .before .before .before .before .before .before .before .before .before .before in
-    let node = c .before .before .before .before .before .before .before .before .before .before .before .node .ensures in
+    let node = c .before .before .before .before .before .before .before .before .before .before .before .node-by .ensures in
     let k = read (node .b-is) (switch-kids (s .args .p .now .now) (s .args .i) (s .pre .1 .node) (sym (node .kind-is) ∙ c .before .before .before .before .before .before .before .before .before .before .match .keys3) .1) in
     (omega (arith, k .less, s .pre .0), carried (s .pre .1) (c .before .before .before .resets4 .kept .1 .1 .0 ∙ c .before .before .before .before .before .before .before .set-own2 .kept .1 .0) k)
 
@@ -224,7 +224,7 @@ reset-s-resets-requires-5 t c κs =
 reset-s-resets-requires-6 : (t : ℕ) → reset-s-lts.Need-resets-requires-6 (reset-s-calls t) (reset-s-at t) reset-s.Post
 reset-s-resets-requires-6 t c κs =
     let s = c .before .before .before .before .before .before .before .before .before .before .before .before .before .before .before .before .before .before in
-    let node = c .before .before .before .before .before .before .before .before .before .before .before .before .before .before .before .node .ensures in
+    let node = c .before .before .before .before .before .before .before .before .before .before .before .before .before .before .before .node-by .ensures in
     let k = read (node .c-is) (switch-kids (s .args .p .now .now) (s .args .i) (s .pre .1 .node) (sym (node .kind-is) ∙ c .before .before .before .before .before .before .before .before .before .before .before .before .before .before .match .keys3) .2) in
     (omega (arith, k .less, s .pre .0), carried (s .pre .1) (c .before .before .before .resets5 .kept .1 .1 .0 ∙ c .before .before .before .before .before .before .before .resets4 .kept .1 .1 .0 ∙ c .before .before .before .before .before .before .before .before .before .before .before .set-own2 .kept .1 .0) k)
 
@@ -232,13 +232,13 @@ reset-s-resets-requires-6 t c κs =
 reset-s-set-own-requires-3 : (t : ℕ) → reset-s-lts.Need-set-own-requires-3 (reset-s-calls t) (reset-s-at t) reset-s.Post
 reset-s-set-own-requires-3 t c κs =
     let s = c .before .before .before .before .before .before in
-    own-group (s .args .p .now .now) (s .args .index .now) _ (s .args .i) (s .pre .1) (sym (c .before .before .before .node .ensures .kind-is) ∙ c .before .before .match .keys4)
+    own-group (s .args .p .now .now) (s .args .index .now) _ (s .args .i) (s .pre .1) (sym (c .before .before .before .node-by .ensures .kind-is) ∙ c .before .before .match .keys4)
 
 -- src/lib.rt:84:13
 reset-s-resets-requires-7 : (t : ℕ) → reset-s-lts.Need-resets-requires-7 (reset-s-calls t) (reset-s-at t) reset-s.Post
 reset-s-resets-requires-7 t c κs =
     let s = c .before .before .before .before .before .before .before .before .before .before in
-    let node = c .before .before .before .before .before .before .before .node .ensures in
+    let node = c .before .before .before .before .before .before .before .node-by .ensures in
     let k = read (node .a-is) (group-kids (s .args .p .now .now) (s .args .i) (s .pre .1 .node) (sym (node .kind-is) ∙ c .before .before .before .before .before .before .match .keys4) .0) in
     (omega (arith, k .less, s .pre .0), carried (s .pre .1) (c .before .before .before .set-own3 .kept .1 .0) k)
 
@@ -246,7 +246,7 @@ reset-s-resets-requires-7 t c κs =
 reset-s-reset-b-requires : (t : ℕ) → reset-s-lts.Need-reset-b-requires (reset-s-calls t) (reset-s-at t) reset-s.Post
 reset-s-reset-b-requires t c κs =
     let s = c .before .before .before .before .before .before .before .before .before .before .before .before .before .before in
-    let node = c .before .before .before .before .before .before .before .before .before .before .before .node .ensures in
+    let node = c .before .before .before .before .before .before .before .before .before .before .before .node-by .ensures in
     let k = read (node .b-is) (group-kids (s .args .p .now .now) (s .args .i) (s .pre .1 .node) (sym (node .kind-is) ∙ c .before .before .before .before .before .before .before .before .before .before .match .keys4) .1) in
     (omega (arith, k .less, s .pre .0), carried (s .pre .1) (c .before .before .before .resets7 .kept .1 .1 .0 ∙ c .before .before .before .before .before .before .before .set-own3 .kept .1 .0) k)
 
@@ -254,7 +254,7 @@ reset-s-reset-b-requires t c κs =
 reset-s-resets-requires-8 : (t : ℕ) → reset-s-lts.Need-resets-requires-8 (reset-s-calls t) (reset-s-at t) reset-s.Post
 reset-s-resets-requires-8 t c κs =
     let s = c .before .before .before .before .before in
-    let node = c .before .before .node .ensures in
+    let node = c .before .before .node-by .ensures in
     let k = read (node .a-is) (until-kids (s .args .p .now .now) (s .args .i) (s .pre .1 .node) (sym (node .kind-is) ∙ c .before .match .keys5) .0) in
     (omega (arith, k .less, s .pre .0), carried (s .pre .1) (refl) k)
 
@@ -262,7 +262,7 @@ reset-s-resets-requires-8 t c κs =
 reset-s-reset-c-requires : (t : ℕ) → reset-s-lts.Need-reset-c-requires (reset-s-calls t) (reset-s-at t) reset-s.Post
 reset-s-reset-c-requires t c κs =
     let s = c .before .before .before .before .before .before .before .before .before in
-    let node = c .before .before .before .before .before .before .node .ensures in
+    let node = c .before .before .before .before .before .before .node-by .ensures in
     let k = read (node .b-is) (until-kids (s .args .p .now .now) (s .args .i) (s .pre .1 .node) (sym (node .kind-is) ∙ c .before .before .before .before .before .match .keys5) .1) in
     (omega (arith, k .less, s .pre .0), carried (s .pre .1) (c .before .before .before .resets8 .kept .1 .1 .0) k)
 
@@ -274,7 +274,7 @@ reset-s-same-length t c = c .before .before .resets .kept .1 .1 .0 ∙ c .before
 reset-s-returns : (t : ℕ) → reset-s-lts.Need-returns (reset-s-calls t) (reset-s-at t) reset-s.Post
 reset-s-returns t c =
     let s = c .before .before .before .before .before .before .before .before .before .before .before .before .before .before in
-    cc (delay-reset (s .args .p .now .now) (s .args .index .now) _ (s .args .i) (s .pre .1) (s .args .st .now) (sym (c .before .before .before .before .before .before .before .before .before .before .before .node .ensures .kind-is) ∙ c .before .before .before .before .before .before .before .before .before .before .match .keys1))
+    cc (delay-reset (s .args .p .now .now) (s .args .index .now) _ (s .args .i) (s .pre .1) (s .args .st .now) (sym (c .before .before .before .before .before .before .before .before .before .before .before .node-by .ensures .kind-is) ∙ c .before .before .before .before .before .before .before .before .before .before .match .keys1))
 
 -- src/lib.rt:61:1
 reset-s-same-length-2 : (t : ℕ) → reset-s-lts.Need-same-length-2 (reset-s-calls t) (reset-s-at t) reset-s.Post
@@ -284,7 +284,7 @@ reset-s-same-length-2 t c = c .before .before .resets3 .kept .1 .1 .0 ∙ c .bef
 reset-s-returns-2 : (t : ℕ) → reset-s-lts.Need-returns-2 (reset-s-calls t) (reset-s-at t) reset-s.Post
 reset-s-returns-2 t c =
     let s = c .before .before .before .before .before .before .before .before .before .before .before .before in
-    cc (let-reset (s .args .p .now .now) (s .args .index .now) _ (s .args .i) (s .pre .1) (s .args .st .now) (sym (c .before .before .before .before .before .before .before .before .before .node .ensures .kind-is) ∙ c .before .before .before .before .before .before .before .before .match .keys2))
+    cc (let-reset (s .args .p .now .now) (s .args .index .now) _ (s .args .i) (s .pre .1) (s .args .st .now) (sym (c .before .before .before .before .before .before .before .before .before .node-by .ensures .kind-is) ∙ c .before .before .before .before .before .before .before .before .match .keys2))
 
 -- src/lib.rt:61:1
 reset-s-same-length-3 : (t : ℕ) → reset-s-lts.Need-same-length-3 (reset-s-calls t) (reset-s-at t) reset-s.Post
@@ -294,7 +294,7 @@ reset-s-same-length-3 t c = c .before .before .resets6 .kept .1 .1 .0 ∙ c .bef
 reset-s-returns-3 : (t : ℕ) → reset-s-lts.Need-returns-3 (reset-s-calls t) (reset-s-at t) reset-s.Post
 reset-s-returns-3 t c =
     let s = c .before .before .before .before .before .before .before .before .before .before .before .before .before .before .before .before .before .before .before .before .before in
-    cc (switch-reset (s .args .p .now .now) (s .args .index .now) _ (s .args .i) (s .pre .1) (s .args .st .now) (sym (c .before .before .before .before .before .before .before .before .before .before .before .before .before .before .before .before .before .before .node .ensures .kind-is) ∙ c .before .before .before .before .before .before .before .before .before .before .before .before .before .before .before .before .before .match .keys3))
+    cc (switch-reset (s .args .p .now .now) (s .args .index .now) _ (s .args .i) (s .pre .1) (s .args .st .now) (sym (c .before .before .before .before .before .before .before .before .before .before .before .before .before .before .before .before .before .before .node-by .ensures .kind-is) ∙ c .before .before .before .before .before .before .before .before .before .before .before .before .before .before .before .before .before .match .keys3))
 
 -- src/lib.rt:61:1
 reset-s-same-length-4 : (t : ℕ) → reset-s-lts.Need-same-length-4 (reset-s-calls t) (reset-s-at t) reset-s.Post
@@ -304,7 +304,7 @@ reset-s-same-length-4 t c = c .before .before .reset-b .kept .1 .1 .0 ∙ c .bef
 reset-s-returns-4 : (t : ℕ) → reset-s-lts.Need-returns-4 (reset-s-calls t) (reset-s-at t) reset-s.Post
 reset-s-returns-4 t c =
     let s = c .before .before .before .before .before .before .before .before .before .before .before .before .before .before .before .before .before in
-    cc (group-reset (s .args .p .now .now) (s .args .index .now) _ (s .args .i) (s .pre .1) (s .args .st .now) (sym (c .before .before .before .before .before .before .before .before .before .before .before .before .before .before .node .ensures .kind-is) ∙ c .before .before .before .before .before .before .before .before .before .before .before .before .before .match .keys4))
+    cc (group-reset (s .args .p .now .now) (s .args .index .now) _ (s .args .i) (s .pre .1) (s .args .st .now) (sym (c .before .before .before .before .before .before .before .before .before .before .before .before .before .before .node-by .ensures .kind-is) ∙ c .before .before .before .before .before .before .before .before .before .before .before .before .before .match .keys4))
 
 -- src/lib.rt:61:1
 reset-s-same-length-5 : (t : ℕ) → reset-s-lts.Need-same-length-5 (reset-s-calls t) (reset-s-at t) reset-s.Post
@@ -314,17 +314,17 @@ reset-s-same-length-5 t c = c .before .before .reset-c .kept .1 .1 .0 ∙ c .bef
 reset-s-returns-5 : (t : ℕ) → reset-s-lts.Need-returns-5 (reset-s-calls t) (reset-s-at t) reset-s.Post
 reset-s-returns-5 t c =
     let s = c .before .before .before .before .before .before .before .before .before .before .before .before in
-    cc (until-reset (s .args .p .now .now) (s .args .index .now) _ (s .args .i) (s .pre .1) (s .args .st .now) (sym (c .before .before .before .before .before .before .before .before .before .node .ensures .kind-is) ∙ c .before .before .before .before .before .before .before .before .match .keys5))
+    cc (until-reset (s .args .p .now .now) (s .args .index .now) _ (s .args .i) (s .pre .1) (s .args .st .now) (sym (c .before .before .before .before .before .before .before .before .before .node-by .ensures .kind-is) ∙ c .before .before .before .before .before .before .before .before .match .keys5))
 
 -- src/lib.rt:61:1
 reset-s-returns-6 : (t : ℕ) → reset-s-lts.Need-returns-6 (reset-s-calls t) (reset-s-at t) reset-s.Post
 reset-s-returns-6 t c =
     let s = c .before .before .before .before in
-    quiet-reset (s .args .p .now .now) (s .args .index .now) _ (s .args .i) (s .pre .1) (s .args .st .now) (c .before .node .ensures .kind-is) (c .match .rest)
+    quiet-reset (s .args .p .now .now) (s .args .index .now) _ (s .args .i) (s .pre .1) (s .args .st .now) (c .before .node-by .ensures .kind-is) (c .match .rest)
 
 -- src/lib.rt:54:9
-resets-kind-of-requires : (t : ℕ) → resets-lts.Need-kind-of-requires (resets-calls t) (resets-at t) resets.Post
-resets-kind-of-requires t c κs = let w = c .before .before .pre .1 .node in (omega (arith, w .inside, w .shaped .within), omega (arith, w .inside, w .shaped .small))
+resets-kind-by-requires : (t : ℕ) → resets-lts.Need-kind-by-requires (resets-calls t) (resets-at t) resets.Post
+resets-kind-by-requires t c κs = let w = c .before .before .pre .1 in (w .indexed, w .node .shaped, w .node .inside)
 
 -- src/lib.rt:56:9
 resets-reset-s-requires : (t : ℕ) → resets-lts.Need-reset-s-requires (resets-calls t) (resets-at t) resets.Post
@@ -340,13 +340,13 @@ resets-returns t c = c .before .before .reset-s .ensures
 
 -- src/lib.rt:50:1
 resets-returns-2 : (t : ℕ) → resets-lts.Need-returns-2 (resets-calls t) (resets-at t) resets.Post
-resets-returns-2 t c = let s = c .before .before .before .before in low-reset (s .args .p .now .now) (s .args .index .now) _ (s .args .i) (s .pre .1) (s .args .st .now) (c .before .kind-of .ensures) (omega (arith, c .if1 .left))
+resets-returns-2 t c = let s = c .before .before .before .before in low-reset (s .args .p .now .now) (s .args .index .now) _ (s .args .i) (s .pre .1) (s .args .st .now) (c .before .kind-by .ensures) (omega (arith, c .if1 .left))
 
 pub +reset-b+reset-c+reset-s+resets-spec : {M : Type 1} → statement M
 +reset-b+reset-c+reset-s+resets-spec =
     close μ-reset-b μ-reset-c μ-reset-s μ-resets (λ t. reset-b-lts.spec (reset-b-calls t) (reset-b-at t)
     reset-b.Post
-    (reset-b-node-requires t)
+    (reset-b-node-by-requires t)
     (reset-b-resets-requires t)
     (reset-b-reset-b-requires t)
     (reset-b-same-length t)
@@ -355,7 +355,7 @@ pub +reset-b+reset-c+reset-s+resets-spec : {M : Type 1} → statement M
     (reset-b-returns-2 t))
     (λ t. reset-c-lts.spec (reset-c-calls t) (reset-c-at t)
     reset-c.Post
-    (reset-c-node-requires t)
+    (reset-c-node-by-requires t)
     (reset-c-resets-requires t)
     (reset-c-reset-c-requires t)
     (reset-c-same-length t)
@@ -364,7 +364,7 @@ pub +reset-b+reset-c+reset-s+resets-spec : {M : Type 1} → statement M
     (reset-c-returns-2 t))
     (λ t. reset-s-lts.spec (reset-s-calls t) (reset-s-at t)
     reset-s.Post
-    (reset-s-node-requires t)
+    (reset-s-node-by-requires t)
     (reset-s-first-value-requires t)
     (reset-s-set-own-requires t)
     (reset-s-resets-requires t)
@@ -392,7 +392,7 @@ pub +reset-b+reset-c+reset-s+resets-spec : {M : Type 1} → statement M
     (reset-s-returns-6 t))
     λ t. resets-lts.spec (resets-calls t) (resets-at t)
     resets.Post
-    (resets-kind-of-requires t)
+    (resets-kind-by-requires t)
     (resets-reset-s-requires t)
     (resets-same-length t)
     (resets-returns t)

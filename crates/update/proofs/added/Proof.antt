@@ -1,63 +1,45 @@
--- By the outcome's variant, each count as the definition adds it; all three numbers are small.
-use mathlib.Core.Path.{refl, ap}
 use native.Mathlib.Omega.{arith}
-use borrow.Author.Needs.{needs}
-use Rattle.moves.specs.Outcomes.{countOf, occurred}
+use Rattle.rules.specs.Work.{moved}
 use Rattle.update.specs.Passes.{quietly}
+use Rattle.moves.proofs.NumberLaws.{moved-stuck, more-fits}
+use Rattle.update.proofs.PassLaws.{added-stays, added-jumps}
 use Rattle.update.proofs.added.Statement.{statement}
 use Rattle.update.proofs.added.Tie as tie
-use Rattle.update.proofs.added.Reads as reads
-use Rattle.update.proofs.added.Lts as lts
 
--- src/lib.rt:167:26
-enum-known-o : tie.Need-enum-known-o
-enum-known-o c = search needs
-
--- src/lib.rt:171:23
-add-t8 : tie.Need-add-t8
-add-t8 c = omega (arith, c .before .before .before .before .before .pre .0, c .before .before .before .before .before .pre .2, ap countOf (c .before .before .before .o .given .1))
-
--- src/lib.rt:174:27
-enum-known-o-2 : tie.Need-enum-known-o-2
-enum-known-o-2 c = search needs
-
--- src/lib.rt:175:29
-add-t10 : tie.Need-add-t10
-add-t10 c = omega (arith, c .before .before .before .before .before .pre .1, c .before .before .before .before .before .pre .2, ap countOf (c .before .before .before .o2 .given .1))
-
--- src/lib.rt:175:19
-add-t11 : tie.Need-add-t11
-add-t11 c = omega (arith, c .before .before .before .before .before .before .pre .0, c .before .before .before .before .before .before .pre .1, c .before .before .before .before .before .before .pre .2, ap countOf (c .before .before .before .before .o2 .given .1))
-
--- src/lib.rt:177:30
-enum-told : tie.Need-enum-told
-enum-told c = search needs
-
--- src/lib.rt:162:1
+-- src/lib.rt:180:9
 returns : tie.Need-returns
-unfolding occurred quietly
-returns c st = rw (c .before .before .before .o .given .1) refl
+unfolding moved quietly
+returns c = λ st. rw (c .if1 .taken, moved-stuck)
 
--- src/lib.rt:162:1
+-- src/lib.rt:183:26
+add-result : tie.Need-add-result
+add-result c =
+    let s = c .before .before .before in
+    omega (arith, s .pre .still (omega arith) (omega arith))
+
+-- src/lib.rt:183:16
+add-result-2 : tie.Need-add-result-2
+add-result-2 c =
+    let s = c .before .before .before .before in
+    omega (arith, s .pre .still (omega arith) (omega arith))
+
+-- src/lib.rt:183:9
 returns-2 : tie.Need-returns-2
-unfolding occurred quietly
-returns-2 c st = rw (c .before .before .before .before .o2 .given .1) refl
+returns-2 c =
+    let s = c .before .before .before .before in
+    λ st. added-stays (s .args .s) (s .args .o) (s .pre) st (omega arith) (omega arith)
 
--- src/lib.rt:162:1
+-- src/lib.rt:185:5
+add-result-3 : tie.Need-add-result-3
+add-result-3 c =
+    let s = c .before .before .before in
+    omega (arith, more-fits (s .args .o) (s .args .s .seen) (s .pre .jumps (omega arith)) (omega arith))
+
+-- src/lib.rt:175:1
 returns-3 : tie.Need-returns-3
-unfolding occurred quietly
-returns-3 c st = rw (c .enum-told .given .1) refl
+returns-3 c =
+    let s = c .before .before .before in
+    λ st. added-jumps (s .args .s) (s .args .o) (s .pre) st (omega arith)
 
 pub added-spec : {M : Type 1} → statement M
-added-spec =
-    tie.close
-    (tie.spec
-    enum-known-o
-    add-t8
-    enum-known-o-2
-    add-t10
-    add-t11
-    enum-told
-    returns
-    returns-2
-    returns-3)
+added-spec = tie.close (tie.spec returns add-result add-result-2 returns-2 add-result-3 returns-3)

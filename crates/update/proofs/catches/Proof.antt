@@ -1,102 +1,103 @@
-use Rattle.branches.proofs.ByTable.{group-first}
-use Rattle.rules.specs.declared.Moved.{Moved}
-use Rattle.rules.specs.Work.{moved, ruleᵘ}
-use Rattle.moves.proofs.SmallLaws.{caught-stay, caught-stuck, caught-other, caught-here}
-use Rattle.moves.specs.Outcomes.{workOf}
-use Rattle.rules.proofs.Branches.{found}
-use Rattle.rules.specs.Scope.{hasBranch}
-use Rattle.rules.specs.Layout.{cellsBefore, aAt, bAt}
-use Rattle.rules.specs.Tree.{signalAt, branchesAt}
-use Rattle.rules.proofs.Signals.{group-kids}
-use Rattle.rules.proofs.Kids.{read}
 use Prim.Native.Nat.{ℕ}
 use mathlib.Core.Path.{sym, ap, _∙_}
 use native.Mathlib.Omega.{arith}
+use Rattle.rules.specs.Layout.{cellsBefore, bAt}
+use Rattle.rules.specs.Scope.{hasBranch}
+use Rattle.rules.specs.Tree.{signalAt, branchesAt}
+use Rattle.rules.proofs.Branches.{found}
+use Rattle.rules.proofs.Signals.{group-kids}
+use Rattle.rules.proofs.Kids.{read}
+use Rattle.branches.proofs.ByTable.{group-first}
+use Rattle.update.proofs.CatchLaws.{catch-small, catch-other, catch-here}
 use borrow.Author.Needs.{needs}
 use Rattle.update.proofs.catches.Statement.{statement}
 use Rattle.update.proofs.catches.Tie as tie
-use Rattle.update.proofs.catches.Reads as reads
-use Rattle.update.proofs.catches.Lts as lts
-use Rattle.branches.proofs.has_branch.Reads as has-branch-reads
-use Rattle.moves.proofs.ruled.Reads as ruled-reads
-use Rattle.update.proofs.enters.Reads as enters-reads
 
--- src/lib.rt:74:27
-enum-told : tie.Need-enum-told
-enum-told c = search needs
-
--- src/lib.rt:74:27
+-- src/lib.rt:93:9
 ruled-requires : tie.Need-ruled-requires
-ruled-requires c κs = omega (arith, c .before .before .before .pre .1)
+ruled-requires c κs = search needs
 
--- src/lib.rt:75:21
-enum-known-r : tie.Need-enum-known-r
-enum-known-r c = search needs
-
--- src/lib.rt:76:25
-cast-which : tie.Need-cast-which
-cast-which c = search needs
-
--- src/lib.rt:77:16
-has-branch-requires : tie.Need-has-branch-requires
-has-branch-requires c κs = let n = c .before .before .before .before .before .before .pre .0 in group-first (n .table) (n .node) (n .kind) (n .fields .b-is)
-
--- src/lib.rt:78:17
-enters-requires : tie.Need-enters-requires
-enters-requires c κs = let f = found (c .before .before .before .before .before .before .before .before .before .args .p .now .now) (c .before .before .before .before .before .before .before .before .before .args .n .b) (c .before .before .before .before .before .before .r .given .0 .0) (read (c .before .before .before .before .before .before .before .before .before .pre .0 .fields .b-is) (group-kids (c .before .before .before .before .before .before .before .before .before .args .p .now .now) (c .before .before .before .before .before .before .before .before .before .args .i) (c .before .before .before .before .before .before .before .before .before .pre .0 .node) (c .before .before .before .before .before .before .before .before .before .pre .0 .kind) .1) .node) (sym (c .before .before .has-branch .ensures) ∙ c .before .if1 .taken) in (c .before .before .before .before .before .before .before .before .before .pre .0, f .node)
-
--- src/lib.rt:79:17
-ruled-requires-2 : tie.Need-ruled-requires-2
-ruled-requires-2 c κs = omega (arith, c .before .before .before .before .before .before .before .before .before .before .before .before .pre .1, ap workOf (c .before .before .before .before .before .before .before .before .before .r .given .1))
-
--- src/lib.rt:79:17
-same-length : tie.Need-same-length
-same-length c = c .before .before .before .enters .kept .1 .1 .0
-
--- src/lib.rt:79:17
+-- src/lib.rt:93:9
 returns : tie.Need-returns
-returns c = caught-here (cellsBefore (c .before .before .before .before .before .before .before .before .before .before .before .before .before .args .p .now .now) (c .before .before .before .before .before .before .before .before .before .before .before .before .before .args .i)) (signalAt (c .before .before .before .before .before .before .before .before .before .before .before .before .before .args .p .now .now) (aAt (c .before .before .before .before .before .before .before .before .before .before .before .before .before .args .p .now .now) (c .before .before .before .before .before .before .before .before .before .before .before .before .before .args .i))) (branchesAt (c .before .before .before .before .before .before .before .before .before .before .before .before .before .args .p .now .now) (bAt (c .before .before .before .before .before .before .before .before .before .before .before .before .before .args .p .now .now) (c .before .before .before .before .before .before .before .before .before .before .before .before .before .args .i))) (c .before .before .before .before .before .before .before .before .before .before .before .before .before .args .r) (c .before .before .before .before .before .before .before .before .before .before .before .before .before .args .st .now) (c .before .before .before .before .before .before .before .before .before .before .r .given .1) (ap (λ (l : ℕ). hasBranch (c .before .before .before .before .before .before .before .before .before .before .r .given .0 .0) (branchesAt (c .before .before .before .before .before .before .before .before .before .before .before .before .before .args .p .now .now) l)) (sym (c .before .before .before .before .before .before .before .before .before .before .before .before .before .pre .0 .fields .b-is)) ∙ sym (c .before .before .before .before .before .before .has-branch .ensures) ∙ c .before .before .before .before .before .if1 .taken) (c .before .before .before .enters .ensures) (c .ruled2 .ensures (c .before .before .before .enters .last .1 .1 .0))
+returns c =
+    let s = c .before .before .before in
+    let p = s .args .p .now .now in
+    let i = s .args .i in
+    catch-small (cellsBefore p i) (signalAt p (s .args .part)) (branchesAt p (bAt p i)) (s .args .r) (s .args .st .now) (omega arith) (c .ruled .ensures (s .args .st .now))
 
--- src/lib.rt:81:13
-ruled-requires-3 : tie.Need-ruled-requires-3
-ruled-requires-3 c κs = omega (arith, c .before .before .before .before .before .before .before .before .pre .1, ap workOf (c .before .before .before .before .before .r .given .1))
+-- src/lib.rt:95:9
+target-in-requires : tie.Need-target-in-requires
+target-in-requires c κs = search needs
 
--- src/lib.rt:83:25
-enum-told-2 : tie.Need-enum-told-2
-enum-told-2 c = search needs
+-- src/lib.rt:96:8
+has-branch-requires : tie.Need-has-branch-requires
+has-branch-requires c κs =
+    let s = c .before .before .before .before in
+    group-first (s .pre .0 .table) (s .pre .0 .node) (s .pre .0 .kind) (s .pre .0 .fields .b-is)
 
--- src/lib.rt:83:25
-ruled-requires-4 : tie.Need-ruled-requires-4
-ruled-requires-4 c κs = omega (arith, c .before .before .before .pre .1)
+-- src/lib.rt:97:49
+value-in-requires : tie.Need-value-in-requires
+value-in-requires c κs = search needs
 
--- src/lib.rt:69:1
+-- src/lib.rt:97:9
+enters-requires : tie.Need-enters-requires
+enters-requires c κs =
+    let s = c .before .before .before .before .before .before .before .before in
+    let p = s .args .p .now .now in
+    let i = s .args .i in
+    let all = read (s .pre .0 .fields .b-is) (group-kids p i (s .pre .0 .node) (s .pre .0 .kind) .1) .node in
+    let f = found p (s .args .n .b) (c .before .before .before .before .before .target-in .result) all (sym (c .before .before .before .has-branch .ensures) ∙ c .before .before .if2 .taken) in
+    (s .pre .0, s .pre .1, f .node, c .value-in .ensures .1)
+
+-- src/lib.rt:98:16
+count-in-requires : tie.Need-count-in-requires
+count-in-requires c κs = search needs
+
+-- src/lib.rt:98:16
+add-result : tie.Need-add-result
+add-result c = search needs
+
+-- src/lib.rt:98:9
+same-length : tie.Need-same-length
+same-length c = search needs
+
+-- src/lib.rt:98:9
 returns-2 : tie.Need-returns-2
-returns-2 c = caught-stay (cellsBefore (c .before .before .before .before .args .p .now .now) (c .before .before .before .before .args .i)) (signalAt (c .before .before .before .before .args .p .now .now) (aAt (c .before .before .before .before .args .p .now .now) (c .before .before .before .before .args .i))) (branchesAt (c .before .before .before .before .args .p .now .now) (bAt (c .before .before .before .before .args .p .now .now) (c .before .before .before .before .args .i))) (c .before .before .before .before .args .r) (c .before .before .before .before .args .st .now) (c .before .enum-told .given .1) (c .ruled .ensures (c .before .before .before .before .args .st .now))
+returns-2 c =
+    let s = c .before .before .before .before .before .before .before .before .before .before .before .before in
+    let p = s .args .p .now .now in
+    let i = s .args .i in
+    catch-here (cellsBefore p i) (signalAt p (s .args .part)) (branchesAt p (bAt p i)) (s .args .r) (s .args .st .now) (omega arith) (c .before .before .before .before .before .before .before .before .before .target-in .ensures)
+    (ap (λ (l : ℕ). hasBranch (c .before .before .before .before .before .before .before .before .before .target-in .result) (branchesAt p l)) (sym (s .pre .0 .fields .b-is)) ∙ sym (c .before .before .before .before .before .before .before .has-branch .ensures) ∙ c .before .before .before .before .before .before .if2 .taken)
+    (c .before .before .before .before .value-in .ensures .0) (c .before .before .before .enters .ensures) (c .count-in .ensures) (s .pre .2)
 
--- src/lib.rt:69:1
+-- src/lib.rt:100:5
+ruled-requires-2 : tie.Need-ruled-requires-2
+ruled-requires-2 c κs = search needs
+
+-- src/lib.rt:80:1
 returns-3 : tie.Need-returns-3
-returns-3 c = caught-other (cellsBefore (c .before .before .before .before .before .before .before .before .before .args .p .now .now) (c .before .before .before .before .before .before .before .before .before .args .i)) (signalAt (c .before .before .before .before .before .before .before .before .before .args .p .now .now) (aAt (c .before .before .before .before .before .before .before .before .before .args .p .now .now) (c .before .before .before .before .before .before .before .before .before .args .i))) (branchesAt (c .before .before .before .before .before .before .before .before .before .args .p .now .now) (bAt (c .before .before .before .before .before .before .before .before .before .args .p .now .now) (c .before .before .before .before .before .before .before .before .before .args .i))) (c .before .before .before .before .before .before .before .before .before .args .r) (c .before .before .before .before .before .before .before .before .before .args .st .now) (c .before .before .before .before .before .before .r .given .1) (ap (λ (l : ℕ). hasBranch (c .before .before .before .before .before .before .r .given .0 .0) (branchesAt (c .before .before .before .before .before .before .before .before .before .args .p .now .now) l)) (sym (c .before .before .before .before .before .before .before .before .before .pre .0 .fields .b-is)) ∙ sym (c .before .before .has-branch .ensures) ∙ c .before .if1 .left) (c .ruled3 .ensures (c .before .before .before .before .before .before .before .before .before .args .st .now) ∙ ap (λ (m : Moved). ruleᵘ (moved m (c .before .before .before .before .before .before .before .before .before .args .st .now))) (sym (c .before .before .before .before .before .before .r .given .1)))
-
--- src/lib.rt:69:1
-returns-4 : tie.Need-returns-4
-returns-4 c = caught-stuck (cellsBefore (c .before .before .before .before .args .p .now .now) (c .before .before .before .before .args .i)) (signalAt (c .before .before .before .before .args .p .now .now) (aAt (c .before .before .before .before .args .p .now .now) (c .before .before .before .before .args .i))) (branchesAt (c .before .before .before .before .args .p .now .now) (bAt (c .before .before .before .before .args .p .now .now) (c .before .before .before .before .args .i))) (c .before .before .before .before .args .r) (c .before .before .before .before .args .st .now) (c .before .enum-told2 .given .1) (c .ruled4 .ensures (c .before .before .before .before .args .st .now))
+returns-3 c =
+    let s = c .before .before .before .before .before .before .before in
+    let p = s .args .p .now .now in
+    let i = s .args .i in
+    catch-other (cellsBefore p i) (signalAt p (s .args .part)) (branchesAt p (bAt p i)) (s .args .r) (s .args .st .now) (omega arith) (c .before .before .before .before .target-in .ensures)
+    (ap (λ (l : ℕ). hasBranch (c .before .before .before .before .target-in .result) (branchesAt p l)) (sym (s .pre .0 .fields .b-is)) ∙ sym (c .before .before .has-branch .ensures) ∙ c .before .if2 .left)
+    (c .ruled2 .ensures (s .args .st .now))
 
 pub catches-spec : {M : Type 1} → statement M
 catches-spec =
     tie.close
     (tie.spec
-    enum-told
     ruled-requires
-    enum-known-r
-    cast-which
-    has-branch-requires
-    enters-requires
-    ruled-requires-2
-    same-length
     returns
-    ruled-requires-3
-    enum-told-2
-    ruled-requires-4
+    target-in-requires
+    has-branch-requires
+    value-in-requires
+    enters-requires
+    count-in-requires
+    add-result
+    same-length
     returns-2
-    returns-3
-    returns-4)
+    ruled-requires-2
+    returns-3)

@@ -1,74 +1,96 @@
 -- The tests are the definition's, in its order, on the fields that were read; the event is what the evaluation came apart to.
 use mathlib.Core.Path.{refl, sym, ap, _∙_}
 use native.Mathlib.Omega.{arith}
-use borrow.Author.Needs.{needs}
 use Rattle.outcomes.specs.declared.Event.{Event}
 use Rattle.outcomes.specs.declared.Parts.the-variants.{Maybe}
 use Rattle.moves.proofs.ReadyLaws.{case-part}
 use Rattle.update.proofs.Evaluable.{evaluable}
 use Rattle.update.specs.Passes.{absentWork}
 use Rattle.update.proofs.QuietLaws.{last-quiet, high-quiet, low-quiet}
+use borrow.Author.Needs.{needs}
 use Rattle.update.proofs.quiet.Statement.{statement}
 use Rattle.update.proofs.quiet.Tie as tie
-use Rattle.update.proofs.quiet.Reads as reads
-use Rattle.update.proofs.quiet.Lts as lts
 
--- src/lib.rt:111:9
+-- src/lib.rt:124:9
 returns : tie.Need-returns
-returns c = (last-quiet (c .before .before .before .args .rec .now .now) (c .before .before .before .args .st .now) (c .before .before .before .pre) (c .if1 .taken), refl)
+returns c =
+    let s = c .before .before .before in
+    (last-quiet (s .args .rec .now .now) (s .args .st .now) (s .pre) (c .if1 .taken), refl)
 
--- src/lib.rt:113:9
-kind-of-requires : tie.Need-kind-of-requires
-kind-of-requires c κs = let w = case-part (c .before .before .before .before .pre) .ready .node in (omega (arith, w .inside, w .shaped .within), omega (arith, w .inside, w .shaped .small))
+-- src/lib.rt:126:9
+kind-by-requires : tie.Need-kind-by-requires
+kind-by-requires c κs =
+    let s = c .before .before .before .before in
+    let w = case-part (s .pre) .ready .node in
+    (s .pre .ready .lent .table, w .shaped, w .inside)
 
--- src/lib.rt:115:9
+-- src/lib.rt:128:9
 returns-2 : tie.Need-returns-2
-returns-2 c = (high-quiet (c .before .before .before .before .before .before .args .rec .now .now) (c .before .before .before .before .before .before .args .st .now) (c .before .before .before .before .before .before .pre) (c .before .before .before .if1 .left) (c .before .kind-of .ensures) (omega (arith, c .if2 .taken)), refl)
+returns-2 c =
+    let s = c .before .before .before .before .before .before in
+    (high-quiet (s .args .rec .now .now) (s .args .st .now) (s .pre) (c .before .before .before .if1 .left) (c .before .kind-by .ensures) (omega (arith, c .if2 .taken)), refl)
 
--- src/lib.rt:117:9
+-- src/lib.rt:130:9
 evaluated-requires : tie.Need-evaluated-requires
-evaluated-requires c κs = evaluable (c .before .before .before .before .before .before .before .args .st .now) (c .before .before .before .before .before .before .before .args .env .now) (case-part (c .before .before .before .before .before .before .before .pre))
+evaluated-requires c κs =
+    let s = c .before .before .before .before .before .before .before in
+    evaluable (s .args .st .now) (s .args .env .now) (case-part (s .pre))
 
--- src/lib.rt:118:34
+-- src/lib.rt:131:34
 apart-requires : tie.Need-apart-requires
 apart-requires c κs = search needs
 
--- src/lib.rt:118:22
+-- src/lib.rt:131:22
 enum-known-event : tie.Need-enum-known-event
 enum-known-event c = search needs
 
--- src/lib.rt:119:9
+-- src/lib.rt:132:9
 enum-told : tie.Need-enum-told
 enum-told c = search needs
 
--- src/lib.rt:119:9
+-- src/lib.rt:132:9
 returns-3 : tie.Need-returns-3
 unfolding absentWork
-returns-3 c = (low-quiet (c .before .before .before .before .before .before .before .before .before .before .before .args .rec .now .now) (c .before .before .before .before .before .before .before .before .before .before .before .args .st .now) (c .before .before .before .before .before .before .before .before .before .before .before .pre) (c .before .before .before .before .before .before .before .before .if1 .left) (c .before .before .before .before .before .before .kind-of .ensures) (omega (arith, c .before .before .before .before .before .if2 .left)) (c .before .before .before .evaluated .ensures .0) (sym (c .before .before .apart .ensures) ∙ c .enum-told .given .1), c .before .before .before .evaluated .ensures .2)
+returns-3 c =
+    let s = c .before .before .before .before .before .before .before .before .before .before .before in (
+      low-quiet (s .args .rec .now .now) (s .args .st .now) (s .pre) (c .before .before .before .before .before .before .before .before .if1 .left) (c .before .before .before .before .before .before .kind-by .ensures) (omega (arith, c .before .before .before .before .before .if2 .left)) (c .before .before .before .evaluated .ensures .0)
+          (sym (c .before .before .apart .ensures) ∙ c .enum-told .given .1),
+      c .before .before .before .evaluated .ensures .2,
+    )
 
 enum-told-2 : tie.Need-enum-told-2
 enum-told-2 c = search needs
 
--- src/lib.rt:122:9
+-- src/lib.rt:135:9
 enum-told-3 : tie.Need-enum-told-3
 enum-told-3 c = search needs
 
--- src/lib.rt:122:9
+-- src/lib.rt:135:9
 returns-4 : tie.Need-returns-4
 unfolding absentWork
-returns-4 c = (low-quiet (c .before .before .before .before .before .before .before .before .before .before .before .before .before .before .args .rec .now .now) (c .before .before .before .before .before .before .before .before .before .before .before .before .before .before .args .st .now) (c .before .before .before .before .before .before .before .before .before .before .before .before .before .before .pre) (c .before .before .before .before .before .before .before .before .before .before .before .if1 .left) (c .before .before .before .before .before .before .before .before .before .kind-of .ensures) (omega (arith, c .before .before .before .before .before .before .before .before .if2 .left)) (c .before .before .before .before .before .before .evaluated .ensures .0) (sym (c .before .before .before .before .before .apart .ensures) ∙ c .before .before .before .event .given .1 ∙ ap (λ (e : Event). Maybe e (c .before .before .before .event .given .0 .1 .0)) (c .enum-told3 .given .1)), c .before .before .before .before .before .before .evaluated .ensures .2)
+returns-4 c =
+    let s = c .before .before .before .before .before .before .before .before .before .before .before .before .before .before in (
+      low-quiet (s .args .rec .now .now) (s .args .st .now) (s .pre) (c .before .before .before .before .before .before .before .before .before .before .before .if1 .left) (c .before .before .before .before .before .before .before .before .before .kind-by .ensures) (omega (arith, c .before .before .before .before .before .before .before .before .if2 .left)) (c .before .before .before .before .before .before .evaluated .ensures .0)
+          (sym (c .before .before .before .before .before .apart .ensures) ∙ c .before .before .before .event .given .1 ∙ ap (λ (e : Event). Maybe e (c .before .before .before .event .given .0 .1 .0)) (c .enum-told3 .given .1)),
+      c .before .before .before .before .before .before .evaluated .ensures .2,
+    )
 
--- src/lib.rt:98:1
+-- src/lib.rt:111:1
 returns-5 : tie.Need-returns-5
 unfolding absentWork
-returns-5 c = (low-quiet (c .before .before .before .before .before .before .before .before .before .before .before .before .before .before .args .rec .now .now) (c .before .before .before .before .before .before .before .before .before .before .before .before .before .before .args .st .now) (c .before .before .before .before .before .before .before .before .before .before .before .before .before .before .pre) (c .before .before .before .before .before .before .before .before .before .before .before .if1 .left) (c .before .before .before .before .before .before .before .before .before .kind-of .ensures) (omega (arith, c .before .before .before .before .before .before .before .before .if2 .left)) (c .before .before .before .before .before .before .evaluated .ensures .0) (sym (c .before .before .before .before .before .apart .ensures) ∙ c .before .before .before .event .given .1 ∙ ap (λ (e : Event). Maybe e (c .before .before .before .event .given .0 .1 .0)) (c .enum-told2 .given .1)), c .before .before .before .before .before .before .evaluated .ensures .2)
+returns-5 c =
+    let s = c .before .before .before .before .before .before .before .before .before .before .before .before .before .before in (
+      low-quiet (s .args .rec .now .now) (s .args .st .now) (s .pre) (c .before .before .before .before .before .before .before .before .before .before .before .if1 .left) (c .before .before .before .before .before .before .before .before .before .kind-by .ensures) (omega (arith, c .before .before .before .before .before .before .before .before .if2 .left)) (c .before .before .before .before .before .before .evaluated .ensures .0)
+          (sym (c .before .before .before .before .before .apart .ensures) ∙ c .before .before .before .event .given .1 ∙ ap (λ (e : Event). Maybe e (c .before .before .before .event .given .0 .1 .0)) (c .enum-told2 .given .1)),
+      c .before .before .before .before .before .before .evaluated .ensures .2,
+    )
 
 pub quiet-spec : {M : Type 1} → statement M
 quiet-spec =
     tie.close
     (tie.spec
     returns
-    kind-of-requires
+    kind-by-requires
     returns-2
     evaluated-requires
     apart-requires

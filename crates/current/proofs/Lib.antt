@@ -1,0 +1,5 @@
+pub mod Bounds
+pub mod Resting
+pub mod Leaving
+pub mod Targets
+pub mod SameUpdate

@@ -4,7 +4,7 @@ ghost use mathlib.Core.Bool.{Bool, false};
 ghost use Prim.Native.Nat.{suc, _+_, _*_, _≤_, _<_};
 ghost use lib.ListN.{length, take, drop};
 ghost use Rattle.rules.specs.Bytes.{_or_, first};
-ghost use Rattle.rules.specs.Values.{isPlain, isMaybe, isType, valueFits};
+ghost use Rattle.rules.specs.Values.{isType};
 ghost use Rattle.rules.specs.Layout.{blocks, records, nodes, kindAt};
 ghost use Rattle.rules.specs.Format.{lengthWrong, checkOf, sumWrong, numberWrong, fieldWrong, typeFieldWrong, nodeWrong, isZero, mayEnd, afterEnd, recordWrong};
 use kinds::both;
@@ -17,6 +17,9 @@ use table::node;
 use table::node_at;
 use table::u16_at;
 use table::u32_at;
+use values::is_maybe;
+use values::is_plain;
+use values::value_fits;
 
 // Code 1: length 0, above 12,288 or not whole blocks.
 pub fn length_wrong(p: &[u8]) -> bool
@@ -97,36 +100,11 @@ pub fn first_number(p: &[u8]) -> Place
     Place::Nowhere
 }
 
-// Types 1-3 are plain.
-pub fn is_plain(t: u8) -> bool
-    ensures { λ r. ⌜ r ≡ isPlain t ⌝ }
-{
-    both(1 <= t, t <= 3)
-}
-
-// Types 5-7 are maybe of these.
-pub fn is_maybe(t: u8) -> bool
-    ensures { λ r. ⌜ r ≡ isMaybe t ⌝ }
-{
-    both(5 <= t, t <= 7)
-}
-
 // The types are the plain ones and maybe of these.
 pub fn is_type(t: u8) -> bool
     ensures { λ r. ⌜ r ≡ isType t ⌝ }
 {
     either(is_plain(t), is_maybe(t))
-}
-
-// A type, a present byte and a word are those of a value.
-pub fn value_fits(t: u8, present: usize, word: u32) -> bool
-    ensures { λ r. ⌜ r ≡ valueFits t present word ⌝ }
-{
-    let there = either(present == 1, both(present == 0, is_maybe(t)));
-    let absent = either(word == 0, present == 1);
-    let unit = either(word == 0, !either(t == 1, t == 5));
-    let truth = either(word <= 1, !either(t == 2, t == 6));
-    both(both(both(there, absent), unit), truth)
 }
 
 // A field not named for its kind is zero; a channel is 0-7.
@@ -156,7 +134,7 @@ fn type_field_wrong(f: TypeField, t: u8, b: usize, w: u32) -> bool
         TypeField::NoType => !both(t == 0, w == 0),
         TypeField::AnyType => !both(is_type(t), w == 0),
         TypeField::PlainType => !both(is_plain(t), w == 0),
-        TypeField::ValueType => !both(is_type(t), value_fits(t, b, w)),
+        TypeField::ValueType => !both(is_type(t), value_fits(t, b as u64, w as u64)),
     }
 }
 

@@ -2,25 +2,12 @@
 ghost use mathlib.Core.Path.{_≡_};
 ghost use Prim.Native.Nat.{_<_, _≤_, _^_};
 ghost use lib.ListN.{length};
-ghost use Rattle.rules.specs.Bytes.{_and_, _or_};
 ghost use Rattle.rules.specs.Layout.{headerLength, inputLength, timeIn};
 ghost use Rattle.rules.specs.Calls.{absentWrong, inputWrong, timeWrong};
 use cells::last_time;
+use kinds::both;
+use kinds::either;
 use table::u32_at;
-
-// Both, as the rules have it.
-fn both(x: bool, y: bool) -> bool
-    ensures { λ r. ⌜ r ≡ (x and y) ⌝ }
-{
-    if x { y } else { false }
-}
-
-// Either, as the rules have it.
-fn either(x: bool, y: bool) -> bool
-    ensures { λ r. ⌜ r ≡ (x or y) ⌝ }
-{
-    if x { true } else { y }
-}
 
 // The time of a record.
 pub fn time_of(rec: &[u8]) -> u32

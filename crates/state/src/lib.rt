@@ -18,14 +18,13 @@ use cells::number_of;
 use cells::put32;
 use cells::set_cell;
 use rules::Node;
-use values::pack;
-use values::value_from;
+use values::pack_from;
 
 // The content of the first value of a delay.
 pub fn first_value(n: Node) -> u64
     ensures { λ r. ⌜ r ≡ packed (valueFrom (n .ty) (n .b) (n .word)) ⌝ }
 {
-    pack(value_from(n.ty, n.b, n.word))
+    pack_from(n.ty, n.b, n.word)
 }
 
 // The content of the cell of node i.

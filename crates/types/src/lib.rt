@@ -14,6 +14,7 @@ ghost use Rattle.rules.specs.Typing.{justType, typeE, typesE, typeS, typesS, ty
 ghost use Rattle.rules.specs.Shaped.{NodeOf};
 ghost use Rattle.places.specs.Numbers.{placeIn};
 ghost use Rattle.types.specs.Numbers.{placeBelow, sameIn};
+use kinds::both;
 use places::NOWHERE;
 use places::place;
 use places::sooner;
@@ -21,6 +22,7 @@ use places::wrong_unless;
 use rules::Place;
 use table::declared;
 use table::node;
+use values::is_plain;
 
 // The type of the root, and the smallest wrong place.
 pub struct Typed {
@@ -66,12 +68,6 @@ fn same_in(m: u64) -> bool
     type_in(m) == 1
 }
 
-fn both(x: bool, y: bool) -> bool
-    ensures { λ r. ⌜ r ≡ (x and y) ⌝ }
-{
-    if x { y } else { false }
-}
-
 fn wide(t: u8) -> u32
     ensures { λ r. ⌜ (r ≡ t) × (r < 256) ⌝ }
 {
@@ -105,12 +101,6 @@ fn result_type(k: u8) -> u8
     } else {
         if k == 21 { 7 } else { 2 }
     }
-}
-
-fn is_plain(t: u8) -> bool
-    ensures { λ r. ⌜ r ≡ isPlain t ⌝ }
-{
-    both(1 <= t, t <= 3)
 }
 
 fn channel_type(c: usize) -> u8

@@ -1,21 +1,15 @@
 // Values as one number, and counts.
 ghost use mathlib.Core.Path.{_≡_};
 ghost use Prim.Native.Nat.{_+_, _*_, _<_};
-ghost use Rattle.rules.specs.Bytes.{_and_};
-ghost use Rattle.rules.specs.Values.{isPlain, isMaybe, valueFrom, packed, unpacked};
+ghost use Rattle.rules.specs.Values.{isPlain, isMaybe, valueFits, valueFrom, packed, unpacked};
 ghost use Rattle.rules.specs.Work.{_plus_};
+use kinds::both;
+use kinds::either;
 use rules::INT;
 use rules::MAYBE;
 use rules::Tally;
 use rules::UNIT;
 use rules::Value;
-
-// Both hold.
-fn both(x: bool, y: bool) -> bool
-    ensures { λ r. ⌜ r ≡ (x and y) ⌝ }
-{
-    if x { y } else { false }
-}
 
 // Types 1-3.
 pub fn is_plain(t: u8) -> bool
@@ -29,6 +23,17 @@ pub fn is_maybe(t: u8) -> bool
     ensures { λ r. ⌜ r ≡ isMaybe t ⌝ }
 {
     both(MAYBE + UNIT <= t, t <= MAYBE + INT)
+}
+
+// A present byte and a word are those of a value of type t.
+pub fn value_fits(t: u8, present: u64, word: u64) -> bool
+    ensures { λ r. ⌜ r ≡ valueFits t present word ⌝ }
+{
+    let there = either(present == 1, both(present == 0, is_maybe(t)));
+    let absent = either(word == 0, present == 1);
+    let unit = either(word == 0, !either(t == 1, t == 5));
+    let truth = either(word <= 1, !either(t == 2, t == 6));
+    both(both(both(there, absent), unit), truth)
 }
 
 // A byte as a 64-bit number.

@@ -2,8 +2,7 @@
 ghost use mathlib.Core.Path.{_≡_};
 ghost use Prim.Native.Nat.{_-_};
 ghost use lib.ListN.{length};
-ghost use Rattle.rules.specs.Bytes.{_and_, _or_};
-ghost use Rattle.rules.specs.Values.{typeIn, middleIn, valueFits};
+ghost use Rattle.rules.specs.Values.{typeIn, middleIn};
 ghost use Rattle.rules.specs.Layout.{nodes, cells as cellsOf};
 ghost use Rattle.rules.specs.Kinds.{isSignal, isBranch, isCase};
 ghost use Rattle.rules.specs.Shaped.{NodeOf};
@@ -14,24 +13,12 @@ ghost use Rattle.cells.specs.Indexed.{Indexed};
 ghost use Rattle.state.specs.Stated.{Stated};
 use cells::cell_at;
 use cells::last_time;
+use kinds::both;
+use kinds::either;
 use state::first_value;
 use state::own_cell;
 use table::node;
-use values::is_maybe;
-
-// Both, as the rules have it.
-fn both(x: bool, y: bool) -> bool
-    ensures { λ r. ⌜ r ≡ (x and y) ⌝ }
-{
-    if x { y } else { false }
-}
-
-// Either, as the rules have it.
-fn either(x: bool, y: bool) -> bool
-    ensures { λ r. ⌜ r ≡ (x or y) ⌝ }
-{
-    if x { true } else { y }
-}
+use values::value_fits;
 
 // The type in a content.
 fn type_in(m: u64) -> u8
@@ -45,17 +32,6 @@ fn middle_in(m: u64) -> usize
     ensures { λ r. ⌜ r ≡ middleIn m ⌝ }
 {
     (m / 65536 % 65536) as usize
-}
-
-// A present byte and a word are those of a value of type t.
-fn value_fits(t: u8, present: u64, word: u64) -> bool
-    ensures { λ r. ⌜ r ≡ valueFits t present word ⌝ }
-{
-    let there = either(present == 1, both(present == 0, is_maybe(t)));
-    let absent = either(word == 0, present == 1);
-    let unit = either(word == 0, !either(t == 1, t == 5));
-    let truth = either(word <= 1, !either(t == 2, t == 6));
-    both(both(both(there, absent), unit), truth)
 }
 
 // A content is a value of type t, with a number in bytes 2-3.

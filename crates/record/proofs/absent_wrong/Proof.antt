@@ -6,7 +6,7 @@ use Rattle.record.proofs.absent_wrong.Statement.{statement}
 use Rattle.record.proofs.absent_wrong.Tie as tie
 use Rattle.record.proofs.absent_wrong.Reads as reads
 use Rattle.record.proofs.absent_wrong.Lts as lts
-use Rattle.record.proofs.both.Reads as both-reads
+use Rattle.kinds.proofs.both.Reads as both-reads
 use Rattle.table.proofs.u32_at.Reads as u32-at-reads
 
 -- src/lib.rt:36:18

@@ -6,8 +6,8 @@ use Rattle.record.proofs.input_wrong.Tie as tie
 use Rattle.record.proofs.input_wrong.Reads as reads
 use Rattle.record.proofs.input_wrong.Lts as lts
 use Rattle.record.proofs.absent_wrong.Reads as absent-wrong-reads
-use Rattle.record.proofs.both.Reads as both-reads
-use Rattle.record.proofs.either.Reads as either-reads
+use Rattle.kinds.proofs.both.Reads as both-reads
+use Rattle.kinds.proofs.either.Reads as either-reads
 use Rattle.record.proofs.time_of.Reads as time-of-reads
 
 -- src/lib.rt:46:22

@@ -5,7 +5,7 @@ use Rattle.record.proofs.time_wrong.Tie as tie
 use Rattle.record.proofs.time_wrong.Reads as reads
 use Rattle.record.proofs.time_wrong.Lts as lts
 use Rattle.cells.proofs.last_time.Reads as last-time-reads
-use Rattle.record.proofs.both.Reads as both-reads
+use Rattle.kinds.proofs.both.Reads as both-reads
 use Rattle.record.proofs.time_of.Reads as time-of-reads
 
 -- src/lib.rt:62:9

@@ -19,7 +19,7 @@ use Rattle.types.proofs.+type_b+type_c+type_s.Lts-type_s as type-s-lts
 use Rattle.table.proofs.declared.Reads as declared-reads
 use Rattle.table.proofs.node.Reads as node-reads
 use Rattle.types.proofs.bodies.Reads as bodies-reads
-use Rattle.types.proofs.both.Reads as both-reads
+use Rattle.kinds.proofs.both.Reads as both-reads
 use Rattle.types.proofs.channel_type.Reads as channel-type-reads
 use Rattle.types.proofs.delayed.Reads as delayed-reads
 use Rattle.types.proofs.grouping.Reads as grouping-reads

@@ -4,7 +4,7 @@ use Rattle.values.proofs.is_maybe.Statement.{statement}
 use Rattle.values.proofs.is_maybe.Tie as tie
 use Rattle.values.proofs.is_maybe.Reads as reads
 use Rattle.values.proofs.is_maybe.Lts as lts
-use Rattle.values.proofs.both.Reads as both-reads
+use Rattle.kinds.proofs.both.Reads as both-reads
 
 -- src/lib.rt:56:10
 add-both : tie.Need-add-both

@@ -4,7 +4,7 @@ use Rattle.values.proofs.is_plain.Statement.{statement}
 use Rattle.values.proofs.is_plain.Tie as tie
 use Rattle.values.proofs.is_plain.Reads as reads
 use Rattle.values.proofs.is_plain.Lts as lts
-use Rattle.values.proofs.both.Reads as both-reads
+use Rattle.kinds.proofs.both.Reads as both-reads
 
 -- src/lib.rt:49:5
 both-requires : tie.Need-both-requires

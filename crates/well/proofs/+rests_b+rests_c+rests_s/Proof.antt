@@ -20,7 +20,7 @@ use Rattle.well.proofs.+rests_b+rests_c+rests_s.Lts-rests_s as rests-s-
 use Rattle.state.proofs.first_value.Reads as first-value-reads
 use Rattle.state.proofs.own_cell.Reads as own-cell-reads
 use Rattle.table.proofs.node.Reads as node-reads
-use Rattle.well.proofs.both.Reads as both-reads
+use Rattle.kinds.proofs.both.Reads as both-reads
 use Rattle.well.proofs.+rests_b+rests_c+rests_s.{statement}
 use Rattle.well.proofs.+rests_b+rests_c+rests_s.Tie.{close}
 

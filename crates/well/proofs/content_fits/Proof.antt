@@ -5,10 +5,10 @@ use Rattle.well.proofs.content_fits.Statement.{statement}
 use Rattle.well.proofs.content_fits.Tie as tie
 use Rattle.well.proofs.content_fits.Reads as reads
 use Rattle.well.proofs.content_fits.Lts as lts
-use Rattle.well.proofs.both.Reads as both-reads
+use Rattle.kinds.proofs.both.Reads as both-reads
 use Rattle.well.proofs.middle_in.Reads as middle-in-reads
 use Rattle.well.proofs.type_in.Reads as type-in-reads
-use Rattle.well.proofs.value_fits.Reads as value-fits-reads
+use Rattle.values.proofs.value_fits.Reads as value-fits-reads
 
 -- src/lib.rt:63:9
 value-fits-requires : tie.Need-value-fits-requires

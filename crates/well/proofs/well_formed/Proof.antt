@@ -9,8 +9,8 @@ use Rattle.well.proofs.well_formed.Reads as reads
 use Rattle.well.proofs.well_formed.Lts as lts
 use Rattle.cells.proofs.cell_at.Reads as cell-at-reads
 use Rattle.cells.proofs.last_time.Reads as last-time-reads
-use Rattle.well.proofs.both.Reads as both-reads
-use Rattle.well.proofs.either.Reads as either-reads
+use Rattle.kinds.proofs.both.Reads as both-reads
+use Rattle.kinds.proofs.either.Reads as either-reads
 use Rattle.well.proofs.well_s.Reads as well-s-reads
 
 -- src/lib.rt:213:20

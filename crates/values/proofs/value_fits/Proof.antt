@@ -1,8 +1,8 @@
--- `format::value_fits` meets its contract. The four parts are those of the definition.
+-- `values::value_fits` meets its contract. The four parts are those of the definition.
 use Rattle.rules.specs.Values.{maybeOf, valueFits}
 use borrow.Author.Needs.{needs}
-use Rattle.format.proofs.value_fits.Statement.{statement}
-use Rattle.format.proofs.value_fits.Tie as tie
+use Rattle.values.proofs.value_fits.Statement.{statement}
+use Rattle.values.proofs.value_fits.Tie as tie
 
 returns : tie.Need-returns
 unfolding valueFits maybeOf

@@ -1,6 +1,6 @@
 use Rattle.cells.proofs.Places.{Placing, placing, placed, place-small, whole}
 use native.Mathlib.Omega.{arith}
-use Prim.Native.Nat.{ℕ, _-_, _≤_}
+use Prim.Native.Nat.{ℕ, _-_, _≤_, _<_}
 use mathlib.Core.Path.{_≡_, refl, ap, _∙_}
 use Rattle.cells.proofs.index_places.Statement.{statement}
 use Rattle.cells.proofs.index_places.Tie as tie
@@ -24,7 +24,9 @@ node-at-requires c κs = let s = c .before .before .before .before .pre .0 in (o
 
 -- src/lib.rt:191:27
 cast-index : tie.Need-cast-index Inv-loop μ-loop
-cast-index c = omega (arith, c .node-at .ensures .0, place-small (c .before .before .loop .i) (omega (arith, c .before .before .before .before .before .pre .0 .small, c .before .before .before .before .before .pre .1)))
+cast-index c =
+    let small : c .before .before .loop .i < 1008 = omega (arith, c .before .before .before .before .before .pre .0 .small, c .before .before .before .before .before .pre .1) in
+    omega (arith, c .node-at .ensures .0, place-small (c .before .before .loop .i) small, place-small 0 (omega arith))
 
 -- src/lib.rt:191:15
 add-index : tie.Need-add-index Inv-loop μ-loop

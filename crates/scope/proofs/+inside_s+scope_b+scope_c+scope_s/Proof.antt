@@ -189,7 +189,7 @@ scope-s-scope-e-requires t c κs = let k = read (c .before .before .node .ensure
 
 -- src/lib.rt:117:14
 scope-s-scope-s-requires : (t : ℕ) → scope-s-lts.Need-scope-s-requires (scope-s-calls t) (scope-s-at t) scope-s.Post
-scope-s-scope-s-requires t c κs = let k = read (c .before .before .node .ensures .a-is) (delay-kid (c .before .before .before .before .args .p .now .now) (c .before .before .before .before .args .i) (c .before .before .before .before .pre .1 .0) (sym (c .before .before .node .ensures .kind-is) ∙ c .before .match .keys2)) in (omega (arith, k .less, c .before .before .before .before .pre .0), (k .node, no-offer (c .before .before .before .before .pre .1 .1 .listed)))
+scope-s-scope-s-requires t c κs = let k = read (c .before .before .node .ensures .a-is) (delay-kid (c .before .before .before .before .args .p .now .now) (c .before .before .before .before .args .i) (c .before .before .before .before .pre .1 .0) (sym (c .before .before .node .ensures .kind-is) ∙ c .before .match .keys2)) in (omega (arith, k .less, c .before .before .before .before .pre .0), (k .node, let none = no-offer (c .before .before .before .before .pre .1 .1 .listed) in let above = c .before .before .before .before .pre .1 .1 in search needs))
 
 -- src/lib.rt:119:17
 scope-s-inside-s-requires : (t : ℕ) → scope-s-lts.Need-inside-s-requires (scope-s-calls t) (scope-s-at t) scope-s.Post
@@ -225,7 +225,7 @@ scope-s-sooner-requires-3 t c κs = search needs
 
 -- src/lib.rt:130:17
 scope-s-scope-s-requires-4 : (t : ℕ) → scope-s-lts.Need-scope-s-requires-4 (scope-s-calls t) (scope-s-at t) scope-s.Post
-scope-s-scope-s-requires-4 t c κs = let k = read (c .before .before .node .ensures .a-is) (group-kids (c .before .before .before .before .args .p .now .now) (c .before .before .before .before .args .i) (c .before .before .before .before .pre .1 .0) (sym (c .before .before .node .ensures .kind-is) ∙ c .before .match .keys5) .0) in (omega (arith, k .less, c .before .before .before .before .pre .0), (k .node, own-offer (c .before .before .before .before .pre .1 .1 .listed) (c .before .before .before .before .pre .1 .0) (sym (c .before .before .node .ensures .kind-is) ∙ c .before .match .keys5) (c .before .before .node .ensures .b-is)))
+scope-s-scope-s-requires-4 t c κs = let k = read (c .before .before .node .ensures .a-is) (group-kids (c .before .before .before .before .args .p .now .now) (c .before .before .before .before .args .i) (c .before .before .before .before .pre .1 .0) (sym (c .before .before .node .ensures .kind-is) ∙ c .before .match .keys5) .0) in (omega (arith, k .less, c .before .before .before .before .pre .0), (k .node, let own = own-offer (c .before .before .before .before .pre .1 .1 .listed) (c .before .before .before .before .pre .1 .0) (sym (c .before .before .node .ensures .kind-is) ∙ c .before .match .keys5) (c .before .before .node .ensures .b-is) in let above = c .before .before .before .before .pre .1 .1 in search needs))
 
 -- src/lib.rt:131:17
 scope-s-scope-b-requires : (t : ℕ) → scope-s-lts.Need-scope-b-requires (scope-s-calls t) (scope-s-at t) scope-s.Post

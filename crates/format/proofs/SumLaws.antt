@@ -1,11 +1,11 @@
--- A program of the right length is small, and the check of a block is what a loop over its bytes adds up.
+-- A program of the right length is small, and the check of a block is what a loop from its last byte to its first adds up.
 -- Assumes nothing.
-use mathlib.Core.Path.{_≡_, refl, sym, ap, _∙_}
+use mathlib.Core.Path.{_≡_, refl, ap}
 use mathlib.Core.Bool.{false}
-use mathlib.Core.List.{_∷_}
+use mathlib.Core.List.{[], _∷_}
 use Prim.Native.Nat.{ℕ, suc, _+_, _-_, _*_, _≤_, _<_}
 use native.Mathlib.Omega.{arith}
-use native.Mathlib.Nat.{mul-le-mul}
+use native.Mathlib.Nat.{add-mul}
 use lib.ListN.{length, take, drop, getD}
 use lib.Seq.{drop-cons}
 use borrow.Author.Tests.{ltb-false}
@@ -18,26 +18,43 @@ pub most-bytes : (p : Bytes) → lengthWrong p ≡ false → length p ≤ 12288
 unfolding lengthWrong
 most-bytes p e = ltb-false 12288 (length p) (or-none _ _ (or-none _ _ e .0) .1)
 
--- A byte adds at most 508 times 255.
-pub most-weight : (i x : ℕ) → i < 508 → x < 256 → suc i * x ≤ 129540
-most-weight i x h l = mul-le-mul {n₁ = suc i} {m₁ = x} {n₂ = 508} {m₂ = 255} (omega arith) (omega arith)
+-- The sum of bytes, which is what their weighed sum grows by where each weight is one more.
+unfoldable pub added : Bytes → ℕ
+added [] = 0
+added (x ∷ xs) = x + added xs
 
--- What is left of a block's check at byte i: that byte's part, and what is left at the next.
-pub left-next : (p : Bytes) (at i : ℕ) → at + 508 ≤ length p → i < 508
-    → weighed i (take (508 - i) (drop (at + i) p))
-    ≡ suc i * getD p (at + i) 0 + weighed (i + 1) (take (508 - (i + 1)) (drop (at + (i + 1)) p))
-unfolding weighed
-left-next p at i l h =
-    let a : 508 - i ≡ suc (508 - (i + 1)) = omega arith in
-    let b : suc (at + i) ≡ at + (i + 1) = omega arith in
-    let d : suc i ≡ i + 1 = omega arith in
-    rw (a, drop-cons p (at + i) 0 (omega arith), b) (ap (λ (k : ℕ). suc i * getD p (at + i) 0 + weighed k (take (508 - (i + 1)) (drop (at + (i + 1)) p))) d)
+pub one-more : (i : ℕ) (xs : Bytes) → weighed (suc i) xs ≡ added xs + weighed i xs
+unfolding weighed added
+one-more i [] = refl
+one-more i (x ∷ xs) = omega (arith, one-more (suc i) xs, add-mul 1 (suc i) x)
 
--- All of it is left at byte 0, and nothing after the last.
-pub left-all : (p : Bytes) (at : ℕ) → weighed 0 (take 508 (drop (at + 0) p)) ≡ checkOf (take 508 (drop at p))
-unfolding checkOf
-left-all p at = let a : at + 0 ≡ at = omega arith in rw a
+-- The bytes of a block from byte i on.
+unfoldable pub from : Bytes → ℕ → ℕ → Bytes
+from p at i = take (508 - i) (drop (at + i) p)
 
-pub left-none : (p : Bytes) (at i : ℕ) → 508 ≤ i → weighed i (take (508 - i) (drop (at + i) p)) ≡ 0
-unfolding weighed
-left-none p at i h = let a : 508 - i ≡ 0 = omega arith in rw a
+-- After the last byte there is none, and from the first on there are all.
+pub from-end : (p : Bytes) (at : ℕ) → (added (from p at 508) ≡ 0) × (weighed 0 (from p at 508) ≡ 0)
+unfolding from added weighed
+from-end p at = (refl, refl)
+
+pub from-start : (p : Bytes) (at i : ℕ) → i ≡ 0 → weighed 0 (from p at i) ≡ checkOf (take 508 (drop at p))
+unfolding checkOf from
+from-start p at i e = let a : at + i ≡ at = omega arith in rw (a, e)
+
+-- One byte earlier: the sum of bytes grows by that byte, and the check by the new sum of bytes.
+from-before : (p : Bytes) (at i : ℕ) → at + 508 ≤ length p → 0 < i → i ≤ 508 → from p at (i - 1) ≡ getD p (at + (i - 1)) 0 ∷ from p at i
+unfolding from
+from-before p at i l h m =
+    let a : 508 - (i - 1) ≡ suc (508 - i) = omega arith in
+    let b : suc (at + (i - 1)) ≡ at + i = omega arith in
+    rw (a, drop-cons p (at + (i - 1)) 0 (omega arith), b)
+
+pub bytes-before : (p : Bytes) (at i : ℕ) → at + 508 ≤ length p → 0 < i → i ≤ 508
+    → added (from p at (i - 1)) ≡ getD p (at + (i - 1)) 0 + added (from p at i)
+unfolding added
+bytes-before p at i l h m = rw (from-before p at i l h m)
+
+pub check-before : (p : Bytes) (at i : ℕ) → at + 508 ≤ length p → 0 < i → i ≤ 508
+    → weighed 0 (from p at (i - 1)) ≡ added (from p at (i - 1)) + weighed 0 (from p at i)
+unfolding added weighed
+check-before p at i l h m = rw (from-before p at i l h m) (omega (arith, one-more 0 (from p at i)))

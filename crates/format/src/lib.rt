@@ -28,24 +28,20 @@ pub fn length_wrong(p: &[u8]) -> bool
     either(either(p.len() == 0, 12288 < p.len()), p.len() % 512 != 0)
 }
 
-// What byte i of a block adds to its check.
-fn weight(i: usize, x: u8) -> u32
-    requires { ⌜ i < 508 ⌝ }
-    ensures { λ r. ⌜ (r ≡ suc i * x) × (r ≤ 129540) ⌝ }
-{
-    (i as u32 + 1) * (x as u32)
-}
-
-// The check of the block that starts at a place: the sum of (i+1) times byte i for i = 0..507.
+// The check of the block that starts at a place: the sum of (i+1) times byte i for i = 0..507, worked out as the storage board does. The block
+// comes last byte first, from byte 507 down to byte 0; one running addition takes each byte, the other takes the first one's sum after it, so
+// that byte i is in i+1 of the sums that are added. No product.
 pub fn check_sum(p: &[u8], at: usize) -> u32
     requires { ⌜ at + 508 ≤ length (now p) ⌝ }
     ensures { λ r. ⌜ r ≡ checkOf (take 508 (drop at (now (p .entry)))) ⌝ }
 {
+    let mut bytes: u32 = 0;
     let mut sum: u32 = 0;
-    let mut i: usize = 0;
-    while i < 508 {
-        sum += weight(i, p[at + i]);
-        i += 1;
+    let mut i: usize = 508;
+    while 0 < i {
+        i -= 1;
+        bytes += p[at + i] as u32;
+        sum += bytes;
     }
     sum
 }

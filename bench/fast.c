@@ -266,8 +266,8 @@ static uint32_t lent_fault(const struct program *p, uint64_t *cells, const uint8
     return output_length != records_length / COUPLERFINCH_RECORD * COUPLERFINCH_VALUE ? 11 : 0;
 }
 
-/* The records of a run. The answer is the code of the first that is refused; done counts the others. Code 14 is for runs only. */
-static uint32_t records_run(struct run *r, const struct program *p, uint32_t *time, const uint8_t *records, uint32_t count, int is_run,
+/* The records of a run. The answer is the code of the first that is refused; done counts the others. */
+static uint32_t records_run(struct run *r, const struct program *p, uint32_t *time, const uint8_t *records, uint32_t count,
                             uint8_t *output, uint32_t *done)
 {
     for (*done = 0; *done < count; ++*done) {
@@ -275,8 +275,6 @@ static uint32_t records_run(struct run *r, const struct program *p, uint32_t *ti
         uint32_t now = get32(r->record);
         if (record_wrong(r->record))
             return 12;
-        if (is_run && r->work > 4294967295u - p->bound)
-            return 14;
         if (*time != NO_TIME && now < *time)
             return 13;
         uint64_t v = evaluate(r, p->count - 1);
@@ -303,7 +301,7 @@ static uint32_t steps(const uint8_t *program, size_t program_length, uint8_t *st
     r.cells = cells;
     r.work = 0;
     uint32_t time = get32(state), done;
-    code = records_run(&r, &p, &time, records, (uint32_t)(records_length / COUPLERFINCH_RECORD), most > 1, output, &done);
+    code = records_run(&r, &p, &time, records, (uint32_t)(records_length / COUPLERFINCH_RECORD), output, &done);
     put32(state, time);
     memcpy(state + 4, cells, 8 * p.cells);
     *answer = (couplerfinch_answer){.code = code, .place = code ? done : 0, .steps = done, .work = r.work};

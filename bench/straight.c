@@ -281,15 +281,13 @@ static uint32_t lent_fault(const struct tree *t, uint8_t *state, size_t state_le
     return output_length != records_length / COUPLERFINCH_RECORD * COUPLERFINCH_VALUE ? 11 : 0;
 }
 
-/* One record: its code, or 0 after its step. Code 14 is for runs only. */
-static uint32_t one_record(struct run *r, int is_run, uint8_t *output)
+/* One record: its code, or 0 after its step. */
+static uint32_t one_record(struct run *r, uint8_t *output)
 {
     const struct tree *t = r->tree;
     uint32_t last = get32(r->state), now = get32(r->record);
     if (record_wrong(r->record))
         return 12;
-    if (is_run && r->work > 4294967295u - t->bound)
-        return 14;
     if (last != NO_TIME && now < last)
         return 13;
     put_value(output, evaluate(r, t->count - 1), 0);
@@ -314,7 +312,7 @@ static uint32_t steps(const uint8_t *program, size_t program_length, uint8_t *st
     uint32_t done = 0;
     for (; done < records_length / COUPLERFINCH_RECORD && !code; done += !code) {
         r.record = records + COUPLERFINCH_RECORD * done;
-        code = one_record(&r, most > 1, output + COUPLERFINCH_VALUE * done);
+        code = one_record(&r, output + COUPLERFINCH_VALUE * done);
     }
     *answer = (couplerfinch_answer){.code = code, .place = code ? done : 0, .steps = done, .work = r.work};
     return code;
@@ -341,7 +339,7 @@ uint32_t straight_next(const struct tree *t, uint8_t *state, const uint8_t *reco
     r.state = state;
     r.record = record;
     r.work = 0;
-    uint32_t code = one_record(&r, 1, output);
+    uint32_t code = one_record(&r, output);
     *answer = (couplerfinch_answer){.code = code, .steps = !code, .work = r.work};
     return code;
 }

@@ -46,12 +46,11 @@ extern "C" {
 #define COUPLERFINCH_OUTPUT_LENGTH 11u
 #define COUPLERFINCH_INPUT_FAULT 12u
 #define COUPLERFINCH_TIME_BACK 13u
-#define COUPLERFINCH_TOO_MUCH_WORK 14u
 
 /* An answer: eight numbers, those that its call does not give are 0. */
 typedef struct couplerfinch_answer {
     uint32_t code;  /* 0, or the first code that the rules give */
-    uint32_t place; /* of a refusal: the block (2, 3), record (4), node (5-8) or input record (12-14) */
+    uint32_t place; /* of a refusal: the block (2, 3), record (4), node (5-8) or input record (12, 13) */
     uint32_t steps; /* step, run: whole steps done, of a refusal too */
     uint32_t work;  /* step, run: rules used by the steps done, of a refusal too */
     uint32_t nodes; /* check: how many nodes the program has */

@@ -212,7 +212,7 @@ static uint32_t call(const struct request *request, couplerfinch_answer *answer)
 static void hold_answer(enum call of, uint32_t code, const couplerfinch_answer *a)
 {
     bool checked = of == CHECK && code == 0, ran = of == STEP || of == RUN;
-    if (code != a->code || code > COUPLERFINCH_TOO_MUCH_WORK)
+    if (code != a->code || code > COUPLERFINCH_TIME_BACK)
         fail("the code answered is not that of the answer");
     if ((a->place != 0 && code == 0) || (!ran && (a->steps != 0 || a->work != 0)))
         fail("a place, steps or work where there is none");

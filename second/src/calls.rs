@@ -9,8 +9,6 @@ use crate::value::Value;
 
 /// The bytes of one step's output.
 pub const OUTPUT: usize = 8;
-/// The largest total of a run.
-pub const MOST_WORK: u64 = 4_294_967_295;
 
 /// The answer to an accepted check.
 #[derive(Clone, Copy, Debug, PartialEq, Eq)]
@@ -64,7 +62,7 @@ pub fn step(
     work_records(program, state, record, output, one_record)
 }
 
-/// Runs a list of records: codes 1 to 11, then 12, 14 and 13 for each record.
+/// Runs a list of records: codes 1 to 11, then 12 and 13 for each record.
 pub fn run(
     program: &[u8],
     state: &mut [u8],
@@ -120,14 +118,11 @@ impl Walk<'_> {
         Ok(self.done)
     }
 
-    /// Makes the next step: tries 12, 14 and 13, then answers the value and the step's work.
+    /// Makes the next step: tries 12 and 13, then answers the value and the step's work.
     pub fn next(&mut self, record: &[u8]) -> Result<(Value, u64), Refusal> {
         let Done { steps, work } = self.done;
         let refused = |code| Refusal::after(code, steps, work);
         let record = Record::read(record).ok_or(refused(refusal::INPUT))?;
-        if work + self.program.bound > MOST_WORK {
-            return Err(refused(refusal::TOTAL));
-        }
         if self.state.time.is_some_and(|last| record.time < last) {
             return Err(refused(refusal::BACKWARD));
         }

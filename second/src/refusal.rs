@@ -14,7 +14,6 @@ pub const RECORDS: u32 = 10;
 pub const OUTPUT: u32 = 11;
 pub const INPUT: u32 = 12;
 pub const BACKWARD: u32 = 13;
-pub const TOTAL: u32 = 14;
 
 /// A refused call.
 #[derive(Clone, Copy, Debug, PartialEq, Eq)]

@@ -4,7 +4,7 @@ use Prim.Native.Nat.{ℕ}
 use mathlib.Core.List.{List, [], _∷_}
 use Rattle.rules.specs.Answers.{codeOf, placeOf}
 use Rattle.rules.specs.declared.Refusal.{Refusal}
-use Rattle.rules.specs.declared.Refusal.the-variants.{ProgramLength, CheckSum, BlockNumber, RecordFault, ShapeFault, ScopeFault, TypeFault, NotReady, StateFault, RecordsLength, OutputLength, InputFault, TimeBack, TooMuchWork}
+use Rattle.rules.specs.declared.Refusal.the-variants.{ProgramLength, CheckSum, BlockNumber, RecordFault, ShapeFault, ScopeFault, TypeFault, NotReady, StateFault, RecordsLength, OutputLength, InputFault, TimeBack}
 use Rattle.rules.specs.declared.Checked.{Checked}
 use Rattle.rules.specs.declared.Checked.the-variants.{Accepted}
 use Rattle.rules.specs.declared.Started.{Started}
@@ -16,7 +16,7 @@ use Rattle.rules.specs.declared.Ran.the-variants.{Finished}
 abbrev pub room : ℕ → ℕ → ℕ → ℕ → ℕ → ℕ → ℕ → ℕ → List ℕ
 room code place steps work nodes cells bound type = code ∷ place ∷ steps ∷ work ∷ nodes ∷ cells ∷ bound ∷ type ∷ []
 
--- Whole steps done before a refusal: a run refuses a record, whose place is their number, with codes 12-14; before it none is done.
+-- Whole steps done before a refusal: a run refuses a record, whose place is their number, with codes 12 and 13; before it none is done.
 abbrev pub stepsBefore : Refusal → ℕ
 stepsBefore ProgramLength = 0
 stepsBefore (CheckSum j) = 0
@@ -31,7 +31,6 @@ stepsBefore RecordsLength = 0
 stepsBefore OutputLength = 0
 stepsBefore (InputFault k) = k
 stepsBefore (TimeBack k) = k
-stepsBefore (TooMuchWork k) = k
 
 -- The room after a check, a start, and a step or a run.
 abbrev pub checkedRoom : Checked → List ℕ

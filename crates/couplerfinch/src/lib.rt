@@ -35,7 +35,6 @@ fn steps_before(r: Refusal) -> u32
         Refusal::OutputLength => 0,
         Refusal::InputFault(k) => k,
         Refusal::TimeBack(k) => k,
-        Refusal::TooMuchWork(k) => k,
     }
 }
 

@@ -28,7 +28,7 @@ StepDemand p st rec out answer st₁ out₁ =
     (count cells most type : ℕ) → checkCall p ≡ Accepted count cells most type → wellFormed p st ≡ true
     → StepAnswered p st rec out answer st₁ out₁ count most
 
--- A run refuses only the lengths (10, 11), or one of its records (12-14) after the steps before it; each of its steps is made as above
+-- A run refuses only the lengths (10, 11), or one of its records (12, 13) after the steps before it; each of its steps is made as above
 -- (RunMade, in RunAnswers).
 pub record RunAnswered (p st recs out : Bytes) (answer : Ran) (st₁ out₁ : Bytes) (count most : ℕ) : Type 0 where
   pub answers : RunAnswers p st recs out (record { answer = answer; state = st₁; output = out₁ })

@@ -1,34 +1,36 @@
 -- The calls of an accepted program: start is ready with a well-formed state, and from a well-formed state step and run are refused only for
 -- their records, and leave a well-formed state.
 -- Assumes nothing.
-use mathlib.Core.Path.{_≡_, refl}
+use mathlib.Core.Path.{_≡_, refl, sym}
 use mathlib.Core.Bool.{Bool, true, false, not}
 use Prim.Native.Nat.{ℕ, _*_, _/_, _≤_}
 use native.Mathlib.Omega.{arith}
-use lib.Dec.{eqb}
+use lib.Dec.{eqb, leb}
 use lib.ListN.{length}
-use borrow.Author.Tests.{eq-eqb}
-use Rattle.rules.specs.Bytes.{Bytes, if_then_else_}
+use borrow.Author.Tests.{eq-eqb, leb-true}
+use Rattle.rules.specs.Bytes.{Bytes, if_then_else_, _and_}
 use Rattle.rules.specs.Layout.{inputLength, stateLength}
 use Rattle.rules.specs.Answers.{codeOf}
 use Rattle.rules.specs.Reset.{startState}
 use Rattle.rules.specs.WellFormed.{wellFormed}
+use Rattle.rules.specs.Bound.{bound}
 use Rattle.rules.specs.Update.{stepOf}
 use Rattle.rules.specs.Accepted.{Accepted}
-use Rattle.rules.specs.Calls.{_otherwise_, refuseIf, lentVerdict, inputWrong, timeWrong, stepVerdict, startOutcome, startCall, RunOutcome, runOutcome, runCall, stepOutcome, stepCall}
+use Rattle.rules.specs.Calls.{_otherwise_, refuseIf, lentVerdict, inputWrong, timeWrong, recordVerdict, stepVerdict, startOutcome, startCall, RunOutcome, runOutcome, runCall, stepOutcome, stepCall}
 use Rattle.rules.specs.declared.Refusal.{Refusal}
 use Rattle.rules.specs.declared.Refusal.the-variants.{RecordsLength, OutputLength, InputFault, TimeBack}
 use Rattle.rules.specs.declared.Verdict.{Verdict}
 use Rattle.rules.specs.declared.Verdict.the-variants.{Fine, Refuse}
 use Rattle.rules.specs.declared.Started.the-variants.{Ready}
+use Rattle.rules.proofs.Static.{and-both}
 use Rattle.rules.proofs.Verdicts.{both-fine, if-fine, fine-verdict}
 use Rattle.promises.specs.Small.{Small}
 use Rattle.promises.specs.Seated.{Seated}
 use Rattle.promises.specs.Step.{StepMade}
-use Rattle.promises.specs.Run.{RunAnswers, lengths, ran, StepAnswers, unfit, made}
+use Rattle.promises.specs.Run.{RunAnswers, lengths, ran, StepAnswers, unfit, made, workIn}
 use Rattle.promises.specs.GoesOn.{State}
 use Rattle.promises.proofs.Steps.{step-goes-on}
-use Rattle.promises.proofs.Runs.{in-time, run-from, run-ends-well}
+use Rattle.promises.proofs.Runs.{in-time, run-from, run-ends-well, total-fits}
 
 -- Start.
 pub start-goes-on : (p st : Bytes) → Accepted p → length st ≡ stateLength p
@@ -57,21 +59,29 @@ lengths-lent most h false false = fine
 
 -- Run.
 run-outcome : (p st recs out : Bytes) → Accepted p → Seated p → wellFormed p st ≡ true → Small st → Small recs → (v : Verdict) → Lent 11 v
-    → RunAnswers p st recs out (runOutcome p st recs out v)
+    → (v ≡ Fine → length recs / inputLength ≤ 4096) → RunAnswers p st recs out (runOutcome p st recs out v)
 unfolding runOutcome
-run-outcome p st recs out acc seat well hs hr Fine fine = ran (run-from (length recs / inputLength) p recs acc seat hr 0 0 st out well hs)
-run-outcome p st recs out acc seat well hs hr (Refuse r) (refuse _ h g) = lengths r h g refl
+run-outcome p st recs out acc seat well hs hr Fine fine few = ran (few refl) (run-from (length recs / inputLength) p recs acc seat hr 0 0 st out well hs)
+run-outcome p st recs out acc seat well hs hr (Refuse r) (refuse _ h g) few = lengths r h g refl
+
+-- Records that are not refused are at most 4,096.
+at-most : (b : Bool) (n : ℕ) (w : Verdict) → (refuseIf (not (b and leb n 4096)) RecordsLength otherwise w) ≡ Fine → n ≤ 4096
+at-most b n w e = leb-true n 4096 (and-both b _ (yes _ (if-fine _ _ (both-fine _ _ e .0))) .1)
+  where
+    yes : (t : Bool) → not t ≡ false → t ≡ true
+    yes true z = refl
+    yes false z = sym z
 
 -- Run, from a well-formed state.
 pub run-goes-on : (p st recs out : Bytes) → Accepted p → Seated p → wellFormed p st ≡ true → Small st → Small recs
     → RunAnswers p st recs out (runCall p st recs out)
 unfolding runCall
 run-goes-on p st recs out acc seat well hs hr =
-    rw (lent p st recs out _ acc well) (run-outcome p st recs out acc seat well hs hr _ (lengths-lent 11 (omega arith) _ _))
+    rw (lent p st recs out _ acc well) (run-outcome p st recs out acc seat well hs hr _ (lengths-lent 11 (omega arith) _ _) (at-most _ _ _))
 
 -- Step.
 step-verdict : (st rec : Bytes) → Lent 13 (stepVerdict st rec)
-unfolding stepVerdict _otherwise_ refuseIf
+unfolding stepVerdict recordVerdict _otherwise_ refuseIf
 step-verdict st rec = go (inputWrong rec) (timeWrong st rec)
   where
     go : (a b : Bool) → Lent 13 ((if a then Refuse (InputFault 0) else Fine) otherwise (if b then Refuse (TimeBack 0) else Fine))
@@ -87,7 +97,7 @@ lent-then most (Refuse r) w (refuse _ a b) h = refuse r a b
 
 -- A record that step does not refuse is as it should be.
 step-fine : (st rec : Bytes) → stepVerdict st rec ≡ Fine → inputWrong rec ≡ false
-unfolding stepVerdict
+unfolding stepVerdict recordVerdict
 step-fine st rec e = if-fine _ _ (both-fine _ _ e .0)
 
 -- A step after the verdict on what it is lent.
@@ -109,7 +119,7 @@ step-call-goes-on p st rec out acc seat well hs hr =
 -- A state is left a state.
 pub run-keeps : (p st recs out : Bytes) (o : RunOutcome) → State p st → RunAnswers p st recs out o → State p (o .state)
 run-keeps p st recs out o s (lengths r h g e) = rw e s
-run-keeps p st recs out o s (ran m) =
+run-keeps p st recs out o s (ran _ m) =
     let f = run-ends-well (length recs / inputLength) p recs o 0 0 st out (s .well) (s .bytes) m in
     record { bytes = f .bytes; well = f .well }
 
@@ -117,3 +127,12 @@ run-keeps p st recs out o s (ran m) =
 pub step-keeps : (p st rec out : Bytes) (o : RunOutcome) → State p st → StepAnswers p st rec out o → State p (o .state)
 step-keeps p st rec out o s (unfit r h g e) = rw e s
 step-keeps p st rec out o s (made m e) = rw e (record { bytes = m .bytes; well = m .well })
+
+-- No run's total passes 4,294,967,295.
+pub run-total : (p st recs out : Bytes) (o : RunOutcome) → bound p ≤ 1008 * 1009 → State p st → RunAnswers p st recs out o
+    → workIn (o .answer) ≤ 4294967295
+unfolding workIn
+run-total p st recs out o b s (lengths r h g e) = rw e (omega arith)
+run-total p st recs out o b s (ran few m) =
+    total-fits p (length recs / inputLength) (o .answer) few b
+    (run-ends-well (length recs / inputLength) p recs o 0 0 st out (s .well) (s .bytes) m .answers)

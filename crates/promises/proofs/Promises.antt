@@ -1,7 +1,8 @@
 -- Every accepted program goes on answering.
 -- Assumes nothing.
 use mathlib.Core.Path.{_≡_, refl}
-use Prim.Native.Nat.{ℕ}
+use Prim.Native.Nat.{ℕ, _+_, _*_, _≤_}
+use native.Mathlib.Nat.{mul-le-mul}
 use native.Mathlib.Omega.{arith}
 use Rattle.rules.specs.Bytes.{Bytes}
 use Rattle.rules.specs.Layout.{nodes, cells}
@@ -14,7 +15,7 @@ use Rattle.rules.specs.declared.Checked.{Checked}
 use Rattle.rules.specs.declared.Verdict.{Verdict}
 use Rattle.rules.specs.declared.Verdict.the-variants.{Fine, Refuse}
 use Rattle.rules.proofs.Verdicts.{accepted}
-use Rattle.rules.proofs.Rooted.{some-node}
+use Rattle.rules.proofs.Rooted.{some-node, shaped-of}
 use Rattle.rules.proofs.Once.{bound-small}
 use Rattle.promises.specs.Small.{Small}
 use Rattle.promises.specs.Seated.{Seated}
@@ -22,7 +23,14 @@ use Rattle.promises.specs.GoesOn.{GoesOn}
 use Rattle.promises.proofs.FromTable.{seated}
 use Rattle.promises.proofs.Start.{start-made}
 use Rattle.promises.proofs.Steps.{step-goes-on}
-use Rattle.promises.proofs.CallLaws.{start-goes-on, step-call-goes-on, step-keeps, run-goes-on, run-keeps}
+use Rattle.promises.proofs.CallLaws.{start-goes-on, step-call-goes-on, step-keeps, run-goes-on, run-keeps, run-total}
+
+-- No bound exceeds 1,008 times 1,009.
+pub most-bound : (p : Bytes) → Accepted p → bound p ≤ 1008 * 1009
+most-bound p acc =
+    let few : nodes p ≤ 1008 = shaped-of p acc .small in
+    omega (arith, bound-small p (acc .formed .length-right) (acc .shape-right) (some-node p (acc .formed)),
+    mul-le-mul {n₁ = nodes p} {m₁ = nodes p + 1} {n₂ = 1008} {m₂ = 1009} few (omega arith))
 
 -- Demand 3, for a program that is a list of bytes.
 pub goes-on : (p : Bytes) → Small p → Accepted p → GoesOn p
@@ -39,6 +47,8 @@ goes-on p small acc =
       runs = λ st recs out s h. run-goes-on p st recs out acc seat (s .well) (s .bytes) h;
       run-leaves = λ st recs out s h.
           run-keeps p st recs out (runCall p st recs out) s (run-goes-on p st recs out acc seat (s .well) (s .bytes) h);
+      totals = λ st recs out s h.
+          run-total p st recs out (runCall p st recs out) (most-bound p acc) s (run-goes-on p st recs out acc seat (s .well) (s .bytes) h);
     }
 
 -- What check answers of an accepted program: the bound and the type are those that every step keeps to.

@@ -23,30 +23,36 @@ use Rattle.promises.specs.Step.{StepMade}
 pub data RunMade (p recs : Bytes) (o : RunOutcome) : ℕ → ℕ → ℕ → Bytes → Bytes → Type 0 where
   finished : {done work : ℕ} {st out : Bytes} → o ≡ record { answer = Finished done work; state = st; output = out }
       → RunMade p recs o zero done work st out
-  refused : {left done work : ℕ} {st out : Bytes} (r : Refusal) → recordVerdict p done work st (inputAt recs done) ≡ Refuse r
+  refused : {left done work : ℕ} {st out : Bytes} (r : Refusal) → recordVerdict done st (inputAt recs done) ≡ Refuse r
       → o ≡ record { answer = Ran.Refused r work; state = st; output = out } → RunMade p recs o (suc left) done work st out
-  stepped : {left done work : ℕ} {st out : Bytes} → recordVerdict p done work st (inputAt recs done) ≡ Fine
+  stepped : {left done work : ℕ} {st out : Bytes} → recordVerdict done st (inputAt recs done) ≡ Fine
       → (m : StepMade p (inputAt recs done) st)
       → RunMade p recs o left (suc done) (work + m .tally .work) (m .state) (writeAt out (8 * done) (valueBytes (m .output)))
       → RunMade p recs o (suc left) done work st out
 
 -- An answer after so many steps and so much work, with so many records left: all of them are done, or one of those left is refused (codes
--- 12-14, at the number of steps done); and each step works at most the bound.
+-- 12 and 13, at the number of steps done); and each step works at most the bound.
 abbrev pub AnswersRun : Bytes → ℕ → ℕ → ℕ → Ran → Type 0
 AnswersRun p left done work (Finished steps total) = (steps ≡ done + left) × (total ≤ work + left * bound p)
 AnswersRun p left done work (Ran.Refused r total) =
-    ((12 ≤ codeOf r) × (codeOf r ≤ 14)) × ((done ≤ placeOf r) × (placeOf r < done + left)) × (total ≤ work + left * bound p)
+    ((12 ≤ codeOf r) × (codeOf r ≤ 13)) × ((done ≤ placeOf r) × (placeOf r < done + left)) × (total ≤ work + left * bound p)
 
 pub record RunEnds (p : Bytes) (left done work : ℕ) (o : RunOutcome) : Type 0 where
   pub well : wellFormed p (o .state) ≡ true
   pub bytes : Small (o .state)
   pub answers : AnswersRun p left done work (o .answer)
 
--- A run's call: the lengths of records and output are refused (10, 11), and nothing is changed; or it is a run of all its records.
+-- The work of the steps done, in either answer.
+unfoldable pub workIn : Ran → ℕ
+workIn (Finished steps total) = total
+workIn (Ran.Refused r total) = total
+
+-- A run's call: the lengths of records and output are refused (10, 11), and nothing is changed; or it is a run of all its records,
+-- at most 4,096.
 pub data RunAnswers (p st recs out : Bytes) (o : RunOutcome) : Type 0 where
   lengths : (r : Refusal) → 10 ≤ codeOf r → codeOf r ≤ 11 → o ≡ record { answer = Ran.Refused r 0; state = st; output = out }
       → RunAnswers p st recs out o
-  ran : RunMade p recs o (length recs / inputLength) 0 0 st out → RunAnswers p st recs out o
+  ran : length recs / inputLength ≤ 4096 → RunMade p recs o (length recs / inputLength) 0 0 st out → RunAnswers p st recs out o
 
 -- A step's call: the lengths or the record are refused (10-13), and nothing is changed; or the step is made.
 pub data StepAnswers (p st rec out : Bytes) (o : RunOutcome) : Type 0 where

@@ -20,7 +20,7 @@ use Rattle.rules.specs.Update.{Stepped, Made, NotMade, stepOf}
 use Rattle.rules.specs.declared.Place.{Place}
 use Rattle.rules.specs.declared.Place.the-variants.{At, Nowhere}
 use Rattle.rules.specs.declared.Refusal.{Refusal}
-use Rattle.rules.specs.declared.Refusal.the-variants.{ProgramLength, CheckSum, BlockNumber, RecordFault, ShapeFault, ScopeFault, TypeFault, NotReady, StateFault, RecordsLength, OutputLength, InputFault, TimeBack, TooMuchWork}
+use Rattle.rules.specs.declared.Refusal.the-variants.{ProgramLength, CheckSum, BlockNumber, RecordFault, ShapeFault, ScopeFault, TypeFault, NotReady, StateFault, RecordsLength, OutputLength, InputFault, TimeBack}
 use Rattle.rules.specs.declared.Verdict.{Verdict}
 use Rattle.rules.specs.declared.Verdict.the-variants.{Fine, Refuse}
 use Rattle.rules.specs.declared.Checked.{Checked}
@@ -105,23 +105,16 @@ inputWrong rec =
 unfoldable pub timeWrong : Bytes → Bytes → Bool
 timeWrong st rec = not (eqb (lastTime st) noTime) and ltb (timeIn rec) (lastTime st)
 
--- Code 14: run's total so far plus the bound above 4,294,967,295.
-unfoldable pub totalWrong : ℕ → ℕ → Bool
-totalWrong work most = ltb 4294967295 (work + most)
-
--- One record of a run: 12, 14, 13 in that order.
-unfoldable pub recordVerdict : Bytes → ℕ → ℕ → Bytes → Bytes → Verdict
-recordVerdict p done work st rec =
-    refuseIf (inputWrong rec) (InputFault done)
-    otherwise refuseIf (totalWrong work (bound p)) (TooMuchWork done)
-    otherwise refuseIf (timeWrong st rec) (TimeBack done)
+-- One record of a run, after so many steps: 12, then 13.
+unfoldable pub recordVerdict : ℕ → Bytes → Bytes → Verdict
+recordVerdict done st rec = refuseIf (inputWrong rec) (InputFault done) otherwise refuseIf (timeWrong st rec) (TimeBack done)
 
 -- A run of the records left, after so many steps and so much work. A refusal keeps the finished steps. (NotMade never comes up in an
 -- accepted program and a well-formed state.)
 unfoldable pub runFrom : Bytes → Bytes → ℕ → ℕ → ℕ → Bytes → Bytes → RunOutcome
 runFrom p recs zero done work st out = record { answer = Finished done work; state = st; output = out }
 runFrom p recs (suc left) done work st out =
-    elim (recordVerdict p done work st (inputAt recs done)) [
+    elim (recordVerdict done st (inputAt recs done)) [
       | Refuse r ↦ record { answer = Ran.Refused r work; state = st; output = out }
       | Fine ↦
           elim (stepOf p (inputAt recs done) st) [
@@ -142,7 +135,7 @@ runCall p st recs out =
 
 -- Step takes one record and tries 1-11, then 12, then 13.
 unfoldable pub stepVerdict : Bytes → Bytes → Verdict
-stepVerdict st rec = refuseIf (inputWrong rec) (InputFault 0) otherwise refuseIf (timeWrong st rec) (TimeBack 0)
+stepVerdict st rec = recordVerdict 0 st rec
 
 unfoldable pub stepOutcome : Bytes → Bytes → Verdict → Stepped → RunOutcome
 stepOutcome st out (Refuse r) s = record { answer = Ran.Refused r 0; state = st; output = out }

@@ -88,7 +88,6 @@ pub enum Refusal {
     OutputLength,
     InputFault(u32),
     TimeBack(u32),
-    TooMuchWork(u32),
 }
 
 // A fault found, or none.
@@ -163,7 +162,6 @@ pub fn code_of(r: Refusal) -> u8
         Refusal::OutputLength => 11,
         Refusal::InputFault(_) => 12,
         Refusal::TimeBack(_) => 13,
-        Refusal::TooMuchWork(_) => 14,
     }
 }
 
@@ -184,6 +182,5 @@ pub fn place_of(r: Refusal) -> u32
         Refusal::OutputLength => 0,
         Refusal::InputFault(at) => at,
         Refusal::TimeBack(at) => at,
-        Refusal::TooMuchWork(at) => at,
     }
 }

@@ -14,12 +14,10 @@ use Rattle.rules.specs.declared.Refusal.{Refusal}
 use Rattle.rules.specs.declared.Verdict.the-variants.{Fine, Refuse}
 use Rattle.rules.specs.declared.Ran.{Ran}
 use Rattle.rules.specs.declared.Ran.the-variants.{Finished}
-use borrow.Author.Tests.{ltb-false}
 use Rattle.rules.specs.Layout.{timeIn}
-use Rattle.rules.specs.Bound.{bound}
 use Rattle.rules.specs.WellFormed.{lastMoment}
 use Rattle.rules.specs.Update.{Stepped}
-use Rattle.rules.specs.Calls.{stepOutcome, totalWrong}
+use Rattle.rules.specs.Calls.{stepOutcome}
 use Rattle.rules.specs.declared.Verdict.{Verdict}
 use Rattle.rules.proofs.Verdicts.{both-fine, if-fine}
 use Rattle.promises.proofs.Runs.{in-time}
@@ -30,17 +28,17 @@ use Rattle.rules.specs.WellFormed.{wellFormed}
 use Rattle.rules.specs.Evaluate.{Env}
 use Rattle.rules.proofs.Cells.{length-writeAt}
 use Rattle.promises.proofs.Steps.{well-parts}
-use Rattle.steps.specs.Going.{Going, Taken, Leaves, OnTheWay}
-use Rattle.steps.proofs.StepLaws.{gone}
+use Rattle.steps.specs.Going.{Going, Taken, Leaves, OnTheWay, mostWork}
+use Rattle.steps.proofs.StepLaws.{gone, small-bound}
 
 next : (p recs : Bytes) (left done work : ℕ) (st out : Bytes) {v : Value} {st₁ : Bytes} {w : Tally}
-    → recordVerdict p done work st (inputAt recs done) ≡ Fine → stepOf p (inputAt recs done) st ≡ Made v st₁ w
+    → recordVerdict done st (inputAt recs done) ≡ Fine → stepOf p (inputAt recs done) st ≡ Made v st₁ w
     → runFrom p recs (suc left) done work st out ≡ runFrom p recs left (suc done) (work + w .work) st₁ (writeAt out (8 * done) (valueBytes v))
 unfolding runFrom
 next p recs left done work st out e f = rw (e, runFrom, f)
 
 stops : (p recs : Bytes) (left done work : ℕ) (st out : Bytes) {r : Refusal}
-    → recordVerdict p done work st (inputAt recs done) ≡ Refuse r
+    → recordVerdict done st (inputAt recs done) ≡ Refuse r
     → runFrom p recs (suc left) done work st out ≡ record { answer = Ran.Refused r work; state = st; output = out }
 unfolding runFrom
 stops p recs left done work st out e = rw (e, runFrom)
@@ -52,7 +50,7 @@ ends p recs done work st out = refl
 
 -- the record at a number, with the records left after it
 pub run-next : (p recs : Bytes) (n done work w : ℕ) (st st₁ out out₁ : Bytes) → done < n
-    → recordVerdict p done work st (inputAt recs done) ≡ Fine → Taken p (inputAt recs done) st st₁ out out₁ (8 * done) w
+    → recordVerdict done st (inputAt recs done) ≡ Fine → Taken p (inputAt recs done) st st₁ out out₁ (8 * done) w
     → runFrom p recs (n - done) done work st out ≡ runFrom p recs (n - (done + 1)) (done + 1) (work + w) st₁ out₁
 run-next p recs n done work w st st₁ out out₁ h e t =
     let a : n - done ≡ suc (n - (done + 1)) = omega arith in
@@ -62,7 +60,7 @@ run-next p recs n done work w st st₁ out out₁ h e t =
     ∙ (λ i. runFrom p recs (n - (done + 1)) (b i) (work + sym (t .worked) i) st₁ (sym (t .shown) i))
 
 pub run-stops : (p recs : Bytes) (n done work : ℕ) (st out : Bytes) {r : Refusal} → done < n
-    → recordVerdict p done work st (inputAt recs done) ≡ Refuse r
+    → recordVerdict done st (inputAt recs done) ≡ Refuse r
     → runFrom p recs (n - done) done work st out ≡ record { answer = Ran.Refused r work; state = st; output = out }
 run-stops p recs n done work st out h e =
     let a : n - done ≡ suc (n - (done + 1)) = omega arith in
@@ -74,14 +72,10 @@ run-ends p recs n done work st out h =
     let a : n - done ≡ 0 = omega arith in
     ap (λ (k : ℕ). runFrom p recs k done work st out) a ∙ ends p recs done work st out
 
--- a record that is not refused: its time is not too large, and the total stays in 32 bits
-record-in-time : (p : Bytes) (done work : ℕ) (st rec : Bytes) → recordVerdict p done work st rec ≡ Fine → timeIn rec ≤ lastMoment
+-- a record that is not refused: its time is not too large
+record-in-time : (done : ℕ) (st rec : Bytes) → recordVerdict done st rec ≡ Fine → timeIn rec ≤ lastMoment
 unfolding recordVerdict
-record-in-time p done work st rec e = in-time rec (if-fine _ _ (both-fine _ _ e .0))
-
-pub total-fits : (p : Bytes) (done work : ℕ) (st rec : Bytes) → recordVerdict p done work st rec ≡ Fine → work + bound p ≤ 4294967295
-unfolding recordVerdict totalWrong
-total-fits p done work st rec e = ltb-false _ _ (if-fine _ _ (both-fine _ _ (both-fine _ _ e .1) .0))
+record-in-time done st rec e = in-time rec (if-fine _ _ (both-fine _ _ e .0))
 
 -- what a step leaves, refused or made
 pub step-refused : (st out : Bytes) (s : Stepped) (v : Verdict) {found : Verdict} {r : Refusal} → found ≡ v → found ≡ Refuse r
@@ -109,22 +103,22 @@ one-length p st st₁ e f = well-parts p st e .long ∙ sym (well-parts p st₁ 
 -- a run on its way, at its next record: it goes on, stops, or has come to its end
 module _ {p : Bytes} {index : List ℕ} {recs st₀ out₀ st : Bytes} {env : Env} {out : Bytes} {count left done work : ℕ}
     (w : OnTheWay p index recs st₀ out₀ st env out count left done work) where
-  module _ (h : done < left) {v : Verdict} (e : v ≡ recordVerdict p done work st (take (40 * done + 40 - 40 * done) (drop (40 * done) recs))) where
-    judged : v ≡ recordVerdict p done work st (inputAt recs done)
-    judged = e ∙ ap (recordVerdict p done work st) (slice-is recs done)
+  module _ (h : done < left) {v : Verdict} (e : v ≡ recordVerdict done st (take (40 * done + 40 - 40 * done) (drop (40 * done) recs))) where
+    judged : v ≡ recordVerdict done st (inputAt recs done)
+    judged = e ∙ ap (recordVerdict done st) (slice-is recs done)
 
     pub goes-on : v ≡ Fine → {st₁ out₁ : Bytes} {n : ℕ}
         → Taken p (take (40 * done + 40 - 40 * done) (drop (40 * done) recs)) st st₁ out out₁ (8 * done) n → {env₁ : Env} → env₁ ≡ env
         → OnTheWay p index recs st₀ out₀ st₁ env₁ out₁ count left (done + 1) (work + n)
     goes-on f {st₁} {out₁} {n} t q =
-        let fine : recordVerdict p done work st (inputAt recs done) ≡ Fine = sym judged ∙ f in
-        let well = t .well (record-in-time p done work st _ (sym e ∙ f)) in
+        let fine : recordVerdict done st (inputAt recs done) ≡ Fine = sym judged ∙ f in
+        let well = t .well (record-in-time done st _ (sym e ∙ f)) in
         let t₁ : Taken p (inputAt recs done) st st₁ out out₁ (8 * done) n = rw (slice-is recs done) at t in
         record {
           going = gone (w .going) well q;
           all = w .all;
           within = omega arith;
-          fits = omega (arith, total-fits p done work st (inputAt recs done) fine, t .within);
+          fits = omega (arith, w .fits, small-bound p (w .going .accepted), t .within);
           cells = one-length p st₁ st well (w .going .well) ∙ w .cells;
           room = ap length (t .shown) ∙ length-writeAt (valueBytes (t .output)) out (8 * done) ∙ w .room;
           same = sym (run-next p recs left done work n st st₁ out out₁ h fine t₁) ∙ w .same;
@@ -134,6 +128,10 @@ module _ {p : Bytes} {index : List ℕ} {recs st₀ out₀ st : Bytes} {env : En
     stopped f =
         let s = sym (w .same) ∙ run-stops p recs left done work st out h (sym judged ∙ f) in
         rw s (record { answer-is = refl; state-is = refl; output-is = refl })
+
+  -- what it has worked is at most so much for each of its records
+  pub worked : work ≤ mostWork * (length recs / 40)
+  worked = omega (arith, w .fits, w .within, w .all)
 
   pub ended : left ≤ done → Leaves (runFrom p recs left 0 0 st₀ out₀) (Finished done work) st out
   ended h =

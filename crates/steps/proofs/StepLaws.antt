@@ -33,7 +33,6 @@ use Rattle.moves.specs.Lent.{Ready}
 use native.Mathlib.Nat.{mul-le-mul}
 use lib.Dec.{ltb}
 use borrow.Author.Tests.{ltb-true, ltb-false, lt-ltb, le-ltb}
-use Rattle.rules.specs.Calls.{totalWrong}
 use Rattle.outcomes.specs.Combine.{workOf}
 use Rattle.outcomes.proofs.Outcomes.{work-within, slots-none}
 use Rattle.rules.proofs.Within.{evalS-within}
@@ -259,12 +258,3 @@ step-taken {out = out} {place = place} {a = a} s m =
       well = m .well;
       within = omega (arith, m .within);
     }
-
--- code 14's test, without a sum that could leave 32 bits
-pub total-law : (work most : ℕ) → most ≤ 4294967295 → ltb (4294967295 - most) work ≡ totalWrong work most
-unfolding totalWrong
-total-law work most h = go (ltb (4294967295 - most) work) refl
-  where
-    go : (b : Bool) → ltb (4294967295 - most) work ≡ b → ltb (4294967295 - most) work ≡ ltb 4294967295 (work + most)
-    go true e = let l = ltb-true (4294967295 - most) work e in e ∙ sym (lt-ltb 4294967295 (work + most) (omega arith))
-    go false e = let l = ltb-false (4294967295 - most) work e in e ∙ sym (le-ltb 4294967295 (work + most) (omega arith))

@@ -3,7 +3,7 @@
 use mathlib.Core.Path.{_≡_}
 use mathlib.Core.Bool.{true}
 use mathlib.Core.List.{List}
-use Prim.Native.Nat.{ℕ, _+_, _-_, _/_, _≤_}
+use Prim.Native.Nat.{ℕ, _+_, _-_, _*_, _/_, _≤_}
 use lib.ListN.{length}
 use Rattle.rules.specs.Bytes.{Bytes, writeAt}
 use Rattle.rules.specs.Values.{valueBytes}
@@ -87,7 +87,7 @@ pub record OnTheWay (p : Bytes) (index : List ℕ) (recs st₀ out₀ st : Bytes
   pub going : Going p index st env count
   pub all : left ≡ length recs / inputLength
   pub within : done ≤ left
-  pub fits : work ≤ 4294967295
+  pub fits : work ≤ mostWork * done
   pub cells : length st ≡ length st₀
   pub room : length out ≡ length out₀
   pub same : runFrom p recs (left - done) done work st out ≡ runFrom p recs left 0 0 st₀ out₀

@@ -5,10 +5,10 @@ ghost use lib.ListN.{length};
 ghost use Rattle.rules.specs.Layout.{inputLength, headerLength, mostNodes};
 ghost use Rattle.rules.specs.Tree.{root};
 ghost use Rattle.rules.specs.Evaluate.{unbound, evalS};
-ghost use Rattle.rules.specs.Bound.{bound};
 ghost use Rattle.rules.specs.Update.{stepOf};
-ghost use Rattle.rules.specs.Calls.{recordVerdict, stepVerdict, stepOutcome, totalWrong, runFrom};
-ghost use Rattle.steps.specs.Going.{Going, Held, Displayed, Advanced, Taken, Leaves};
+ghost use Rattle.rules.specs.Calls.{recordVerdict, stepVerdict, stepOutcome, runFrom};
+ghost use Rattle.steps.specs.Going.{Going, Held, Displayed, Advanced, Taken, Leaves, mostWork};
+ghost use Rattle.promises.specs.Run.{workIn};
 use answers::otherwise;
 use answers::refuse_if;
 use cells::put64;
@@ -25,31 +25,13 @@ use rules::Refusal;
 use rules::Verdict;
 use update::update_s;
 
-// Code 14: the total so far plus the bound is above 4,294,967,295.
-fn total_wrong(work: u32, most: u32) -> bool
-    ensures { λ r. ⌜ r ≡ totalWrong work most ⌝ }
-{
-    4294967295 - most < work
-}
-
-// The verdict on one record of a run: 12, 14, 13 in that order.
-fn record_verdict(p: &[u8], st: &[u8], rec: &[u8], done: u32, work: u32, most: u32) -> Verdict
-    requires { ⌜ (headerLength ≤ length (now st)) × (inputLength ≤ length (now rec)) × (most ≡ bound (now p)) ⌝ }
-    ensures { λ r. ⌜ r ≡ recordVerdict (now (p .entry)) done work (now (st .entry)) (now (rec .entry)) ⌝ }
+// The verdict on one record, after so many steps: 12, then 13.
+fn record_verdict(st: &[u8], rec: &[u8], done: u32) -> Verdict
+    requires { ⌜ (headerLength ≤ length (now st)) × (inputLength ≤ length (now rec)) ⌝ }
+    ensures { λ r. ⌜ r ≡ recordVerdict done (now (st .entry)) (now (rec .entry)) ⌝ }
 {
     let input = refuse_if(input_wrong(rec), Refusal::InputFault(done));
-    let total = refuse_if(total_wrong(work, most), Refusal::TooMuchWork(done));
     let time = refuse_if(time_wrong(st, rec), Refusal::TimeBack(done));
-    otherwise(input, otherwise(total, time))
-}
-
-// The verdict on the record of a step: 12, then 13.
-fn step_verdict(st: &[u8], rec: &[u8]) -> Verdict
-    requires { ⌜ (headerLength ≤ length (now st)) × (inputLength ≤ length (now rec)) ⌝ }
-    ensures { λ r. ⌜ r ≡ stepVerdict (now (st .entry)) (now (rec .entry)) ⌝ }
-{
-    let input = refuse_if(input_wrong(rec), Refusal::InputFault(0));
-    let time = refuse_if(time_wrong(st, rec), Refusal::TimeBack(0));
     otherwise(input, time)
 }
 
@@ -118,7 +100,8 @@ fn make_step(
     seen + moved
 }
 
-// The records of a run, one after the other, until one is refused. More records may follow in another run.
+// The records of a run, one after the other, until one is refused. More records may follow in another run. (No step works more than 1,008
+// times 1,009, so that the work of 4,096 is below 2 to the 32nd.)
 pub fn run_records(
     p: &[u8],
     index: &[u16; 2016],
@@ -127,10 +110,9 @@ pub fn run_records(
     env: &mut [u64; 1008],
     out: &mut [u8],
     count: usize,
-    most: u32,
 ) -> Ran
-    requires { ⌜ Going (now p) (now index) (now st) (now env) count × (most ≡ bound (now p)) × (length (now recs) ≤ 163840) × (length (now out) ≡ 8 * (length (now recs) / inputLength)) ⌝ }
-    ensures { λ r. ⌜ Leaves (runFrom (now (p .entry)) (now (recs .entry)) (length (now (recs .entry)) / inputLength) 0 0 (now (st .entry)) (now (out .entry))) r (now (st .exit)) (now (out .exit)) × Going (now (p .entry)) (now (index .entry)) (now (st .exit)) (now (env .exit)) count ⌝ }
+    requires { ⌜ Going (now p) (now index) (now st) (now env) count × (length (now recs) ≤ 163840) × (length (now out) ≡ 8 * (length (now recs) / inputLength)) ⌝ }
+    ensures { λ r. ⌜ Leaves (runFrom (now (p .entry)) (now (recs .entry)) (length (now (recs .entry)) / inputLength) 0 0 (now (st .entry)) (now (out .entry))) r (now (st .exit)) (now (out .exit)) × Going (now (p .entry)) (now (index .entry)) (now (st .exit)) (now (env .exit)) count × (workIn r ≤ mostWork * (length (now (recs .entry)) / inputLength)) ⌝ }
 {
     let left = recs.len() / 40;
     let mut done: usize = 0;
@@ -139,7 +121,7 @@ pub fn run_records(
         let from = 40 * done;
         let to = from + 40;
         let rec = &recs[from..to];
-        let found = record_verdict(p, st, rec, done as u32, work, most);
+        let found = record_verdict(st, rec, done as u32);
         if let Verdict::Refuse(r) = found {
             return Ran::Refused(r, work);
         }
@@ -163,7 +145,7 @@ pub fn step_record(
     requires { ⌜ Going (now p) (now index) (now st) (now env) count × (inputLength ≤ length (now rec)) × (8 ≤ length (now out)) ⌝ }
     ensures { λ r. ⌜ Leaves (stepOutcome (now (st .entry)) (now (out .entry)) (stepVerdict (now (st .entry)) (now (rec .entry))) (stepOf (now (p .entry)) (now (rec .entry)) (now (st .entry)))) r (now (st .exit)) (now (out .exit)) ⌝ }
 {
-    let found = step_verdict(st, rec);
+    let found = record_verdict(st, rec, 0);
     match found {
         Verdict::Refuse(r) => Ran::Refused(r, 0),
         Verdict::Fine => {

@@ -149,8 +149,7 @@ fn run_accepted(p: &[u8], st: &mut [u8], recs: &[u8], out: &mut [u8], count: usi
         Verdict::Refuse(r) => Ran::Refused(r, 0),
         Verdict::Fine => {
             let mut env: [u64; 1008] = [0; 1008];
-            let most = bound_of(p, count);
-            run_records(p, &index, recs, st, &mut env, out, count, most)
+            run_records(p, &index, recs, st, &mut env, out, count)
         }
     }
 }

@@ -4,7 +4,6 @@ mod say;
 ghost use mathlib.Core.Path.{_≡_};
 ghost use Prim.Native.Nat.{_≤_};
 ghost use Rattle.rules.specs.Layout.{nodes};
-ghost use Rattle.rules.specs.Bound.{bound};
 ghost use Rattle.rules.specs.Accepted.{Accepted};
 ghost use Rattle.steps.specs.Going.{Going};
 use feed::Got;
@@ -59,7 +58,6 @@ fn placed(r: Refusal, steps: u32) -> Refusal {
     match r {
         Refusal::InputFault(_) => Refusal::InputFault(steps),
         Refusal::TimeBack(_) => Refusal::TimeBack(steps),
-        Refusal::TooMuchWork(_) => Refusal::TooMuchWork(steps),
         other => other,
     }
 }
@@ -88,23 +86,13 @@ fn stop_refused(r: Refusal) -> After {
     stop()
 }
 
-// A step that is done: its line, and its work to the total.
-fn finished(
-    after: Place,
-    record: &[u8; 40],
-    value: &[u8; 8],
-    work: u32,
-    done: u32,
-    total: u32,
-) -> After {
-    if work > 4294967295 - total {
-        return stop_refused(Refusal::TooMuchWork(done));
-    }
+// A step that is done: its line, and its work to the total. (4,096 steps don't take that past 4,294,967,295: `run-total` in crate promises.)
+fn finished(after: Place, record: &[u8; 40], value: &[u8; 8], work: u32, total: u32) -> After {
     say::step(record, value, work);
     After {
         at: after.at,
         end: after.end,
-        total: total + work,
+        total: std::num::wrapping_add_u32(total, work),
         more: true,
     }
 }
@@ -120,9 +108,8 @@ fn step(
     env: &mut [u64; 1008],
     input: &mut [u8],
     count: usize,
-    most: u32,
 ) -> After
-    requires { ⌜ Going (now program) (now index) (now state) (now env) count × (most ≡ bound (now program)) ⌝ }
+    requires { ⌜ Going (now program) (now index) (now state) (now env) count ⌝ }
     ensures { λ _. ⌜ Going (now (program .entry)) (now (index .entry)) (now (state .exit)) (now (env .exit)) count ⌝ }
 {
     let mut record = [0u8; 40];
@@ -136,8 +123,8 @@ fn step(
     }
     let after = got.place;
     let mut value = [0u8; 8];
-    match run_records(program, index, &record, state, env, &mut value, count, most) {
-        Ran::Finished(_, work) => finished(after, &record, &value, work, done, total),
+    match run_records(program, index, &record, state, env, &mut value, count) {
+        Ran::Finished(_, work) => finished(after, &record, &value, work, total),
         Ran::Refused(r, _) => stop_refused(placed(r, done)),
     }
 }
@@ -162,9 +149,8 @@ fn steps(
     env: &mut [u64; 1008],
     input: &mut [u8],
     count: usize,
-    most: u32,
 )
-    requires { ⌜ Going (now program) (now index) (now state) (now env) count × (most ≡ bound (now program)) ⌝ }
+    requires { ⌜ Going (now program) (now index) (now state) (now env) count ⌝ }
 {
     let mut at = place.at;
     let mut end = place.end;
@@ -181,7 +167,6 @@ fn steps(
             env,
             input,
             count,
-            most,
         );
         if !t.more {
             return;
@@ -195,22 +180,15 @@ fn steps(
 }
 
 // Starts an accepted program, and steps it: the table of its cells and the room for its variables are made once.
-fn started(
-    place: Place,
-    program: &[u8],
-    state: &mut [u8],
-    input: &mut [u8],
-    count: usize,
-    most: u32,
-)
-    requires { ⌜ Accepted (now program) × (count ≡ nodes (now program)) × (most ≡ bound (now program)) ⌝ }
+fn started(place: Place, program: &[u8], state: &mut [u8], input: &mut [u8], count: usize)
+    requires { ⌜ Accepted (now program) × (count ≡ nodes (now program)) ⌝ }
 {
     let mut index: [u16; 2016] = [0; 2016];
     let ready = watch::begin(program, &mut index, state, count);
     match ready {
         Started::Ready => {
             let mut env: [u64; 1008] = [0; 1008];
-            steps(place, program, &index, state, &mut env, input, count, most);
+            steps(place, program, &index, state, &mut env, input, count);
         }
         Started::Refused(r) => say::refused(r),
     }
@@ -224,9 +202,8 @@ fn accepted(
     state: &mut [u8],
     input: &mut [u8],
     count: usize,
-    most: u32,
 )
-    requires { ⌜ Accepted (now program) × (count ≡ nodes (now program)) × (most ≡ bound (now program)) ⌝ }
+    requires { ⌜ Accepted (now program) × (count ≡ nodes (now program)) ⌝ }
 {
     if held > 1008 {
         return;
@@ -235,7 +212,7 @@ fn accepted(
     if n > state.len() {
         return;
     }
-    started(place, program, &mut state[..n], input, count, most);
+    started(place, program, &mut state[..n], input, count);
 }
 
 // Checks what was read; prints the first line, or the refusal as the only one.
@@ -244,7 +221,7 @@ fn watched(place: Place, program: &[u8], state: &mut [u8], input: &mut [u8]) {
     match found {
         Checked::Accepted(n, held, bound, ty) => {
             say::first(n, held, bound, ty);
-            accepted(place, held, program, state, input, n as usize, bound);
+            accepted(place, held, program, state, input, n as usize);
         }
         Checked::Refused(r) => say::refused(r),
     }

@@ -34,13 +34,11 @@ pub enum Code {
     InputFault = raw::INPUT_FAULT,
     /// A record's time is before the state's; the place is how many steps were done before it.
     TimeBack = raw::TIME_BACK,
-    /// A run's work might pass 4,294,967,295; the place is how many steps were done before it.
-    TooMuchWork = raw::TOO_MUCH_WORK,
 }
 
 impl Code {
     /// All codes, from 1 on.
-    pub const ALL: [Code; 14] = [
+    pub const ALL: [Code; 13] = [
         Code::ProgramLength,
         Code::CheckSum,
         Code::BlockNumber,
@@ -54,7 +52,6 @@ impl Code {
         Code::OutputLength,
         Code::InputFault,
         Code::TimeBack,
-        Code::TooMuchWork,
     ];
 
     /// The code's number.
@@ -62,7 +59,7 @@ impl Code {
         self as u32
     }
 
-    /// The code of a number; none for 0, which is no refusal, and above 14.
+    /// The code of a number; none for 0, which is no refusal, and above 13.
     pub fn of(number: u32) -> Option<Code> {
         Code::ALL.into_iter().find(|code| code.number() == number)
     }

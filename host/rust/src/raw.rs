@@ -28,7 +28,6 @@ pub const RECORDS_LENGTH: u32 = 10;
 pub const OUTPUT_LENGTH: u32 = 11;
 pub const INPUT_FAULT: u32 = 12;
 pub const TIME_BACK: u32 = 13;
-pub const TOO_MUCH_WORK: u32 = 14;
 
 /// An answer as the calls write it: numbers that a call does not give are 0.
 #[repr(C)]

@@ -148,7 +148,7 @@ const SILENT: [&str; 4] = [
 #[test]
 fn declarations_are_the_headers() {
     let (one, other) = (header(HEADER), rust(RAW));
-    assert_eq!((one.numbers.len(), one.fields.len(), one.functions.len()), (23, 8, 4));
+    assert_eq!((one.numbers.len(), one.fields.len(), one.functions.len()), (22, 8, 4));
     assert_eq!(one, other);
     assert!(RAW.contains("#[repr(C)]\n#[derive"), "C's layout");
 }
@@ -176,7 +176,7 @@ fn codes_have_the_headers_names() {
         .map(|(name, number)| format!("{} = {number}", camel(name)))
         .collect();
     assert_eq!(named.as_slice(), wanted);
-    assert_eq!((Code::of(0), Code::of(15)), (None, None));
+    assert_eq!((Code::of(0), Code::of(14)), (None, None));
     assert_eq!(Code::of(8), Some(Code::NotReady));
 }
 

@@ -276,5 +276,5 @@ fn codes_12_and_13_of_a_run_tell_steps_and_work() {
 fn code_14_cannot_occur() {
     // The largest bound of all, 4,096 times, stays within 32 bits.
     let largest_bound = (1..=1008u64).map(|n| n * (n + 1)).max().unwrap();
-    assert!(4096 * largest_bound <= second::calls::MOST_WORK);
+    assert!(4096 * largest_bound <= 4_294_967_295);
 }

@@ -1,10 +1,11 @@
+use Rattle.promises.specs.Run.{workIn}
 use Rattle.steps.specs.Going.{OnTheWay}
 use Prim.Native.Nat.{_-_}
 use native.Mathlib.Omega.{arith}
 use mathlib.Core.Path.{sym, _∙_}
 use lib.ListN.{length-take, length-drop}
-use Rattle.steps.proofs.StepLaws.{headed}
-use Rattle.steps.proofs.RunLaws.{begun, goes-on, stopped, ended, total-fits}
+use Rattle.steps.proofs.StepLaws.{headed, small-bound}
+use Rattle.steps.proofs.RunLaws.{begun, goes-on, stopped, ended, worked}
 use borrow.Author.Needs.{needs}
 use Rattle.steps.proofs.run_records.Statement.{statement}
 use Rattle.steps.proofs.run_records.Tie as tie
@@ -14,11 +15,11 @@ use Rattle.steps.proofs.make_step.Reads as make-step-reads
 use Rattle.steps.proofs.record_verdict.Reads as record-verdict-reads
 
 abbrev Inv-loop : tie.InvT-loop
-Inv-loop p index recs st₀ env₀ out₀ count most left done₀ work₀ st env out done work =
+Inv-loop p index recs st₀ env₀ out₀ count left done₀ work₀ st env out done work =
     OnTheWay p index recs st₀ out₀ st env out count left done work
 
 abbrev μ-loop : tie.MeasureT-loop
-μ-loop p index recs st₀ env₀ out₀ count most left done₀ work₀ st env out done work = left - done
+μ-loop p index recs st₀ env₀ out₀ count left done₀ work₀ st env out done work = left - done
 
 -- src/lib.rt:133:5
 loop-holds : tie.Need-loop-holds Inv-loop μ-loop
@@ -26,11 +27,11 @@ loop-holds c = begun _ _ _ _ _ _ _ (c .before .before .before .before .pre .0)
 
 -- src/lib.rt:134:20
 mul-from : tie.Need-mul-from Inv-loop μ-loop
-mul-from c = omega (arith, c .before .loop .inv .within, c .before .loop .inv .all, c .before .before .before .before .before .before .pre .2, c .loop-test .taken)
+mul-from c = omega (arith, c .before .loop .inv .within, c .before .loop .inv .all, c .before .before .before .before .before .before .pre .1, c .loop-test .taken)
 
 -- src/lib.rt:135:18
 add-to : tie.Need-add-to Inv-loop μ-loop
-add-to c = omega (arith, c .before .loop .inv .within, c .before .loop .inv .all, c .before .before .before .before .before .before .pre .2, c .loop-test .taken)
+add-to c = omega (arith, c .before .loop .inv .within, c .before .loop .inv .all, c .before .before .before .before .before .before .pre .1, c .loop-test .taken)
 
 -- src/lib.rt:136:19
 sub-rec : tie.Need-sub-rec Inv-loop μ-loop
@@ -38,19 +39,19 @@ sub-rec c = omega arith
 
 -- src/lib.rt:136:19
 part-rec-start : tie.Need-part-rec-start Inv-loop μ-loop
-part-rec-start c = omega (arith, c .before .loop .inv .within, c .before .loop .inv .all, c .before .before .before .before .before .before .pre .2, c .loop-test .taken)
+part-rec-start c = omega (arith, c .before .loop .inv .within, c .before .loop .inv .all, c .before .before .before .before .before .before .pre .1, c .loop-test .taken)
 
 -- src/lib.rt:136:19
 part-rec-end : tie.Need-part-rec-end Inv-loop μ-loop
-part-rec-end c = omega (arith, c .before .loop .inv .within, c .before .loop .inv .all, c .before .before .before .before .before .before .pre .2, c .loop-test .taken)
+part-rec-end c = omega (arith, c .before .loop .inv .within, c .before .loop .inv .all, c .before .before .before .before .before .before .pre .1, c .loop-test .taken)
 
 -- src/lib.rt:137:48
 cast-record-verdict : tie.Need-cast-record-verdict Inv-loop μ-loop
-cast-record-verdict c = omega (arith, c .before .before .before .loop .inv .within, c .before .before .before .loop .inv .all, c .before .before .before .before .before .before .before .before .pre .2, c .before .before .loop-test .taken)
+cast-record-verdict c = omega (arith, c .before .before .before .loop .inv .within, c .before .before .before .loop .inv .all, c .before .before .before .before .before .before .before .before .pre .1, c .before .before .loop-test .taken)
 
 -- src/lib.rt:137:13
 record-verdict-requires : tie.Need-record-verdict-requires Inv-loop μ-loop
-record-verdict-requires c κs = (headed (c .before .before .before .loop .inv .going), simp (length-take, length-drop) (omega (arith, c .before .before .before .loop .inv .all, c .before .before .loop-test .taken)), c .before .before .before .before .before .before .before .before .pre .1)
+record-verdict-requires c κs = (headed (c .before .before .before .loop .inv .going), simp (length-take, length-drop) (omega (arith, c .before .before .before .loop .inv .all, c .before .before .loop-test .taken)))
 
 -- src/lib.rt:138:32
 enum-known-found : tie.Need-enum-known-found Inv-loop μ-loop
@@ -66,9 +67,10 @@ same-length-2 c = omega (arith, c .before .before .before .before)
 
 -- src/lib.rt:139:13
 returns : tie.Need-returns Inv-loop μ-loop
+unfolding workIn
 returns c =
     let way = c .before .before .before .before .before .before .before .loop .inv in
-    (stopped way (c .before .before .before .before .before .before .loop-test .taken) (c .before .before .before .record-verdict .ensures) (c .before .found .given .1), way .going)
+    (stopped way (c .before .before .before .before .before .before .loop-test .taken) (c .before .before .before .record-verdict .ensures) (c .before .found .given .1), way .going, worked way)
 
 enum-told : tie.Need-enum-told Inv-loop μ-loop
 enum-told c = search needs
@@ -83,11 +85,13 @@ make-step-requires c κs = (search needs, simp (length-take, length-drop) (omega
 
 -- src/lib.rt:142:9
 add-work : tie.Need-add-work Inv-loop μ-loop
-add-work c = omega (arith, total-fits _ _ _ _ _ (sym (c .before .before .before .before .before .before .before .before .before .before .record-verdict .ensures) ∙ c .before .before .before .before .before .before .before .before .enum-told .given .1), c .before .before .before .before .make-step .ensures .0 .within)
+add-work c =
+    let way = c .before .before .before .before .before .before .before .before .before .before .before .before .before .before .loop .inv in
+    omega (arith, way .fits, way .all, c .before .before .before .before .before .before .before .before .before .before .before .before .before .before .before .before .before .before .before .pre .1, c .before .before .before .before .before .before .before .before .before .before .before .before .before .loop-test .taken, small-bound _ (way .going .accepted), c .before .before .before .before .make-step .ensures .0 .within)
 
 -- src/lib.rt:143:9
 add-done : tie.Need-add-done Inv-loop μ-loop
-add-done c = omega (arith, c .before .before .before .before .before .before .before .before .before .before .before .before .before .before .loop .inv .within, c .before .before .before .before .before .before .before .before .before .before .before .before .before .before .loop .inv .all, c .before .before .before .before .before .before .before .before .before .before .before .before .before .before .before .before .before .before .before .pre .2, c .before .before .before .before .before .before .before .before .before .before .before .before .before .loop-test .taken)
+add-done c = omega (arith, c .before .before .before .before .before .before .before .before .before .before .before .before .before .before .loop .inv .within, c .before .before .before .before .before .before .before .before .before .before .before .before .before .before .loop .inv .all, c .before .before .before .before .before .before .before .before .before .before .before .before .before .before .before .before .before .before .before .pre .1, c .before .before .before .before .before .before .before .before .before .before .before .before .before .loop-test .taken)
 
 -- src/lib.rt:133:5
 loop-less : tie.Need-loop-less Inv-loop μ-loop
@@ -98,8 +102,8 @@ loop-again : tie.Need-loop-again Inv-loop μ-loop
 loop-again c = goes-on (c .before .before .before .before .before .before .before .before .before .before .before .before .before .before .loop .inv) (c .before .before .before .before .before .before .before .before .before .before .before .before .before .loop-test .taken) (c .before .before .before .before .before .before .before .before .before .before .record-verdict .ensures) (c .before .before .before .before .before .before .before .before .enum-told .given .1) (c .before .before .before .before .make-step .ensures .0) (c .before .before .before .before .make-step .ensures .1)
 
 -- src/lib.rt:145:19
-cast-t31 : tie.Need-cast-t31 Inv-loop μ-loop
-cast-t31 c = omega (arith, c .before .loop .inv .within, c .before .loop .inv .all, c .before .before .before .before .before .before .pre .2)
+cast-t30 : tie.Need-cast-t30 Inv-loop μ-loop
+cast-t30 c = omega (arith, c .before .loop .inv .within, c .before .loop .inv .all, c .before .before .before .before .before .before .pre .1)
 
 -- src/lib.rt:117:1
 same-length-3 : tie.Need-same-length-3 Inv-loop μ-loop
@@ -111,7 +115,8 @@ same-length-4 c = c .before .loop .inv .room
 
 -- src/lib.rt:117:1
 returns-2 : tie.Need-returns-2 Inv-loop μ-loop
-returns-2 c = (ended (c .before .loop .inv) (omega (arith, c .loop-test .left)), c .before .loop .inv .going)
+unfolding workIn
+returns-2 c = (ended (c .before .loop .inv) (omega (arith, c .loop-test .left)), c .before .loop .inv .going, worked (c .before .loop .inv))
 
 pub run-records-spec : {M : Type 1} → statement M
 run-records-spec =
@@ -138,7 +143,7 @@ run-records-spec =
     add-done
     loop-less
     loop-again
-    cast-t31
+    cast-t30
     same-length-3
     same-length-4
     returns-2)

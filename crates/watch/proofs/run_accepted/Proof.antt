@@ -10,7 +10,6 @@ use Rattle.watch.proofs.run_accepted.Statement.{statement}
 use Rattle.watch.proofs.run_accepted.Tie as tie
 use Rattle.watch.proofs.run_accepted.Reads as reads
 use Rattle.watch.proofs.run_accepted.Lts as lts
-use Rattle.bound.proofs.bound_of.Reads as bound-of-reads
 use Rattle.cells.proofs.index_cells.Reads as index-cells-reads
 use Rattle.steps.proofs.run_records.Reads as run-records-reads
 use Rattle.watch.proofs.lent_verdict.Reads as lent-verdict-reads
@@ -40,14 +39,10 @@ enum-known-fault c = search needs
 enum-told : tie.Need-enum-told
 enum-told c = search needs
 
--- src/lib.rt:143:17
-bound-of-requires : tie.Need-bound-of-requires
-bound-of-requires c κs = let k = counted _ _ (c .before .before .before .before .before .before .before .before .before .before .before .before .before .before .pre .0) (c .before .before .before .before .before .before .before .before .before .before .before .before .before .before .pre .1) in (c .before .before .before .before .before .before .before .before .before .before .before .before .before .before .pre .1, k .some, k .rooted, k .small)
-
 -- src/lib.rt:144:13
 run-records-requires : tie.Need-run-records-requires
 unfolding unbound
-run-records-requires c κs = let f = lent-fine _ _ _ _ _ (sym (c .before .before .before .before .before .before .before .lent-verdict .ensures) ∙ c .before .before .before .before .before .enum-told .given .1) in (record { accepted = c .before .before .before .before .before .before .before .before .before .before .before .before .before .before .before .before .before .before .before .pre .0; indexed = c .before .before .before .before .before .before .before .before .before .before .before .before .before .index-cells .ensures .0; counted = c .before .before .before .before .before .before .before .before .before .before .before .before .before .before .before .before .before .before .before .pre .1; well = f .well; blank = refl }, c .before .before .before .before .bound-of .ensures, fits-most _ (sym (c .before .before .before .before .before .before .before .before .before .before .before .run-fits .ensures) ∙ f .fitting), f .room)
+run-records-requires c κs = let f = lent-fine _ _ _ _ _ (sym (c .before .before .before .before .before .before .lent-verdict .ensures) ∙ c .before .before .before .before .enum-told .given .1) in (record { accepted = c .before .before .before .before .before .before .before .before .before .before .before .before .before .before .before .before .before .before .pre .0; indexed = c .before .before .before .before .before .before .before .before .before .before .before .before .index-cells .ensures .0; counted = c .before .before .before .before .before .before .before .before .before .before .before .before .before .before .before .before .before .before .pre .1; well = f .well; blank = refl }, fits-most _ (sym (c .before .before .before .before .before .before .before .before .before .before .run-fits .ensures) ∙ f .fitting), f .room)
 
 -- src/lib.rt:131:1
 same-length : tie.Need-same-length
@@ -71,7 +66,7 @@ same-length-4 c = search needs
 
 -- src/lib.rt:131:1
 returns-2 : tie.Need-returns-2
-returns-2 c = rw (run-goes _ _ _ _ _ (ap (lentRest _ _ _ _) (sym (c .before .before .before .before .before .before .before .before .before .before .before .before .before .before .before .before .run-fits .ensures)) ∙ sym (c .before .before .before .before .before .before .before .before .before .before .before .before .lent-verdict .ensures) ∙ c .before .before .before .before .before .before .before .before .before .before .enum-told .given .1)) (c .before .before .before .before .run-records .ensures .0)
+returns-2 c = rw (run-goes _ _ _ _ _ (ap (lentRest _ _ _ _) (sym (c .before .before .before .before .before .before .before .before .before .before .before .before .before .before .before .run-fits .ensures)) ∙ sym (c .before .before .before .before .before .before .before .before .before .before .before .lent-verdict .ensures) ∙ c .before .before .before .before .before .before .before .before .before .enum-told .given .1)) (c .before .before .before .before .run-records .ensures .0)
 
 pub run-accepted-spec : {M : Type 1} → statement M
 run-accepted-spec =
@@ -83,7 +78,6 @@ run-accepted-spec =
     lent-verdict-requires
     enum-known-fault
     enum-told
-    bound-of-requires
     run-records-requires
     same-length
     same-length-2

@@ -22,7 +22,7 @@ steps-requires c κs =
     let told = c .before .before .before .before in
     let begun = told .before .before .before .before .begin .ensures in
     let pre = told .before .before .before .before .before .before .before .before .before .before .pre in
-    (record { accepted = pre .0; indexed = begun .indexed; counted = pre .1; well = begun .well (told .enum-told .given .1); blank = refl }, pre .2)
+    record { accepted = pre .0; indexed = begun .indexed; counted = pre .1; well = begun .well (told .enum-told .given .1); blank = refl }
 
 enum-known-ready : tie.Need-enum-known-ready
 enum-known-ready c = search needs

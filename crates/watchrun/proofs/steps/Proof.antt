@@ -13,17 +13,17 @@ use Rattle.watchrun.proofs.no_more.Reads as no-more-reads
 use Rattle.watchrun.proofs.step.Reads as step-reads
 
 abbrev Inv-loop : tie.InvT-loop
-Inv-loop program index state₀ env₀ input₀ count most at₀ end₀ done₀ total₀ state env input at end done total =
+Inv-loop program index state₀ env₀ input₀ count at₀ end₀ done₀ total₀ state env input at end done total =
     (length state ≡ length state₀) × (length input ≡ length input₀) × (done ≤ 4096) × Going program index state env count
 
 abbrev μ-loop : tie.MeasureT-loop
-μ-loop program index state₀ env₀ input₀ count most at₀ end₀ done₀ total₀ state env input at end done total = 4096 - done
+μ-loop program index state₀ env₀ input₀ count at₀ end₀ done₀ total₀ state env input at end done total = 4096 - done
 
 loop-holds : tie.Need-loop-holds Inv-loop μ-loop
-loop-holds c = (refl, refl, omega arith, c .before .before .before .pre .0)
+loop-holds c = (refl, refl, omega arith, c .before .before .before .pre)
 
 step-requires : tie.Need-step-requires Inv-loop μ-loop
-step-requires c κs = (c .before .before .before .before .loop .inv .3, c .before .before .before .before .before .before .before .before .pre .1)
+step-requires c κs = c .before .before .before .before .loop .inv .3
 
 same-length : tie.Need-same-length Inv-loop μ-loop
 same-length c = search needs

@@ -27,7 +27,7 @@ accepted-requires : tie.Need-accepted-requires
 accepted-requires c κs =
     let known = c .before .before .before .before in
     let a = answered _ _ _ _ _ (sym (known .before .before .check .ensures) ∙ known .found .given .1) in
-    (a .accepts, a .count-is, a .most-is)
+    (a .accepts, a .count-is)
 
 enum-known-found-2 : tie.Need-enum-known-found-2
 enum-known-found-2 c = search needs

@@ -87,7 +87,7 @@ static uint64_t divide(int32_t x, int32_t y)
 {
     if (y == 0)
         return MAYBE + INT;
-    return VALUE(MAYBE + INT, y == -1 ? 0u - (uint32_t)x : (uint32_t)(x / y));
+    return VALUE(MAYBE + INT, y == -1 ? 0u - (uint32_t)x : (uint32_t)(x / y - (x % y != 0 && (x % y < 0) != (y < 0))));
 }
 
 static uint64_t expression(struct run *r, unsigned i);

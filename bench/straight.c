@@ -107,7 +107,7 @@ static struct value divide(int32_t x, int32_t y)
 {
     if (y == 0)
         return (struct value){MAYBE + INT, 0, 0};
-    return (struct value){MAYBE + INT, 1, y == -1 ? 0u - (uint32_t)x : (uint32_t)(x / y)};
+    return (struct value){MAYBE + INT, 1, y == -1 ? 0u - (uint32_t)x : (uint32_t)(x / y - (x % y != 0 && (x % y < 0) != (y < 0)))};
 }
 
 static struct value operate(unsigned kind, uint32_t x, uint32_t y)

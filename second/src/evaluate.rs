@@ -77,10 +77,12 @@ fn binary(kind: u8, left: Value, right: Value) -> Value {
     }
 }
 
-/// Division toward zero; absent for a zero divisor, wrapping for the lowest by -1.
+/// Division toward minus infinity; absent for a zero divisor, wrapping for the lowest by -1.
 pub fn divide(dividend: i32, divisor: i32) -> Value {
-    match divisor {
-        0 => Value::absent(INT),
-        _ => Value::int(dividend.wrapping_div(divisor)).just(),
+    if divisor == 0 {
+        return Value::absent(INT);
     }
+    let rest = dividend.wrapping_rem(divisor);
+    let down = rest != 0 && (rest < 0) != (divisor < 0);
+    Value::int(dividend.wrapping_div(divisor) - down as i32).just()
 }

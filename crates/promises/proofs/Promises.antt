@@ -29,8 +29,11 @@ use Rattle.promises.proofs.CallLaws.{start-goes-on, step-call-goes-on, 
 pub most-bound : (p : Bytes) → Accepted p → bound p ≤ 1008 * 1009
 most-bound p acc =
     let few : nodes p ≤ 1008 = shaped-of p acc .small in
-    omega (arith, bound-small p (acc .formed .length-right) (acc .shape-right) (some-node p (acc .formed)),
-    mul-le-mul {n₁ = nodes p} {m₁ = nodes p + 1} {n₂ = 1008} {m₂ = 1009} few (omega arith))
+    omega (
+      arith,
+      bound-small p (acc .formed .length-right) (acc .shape-right) (some-node p (acc .formed)),
+      mul-le-mul {n₁ = nodes p} {m₁ = nodes p + 1} {n₂ = 1008} {m₂ = 1009} few (omega arith),
+    )
 
 -- Demand 3, for a program that is a list of bytes.
 pub goes-on : (p : Bytes) → Small p → Accepted p → GoesOn p

@@ -9,13 +9,12 @@ use native.Mathlib.Decide.{ℕ-discrete}
 use native.Mathlib.Omega.{arith}
 use lib.Dec.{eqb, leb}
 use lib.IntN.{ℤ, pos, negsuc}
-use lib.Signed.{quotZ}
 use lib.ListN.{length, length-set}
 use lib.Seq.{getD-set-other}
 use borrow.Author.Tests.{eq-eqb, eqb-true, leb-true}
 use Rattle.rules.specs.Bytes.{if_then_else_}
 use Rattle.rules.specs.Values.{boolT, maybeOf, isPlain, typeOf, packed}
-use Rattle.rules.specs.Words.{signed, wordOf, sumOf, differenceOf, productOf, quotientOf}
+use Rattle.rules.specs.Words.{signed, wordOf, sumOf, differenceOf, productOf, floorZ, quotientOf}
 use Rattle.rules.specs.Operations.{truth, isTrue, operandType, resultType, numberOf, meaning}
 use Rattle.rules.specs.Work.{nothing, oneRule, _plus_, give, after, rule}
 use Rattle.rules.specs.Tree.{Expr, variable, constant, operation, negation, choice, just, taking}
@@ -123,7 +122,7 @@ quotient-typed : (x y : ℕ) → OfType (quotientOf x y) 7
 unfolding quotientOf maybeOf typeOf
 quotient-typed x y = go (eqb y 0)
   where
-    go : (t : Bool) → OfType (if t then Absent 7 else Present 7 (wordOf (quotZ (signed x) (signed y)))) 7
+    go : (t : Bool) → OfType (if t then Absent 7 else Present 7 (wordOf (floorZ (signed x) (signed y)))) 7
     go true = none-of
     go false = some-of _ (wordOf-small _)
 

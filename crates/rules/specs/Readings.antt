@@ -220,9 +220,15 @@ divides x y v = record {
   sight = expect (Accepted 4 0 5 maybeInt) (made v 5 ∷ []) (Finished 1 5) (stateOf 0 []);
 }
 
--- F: -7 by 2 is present -3. (And the lowest value by -1.)
+-- F: -7 by 2 is present -4, 7 by -2 is present -4, -7 by -2 is 3. (And the lowest value by -1.)
 abbrev pub rowF : Row
-rowF = divides (minus 7) 2 (Present maybeInt (minus 3))
+rowF = divides (minus 7) 2 (Present maybeInt (minus 4))
+
+abbrev pub rowFnorth : Row
+rowFnorth = divides 7 (minus 2) (Present maybeInt (minus 4))
+
+abbrev pub rowFboth : Row
+rowFboth = divides (minus 7) (minus 2) (Present maybeInt 3)
 
 abbrev pub rowFlowest : Row
 rowFlowest = divides (minus 2147483648) (minus 1) (Present maybeInt (minus 2147483648))
@@ -291,7 +297,7 @@ rowTime = record {
 
 -- The table.
 abbrev pub readings : List Row
-readings = rowA ∷ rowB ∷ rowC ∷ rowD ∷ rowE ∷ rowF ∷ rowFlowest ∷ rowG ∷ rowH ∷ rowI ∷ rowTime ∷ []
+readings = rowA ∷ rowB ∷ rowC ∷ rowD ∷ rowE ∷ rowF ∷ rowFnorth ∷ rowFboth ∷ rowFlowest ∷ rowG ∷ rowH ∷ rowI ∷ rowTime ∷ []
 
 -- Every row is seen as it should be.
 abbrev pub sights : List Row → List Seen

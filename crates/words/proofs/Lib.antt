@@ -1,3 +1,6 @@
 pub mod Fits
 pub mod Signs
+pub mod Floor
+pub mod Lowered
+pub mod Wide
 pub mod Cases

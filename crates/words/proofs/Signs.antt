@@ -2,19 +2,15 @@
 -- Assumes nothing.
 use mathlib.Core.Path.{_≡_, refl, sym, ap, _∙_}
 use mathlib.Core.Bool.{Bool, true, false, not}
-use Prim.Native.Nat.{ℕ, zero, suc, _+_, _-_, _/_, _%_, _≤_, _<_}
-use native.Mathlib.Nat.{mod-eq-of-lt, div-le-self, lt-of-le-of-lt}
+use Prim.Native.Nat.{ℕ, zero, suc, _-_, _%_, _≤_, _<_}
 use native.Mathlib.Omega.{arith}
-use borrow.Author.Tests.{lt-ltb, le-ltb, ltb-true, ltb-false, lt-leb, le-leb, eq-eqb, ne-eqb}
-use lib.Dec.{ltb, leb}
-use lib.IntN.{ℤ, pos, negsuc, negℤ, natAbs}
-use lib.Signed.{quotZ, mag, nonNeg}
+use borrow.Author.Tests.{lt-ltb, le-ltb, ltb-true, ltb-false, eq-eqb, ne-eqb}
+use lib.Dec.{ltb}
+use lib.IntN.{ℤ, pos, negsuc, natAbs}
+use lib.Signed.{mag}
 use mathlib.Core.Logic.{_⊎_, inl, inr, ⊎-elim}
-use Rattle.rules.specs.Words.{wrap, signed, wordOf, quotientOf, isLess}
-use Rattle.rules.specs.Bytes.{if_then_else_}
+use Rattle.rules.specs.Words.{wrap, signed, wordOf, floorZ, quotientOf, isLess}
 use Rattle.rules.specs.Values.{maybeOf}
-use Rattle.words.specs.Signs.{agreeZ}
-use Rattle.rules.specs.declared.Value.{Value}
 use Rattle.rules.specs.declared.Value.the-variants.{Absent, Present}
 
 pub signed-low : (w : ℕ) → w < 2147483648 → signed w ≡ pos w
@@ -45,19 +41,6 @@ size-some w k n = cases w k n _ refl
     cases w k n true e = let l : w < 2147483648 = ltb-true _ _ e in omega (arith, size-low w l)
     cases w k n false e = let l : 2147483648 ≤ w = ltb-false _ _ e in omega (arith, size-high w l k)
 
-pub word-pos : (n : ℕ) → n < wrap → wordOf (pos n) ≡ n
-unfolding wordOf
-word-pos n h = mod-eq-of-lt h
-
-pub word-zero : (q : ℕ) → q ≡ 0 → wordOf (negℤ (pos q)) ≡ 0
-unfolding wordOf
-word-zero q e = rw e
-
-pub word-minus : (q : ℕ) → (q ≡ 0 → ⊥) → q < wrap → wordOf (negℤ (pos q)) ≡ wrap - q
-unfolding wordOf
-word-minus zero n h = absurd (n refl)
-word-minus (suc n) _ h = omega arith
-
 -- Less, by the halves.
 pub less-low-low : (x y : ℕ) → x < 2147483648 → y < 2147483648 → isLess x y ≡ ltb x y
 unfolding isLess
@@ -83,51 +66,14 @@ unfolding isLess
 less-high-high x y h k m n =
     rw (signed-high x h, signed-high y k) (ltb-same (wrap - suc y) (wrap - suc x) x y (λ l. omega arith) (λ l. omega arith))
 
-sign-is : (t : Bool) (a b : ℕ) → nonNeg (if t then pos a else negsuc b) ≡ t
-sign-is true a b = refl
-sign-is false a b = refl
-
-not-ltb : (a b : ℕ) → not (ltb a b) ≡ leb b a
-not-ltb a b = cases _ refl
-  where
-    cases : (t : Bool) → ltb a b ≡ t → not (ltb a b) ≡ leb b a
-    cases true e = ap not e ∙ sym (lt-leb b a (ltb-true a b e))
-    cases false e = ap not e ∙ sym (le-leb b a (ltb-false a b e))
-
--- The quotient: the sizes' quotient, with its sign.
+-- The quotient, by whether the divisor is zero.
 pub quotient-none : (x y : ℕ) → y ≡ 0 → quotientOf x y ≡ Absent 7
 unfolding quotientOf maybeOf
 quotient-none x y e = simp (eq-eqb y 0 e)
 
-pub quotient-some : (x y : ℕ) → (y ≡ 0 → ⊥) → quotientOf x y ≡ Present 7 (wordOf (quotZ (signed x) (signed y)))
+pub quotient-some : (x y : ℕ) → (y ≡ 0 → ⊥) → quotientOf x y ≡ Present 7 (wordOf (floorZ (signed x) (signed y)))
 unfolding quotientOf maybeOf
 quotient-some x y n = simp (ne-eqb y 0 n)
-
-pub quot-signs : (z d : ℤ)
-    → quotZ z d ≡ (if agreeZ z d then pos (natAbs z / natAbs d) else negℤ (pos (natAbs z / natAbs d)))
-unfolding agreeZ
-quot-signs (pos a) (pos b) = refl
-quot-signs (pos a) (negsuc b) = refl
-quot-signs (negsuc a) (pos b) = refl
-quot-signs (negsuc a) (negsuc b) = refl
-
-pub agree-low : (x y : ℕ) → x < 2147483648 → agreeZ (signed x) (signed y) ≡ ltb y 2147483648
-unfolding agreeZ signed
-agree-low x y h = rw (lt-ltb x 2147483648 h) (sign-is (ltb y 2147483648) y (wrap - suc y))
-
-pub agree-high : (x y : ℕ) → 2147483648 ≤ x → agreeZ (signed x) (signed y) ≡ leb 2147483648 y
-unfolding agreeZ signed
-agree-high x y h = rw (le-ltb x 2147483648 h) (ap not (sign-is (ltb y 2147483648) y (wrap - suc y)) ∙ not-ltb y 2147483648)
-
--- What a division of the sizes answers, where the signs agree and where they differ.
-pub divide-same : {x y a b : ℕ} → (y ≡ 0 → ⊥) → x < wrap → a ≡ natAbs (signed x) → b ≡ natAbs (signed y)
-    → true ≡ agreeZ (signed x) (signed y) → Present 7 (a / b) ≡ quotientOf x y
-divide-same {x} {y} {a} {b} n h e f t =
-    rw (quotient-some x y n, quot-signs (signed x) (signed y), ← t, ← e, ← f, word-pos (a / b) (lt-of-le-of-lt (div-le-self a b) (omega (arith, size-small x h))))
-
-pub divide-minus : (x : ℕ) {y a b r : ℕ} → (y ≡ 0 → ⊥) → a ≡ natAbs (signed x) → b ≡ natAbs (signed y)
-    → false ≡ agreeZ (signed x) (signed y) → r ≡ wordOf (negℤ (pos (a / b))) → Present 7 r ≡ quotientOf x y
-divide-minus x {y} n e f t g = rw (quotient-some x y n, quot-signs (signed x) (signed y), ← t, ← e, ← f, g)
 
 pub halves : (w : ℕ) → (w < 2147483648) ⊎ (2147483648 ≤ w)
 halves w = cases _ refl

@@ -1,10 +1,9 @@
 // Arithmetic on 32-bit words, two's complement, held as unsigned numbers.
 ghost use mathlib.Core.Path.{_≡_};
-ghost use Prim.Native.Nat.{_<_};
-ghost use lib.IntN.{pos, negℤ, natAbs};
+ghost use Prim.Native.Nat.{_≤_, _<_};
+ghost use lib.IntN.{natAbs};
 ghost use Rattle.rules.specs.Operations.{numberOf, truthOf};
-ghost use Rattle.rules.specs.Words.{signed, wordOf, sumOf, differenceOf, productOf, quotientOf, isLess};
-ghost use Rattle.words.specs.Signs.{agreeZ};
+ghost use Rattle.rules.specs.Words.{signed, wordOf, sumOf, differenceOf, productOf, floorZ, quotientOf, isLess};
 use rules::INT;
 use rules::MAYBE;
 use rules::Value;
@@ -35,48 +34,56 @@ pub fn less(x: u32, y: u32) -> bool
     x < y
 }
 
-// The size of the integer that a word stands for.
-fn size(x: u32) -> u32
-    ensures { λ r. ⌜ r ≡ natAbs (signed x) ⌝ }
+// The integer that a word stands for.
+fn integer(x: u32) -> i64
+    ensures { λ r. ⌜ r ≡ signed x ⌝ }
 {
     if x < 2147483648 {
-        return x;
+        return x as i64;
     }
-    4294967295 - x + 1
+    x as i64 - 4294967296
 }
 
-// The word of minus q.
-fn minus(q: u32) -> u32
-    ensures { λ r. ⌜ r ≡ wordOf (negℤ (pos q)) ⌝ }
+// The word of an integer.
+fn word(q: i64) -> u32
+    requires { ⌜ natAbs q ≤ 2147483648 ⌝ }
+    ensures { λ r. ⌜ r ≡ wordOf q ⌝ }
 {
-    if q == 0 {
-        return 0;
+    if q < 0 {
+        return (q + 4294967296) as u32;
     }
-    4294967295 - q + 1
+    q as u32
 }
 
-// Whether the integers of two words have one sign (zero counts as not negative).
-fn agree(x: u32, y: u32) -> bool
-    ensures { λ r. ⌜ r ≡ agreeZ (signed x) (signed y) ⌝ }
+// The quotient, rounded toward minus infinity: one less than the quotient rounded toward zero where that leaves a remainder on the other side of zero than the divisor.
+fn rounded_down(a: i64, b: i64) -> i64
+    requires { ⌜ (0 < natAbs b) × (natAbs a ≤ 2147483648) × (natAbs b ≤ 2147483648) ⌝ }
+    ensures { λ r. ⌜ r ≡ floorZ a b ⌝ }
 {
-    if x < 2147483648 {
-        return y < 2147483648;
+    let q = a / b;
+    let r = a % b;
+    if 0 < b {
+        if r < 0 {
+            return q - 1;
+        }
+        return q;
     }
-    2147483648 <= y
+    if 0 < r {
+        return q - 1;
+    }
+    q
 }
 
-// The quotient, truncated toward zero.
+// The quotient, rounded toward minus infinity; a zero divisor gives absent.
 pub fn divide(x: u32, y: u32) -> Value
     ensures { λ r. ⌜ r ≡ quotientOf x y ⌝ }
 {
     if y == 0 {
         return Value::Absent(MAYBE_INT);
     }
-    let q = size(x) / size(y);
-    if agree(x, y) {
-        return Value::Present(MAYBE_INT, q);
-    }
-    Value::Present(MAYBE_INT, minus(q))
+    let a = integer(x);
+    let b = integer(y);
+    Value::Present(MAYBE_INT, word(rounded_down(a, b)))
 }
 
 // Kinds 18-20: the number.

@@ -62,10 +62,15 @@ fn divided(left: i32, right: i32) -> String {
 }
 
 #[test]
-fn f_divide_toward_zero() {
-    assert_eq!(divided(-7, 2), "some -3");
-    assert_eq!(divided(7, -2), "some -3");
+fn f_divide_toward_minus_infinity() {
+    assert_eq!(divided(-7, 2), "some -4");
+    assert_eq!(divided(7, -2), "some -4");
     assert_eq!(divided(-7, -2), "some 3");
+    assert_eq!(divided(-1, 2), "some -1");
+    assert_eq!(divided(0, -2), "some 0");
+    assert_eq!(divided(-8, 2), "some -4");
+    assert_eq!(divided(2147483647, -2147483648), "some -1");
+    assert_eq!(divided(-2147483648, 2147483647), "some -2");
     assert_eq!(divided(-2147483648, -1), "some -2147483648");
     assert_eq!(divided(-2147483648, 1), "some -2147483648");
 }

@@ -10,15 +10,15 @@ struct side {
     const char *name;
     __typeof__(straight_check) *check;
     __typeof__(straight_start) *start;
-    __typeof__(straight_step) *step, *run;
+    __typeof__(straight_run) *run;
 };
 
 static const struct side sides[] = {
 #ifndef BASELINES_ONLY
-    {"library", couplerfinch_check, couplerfinch_start, couplerfinch_step, couplerfinch_run},
+    {"library", couplerfinch_check, couplerfinch_start, couplerfinch_run},
 #endif
-    {"straight", straight_check, straight_start, straight_step, straight_run},
-    {"fast", fast_check, fast_start, fast_step, fast_run},
+    {"straight", straight_check, straight_start, straight_run},
+    {"fast", fast_check, fast_start, fast_run},
 };
 
 /* So many bytes of standard input, in memory of exactly that length. */
@@ -68,8 +68,7 @@ static void answer(const struct side *s, const char *name, size_t lengths[4])
         first_line('t', a);
         hex(rooms[1], lengths[1]);
     } else {
-        (!strcmp(name, "step") ? s->step : s->run)(rooms[0], lengths[0], rooms[1], lengths[1], rooms[2], lengths[2], rooms[3],
-                                                   lengths[3], &a);
+        s->run(rooms[0], lengths[0], rooms[1], lengths[1], rooms[2], lengths[2], rooms[3], lengths[3], &a);
         first_line('r', a);
         hex(rooms[1], lengths[1]);
         hex(rooms[3], lengths[3]);

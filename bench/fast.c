@@ -253,7 +253,7 @@ uint32_t fast_start(const uint8_t *program, size_t program_length, uint8_t *stat
 }
 
 /* Codes 9-11; it reads the cells too. */
-static uint32_t lent_fault(const struct program *p, uint64_t *cells, const uint8_t *state, size_t state_length, size_t most,
+static uint32_t lent_fault(const struct program *p, uint64_t *cells, const uint8_t *state, size_t state_length,
                            size_t records_length, size_t output_length)
 {
     if (state_length != COUPLERFINCH_STATE(p->cells))
@@ -261,7 +261,7 @@ static uint32_t lent_fault(const struct program *p, uint64_t *cells, const uint8
     memcpy(cells, state + 4, 8 * p->cells);
     if ((get32(state) > LATEST && get32(state) != NO_TIME) || !well(p, cells, p->count - 1, 1))
         return 9;
-    if (records_length % COUPLERFINCH_RECORD || records_length / COUPLERFINCH_RECORD > most || (most == 1 && !records_length))
+    if (records_length % COUPLERFINCH_RECORD || records_length / COUPLERFINCH_RECORD > COUPLERFINCH_RECORDS)
         return 10;
     return output_length != records_length / COUPLERFINCH_RECORD * COUPLERFINCH_VALUE ? 11 : 0;
 }
@@ -285,15 +285,15 @@ static uint32_t records_run(struct run *r, const struct program *p, uint32_t *ti
     return 0;
 }
 
-static uint32_t steps(const uint8_t *program, size_t program_length, uint8_t *state, size_t state_length, const uint8_t *records,
-                      size_t records_length, uint8_t *output, size_t output_length, size_t most, couplerfinch_answer *answer)
+uint32_t fast_run(const uint8_t *program, size_t program_length, uint8_t *state, size_t state_length, const uint8_t *records,
+                  size_t records_length, uint8_t *output, size_t output_length, couplerfinch_answer *answer)
 {
     struct program p;
     struct run r;
     uint64_t cells[COUPLERFINCH_NODES];
     if (fast_decode(&p, program, program_length, answer))
         return answer->code;
-    uint32_t code = lent_fault(&p, cells, state, state_length, most, records_length, output_length);
+    uint32_t code = lent_fault(&p, cells, state, state_length, records_length, output_length);
     if (code)
         return fast_refuse(answer, code, 0);
     r.code = p.code;
@@ -306,17 +306,4 @@ static uint32_t steps(const uint8_t *program, size_t program_length, uint8_t *st
     memcpy(state + 4, cells, 8 * p.cells);
     *answer = (couplerfinch_answer){.code = code, .place = code ? done : 0, .steps = done, .work = r.work};
     return code;
-}
-
-uint32_t fast_step(const uint8_t *program, size_t program_length, uint8_t *state, size_t state_length, const uint8_t *input,
-                   size_t input_length, uint8_t *output, size_t output_length, couplerfinch_answer *answer)
-{
-    return steps(program, program_length, state, state_length, input, input_length, output, output_length, 1, answer);
-}
-
-uint32_t fast_run(const uint8_t *program, size_t program_length, uint8_t *state, size_t state_length, const uint8_t *records,
-                  size_t records_length, uint8_t *output, size_t output_length, couplerfinch_answer *answer)
-{
-    return steps(program, program_length, state, state_length, records, records_length, output, output_length, COUPLERFINCH_RECORDS,
-                 answer);
 }

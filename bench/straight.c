@@ -270,13 +270,13 @@ uint32_t straight_start(const uint8_t *program, size_t program_length, uint8_t *
 }
 
 /* Codes 9-11. */
-static uint32_t lent_fault(const struct tree *t, uint8_t *state, size_t state_length, size_t most, size_t records_length,
+static uint32_t lent_fault(const struct tree *t, uint8_t *state, size_t state_length, size_t records_length,
                            size_t output_length)
 {
     if (state_length != COUPLERFINCH_STATE(t->cells) || (get32(state) > LATEST && get32(state) != NO_TIME) ||
         !well(t, state, t->count - 1, 1))
         return 9;
-    if (records_length % COUPLERFINCH_RECORD || records_length / COUPLERFINCH_RECORD > most || (most == 1 && !records_length))
+    if (records_length % COUPLERFINCH_RECORD || records_length / COUPLERFINCH_RECORD > COUPLERFINCH_RECORDS)
         return 10;
     return output_length != records_length / COUPLERFINCH_RECORD * COUPLERFINCH_VALUE ? 11 : 0;
 }
@@ -296,14 +296,14 @@ static uint32_t one_record(struct run *r, uint8_t *output)
     return 0;
 }
 
-static uint32_t steps(const uint8_t *program, size_t program_length, uint8_t *state, size_t state_length, const uint8_t *records,
-                      size_t records_length, uint8_t *output, size_t output_length, size_t most, couplerfinch_answer *answer)
+uint32_t straight_run(const uint8_t *program, size_t program_length, uint8_t *state, size_t state_length, const uint8_t *records,
+                      size_t records_length, uint8_t *output, size_t output_length, couplerfinch_answer *answer)
 {
     struct tree t;
     struct run r;
     if (straight_read(&t, program, program_length, answer))
         return answer->code;
-    uint32_t code = lent_fault(&t, state, state_length, most, records_length, output_length);
+    uint32_t code = lent_fault(&t, state, state_length, records_length, output_length);
     if (code)
         return straight_refuse(answer, code, 0);
     r.tree = &t;
@@ -316,19 +316,6 @@ static uint32_t steps(const uint8_t *program, size_t program_length, uint8_t *st
     }
     *answer = (couplerfinch_answer){.code = code, .place = code ? done : 0, .steps = done, .work = r.work};
     return code;
-}
-
-uint32_t straight_step(const uint8_t *program, size_t program_length, uint8_t *state, size_t state_length, const uint8_t *input,
-                       size_t input_length, uint8_t *output, size_t output_length, couplerfinch_answer *answer)
-{
-    return steps(program, program_length, state, state_length, input, input_length, output, output_length, 1, answer);
-}
-
-uint32_t straight_run(const uint8_t *program, size_t program_length, uint8_t *state, size_t state_length, const uint8_t *records,
-                      size_t records_length, uint8_t *output, size_t output_length, couplerfinch_answer *answer)
-{
-    return steps(program, program_length, state, state_length, records, records_length, output, output_length, COUPLERFINCH_RECORDS,
-                 answer);
 }
 
 /* One more record of a program that was read before, for a caller that prints each step when it is done. */

@@ -1,9 +1,9 @@
-/* The four calls of Couplerfinch for C: check, start, step and run.
+/* The three calls of Couplerfinch for C: check, start and run.
  *
  * Every call ends and answers, whatever bytes and lengths it is handed; none has a precondition on the content. It writes the answer
  * to the room that is lent for it, and answers the code too: 0 where the call went through, or the first code that the rules
- * give. A refused check or start writes nothing else, nor does a refused step; a run keeps the whole steps done before the
- * refused one.
+ * give. A refused check or start writes nothing else; a refused run keeps the whole steps done before the refused record, so a run
+ * of one record that is refused changes nothing.
  *
  * What C can't say, and the caller owes: a pointer is not NULL, even where its length is 0, and points to as many bytes as its
  * length says; no room that is written overlaps another. No call allocates, keeps a pointer or has memory of its own; each needs
@@ -51,8 +51,8 @@ extern "C" {
 typedef struct couplerfinch_answer {
     uint32_t code;  /* 0, or the first code that the rules give */
     uint32_t place; /* of a refusal: the block (2, 3), record (4), node (5-8) or input record (12, 13) */
-    uint32_t steps; /* step, run: whole steps done, of a refusal too */
-    uint32_t work;  /* step, run: rules used by the steps done, of a refusal too */
+    uint32_t steps; /* run: whole steps done, of a refusal too */
+    uint32_t work;  /* run: rules used by the steps done, of a refusal too */
     uint32_t nodes; /* check: how many nodes the program has */
     uint32_t cells; /* check: how many cells its state has */
     uint32_t bound; /* check: the most rules that a step uses */
@@ -66,11 +66,8 @@ uint32_t couplerfinch_check(const uint8_t *program, size_t program_length, coupl
 uint32_t couplerfinch_start(const uint8_t *program, size_t program_length, uint8_t *state, size_t state_length,
                             couplerfinch_answer *answer);
 
-/* Makes one step: the value goes to the 8 bytes of output, and the state goes on. */
-uint32_t couplerfinch_step(const uint8_t *program, size_t program_length, uint8_t *state, size_t state_length, const uint8_t *input,
-                           size_t input_length, uint8_t *output, size_t output_length, couplerfinch_answer *answer);
-
-/* Makes a step for each record; the program is checked once. */
+/* Makes a step for each record, one or many: the values go to the output, 8 bytes each, and the state goes on; the program is checked
+ * once. A list of records may be cut anywhere and its parts run one after the other: the same values, state and summed work. */
 uint32_t couplerfinch_run(const uint8_t *program, size_t program_length, uint8_t *state, size_t state_length, const uint8_t *records,
                           size_t records_length, uint8_t *output, size_t output_length, couplerfinch_answer *answer);
 

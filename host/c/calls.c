@@ -1,4 +1,4 @@
-/* Answers requests to the four calls through the library, as the second program's `calls` does (second/README.md): one request on
+/* Answers requests to the three calls through the library, as the second program's `calls` does (second/README.md): one request on
  * standard input, or a stream of them with the word `serve`.
  *
  * Every room that a call is lent is exactly as long as the request says and stands between guard bytes. A call that writes outside
@@ -19,10 +19,10 @@
 #define ROOMS 4          /* program, state, records, output */
 #define CHUNK (1u << 16) /* how much memory a length is trusted with before its bytes are there */
 
-enum call { CHECK, START, STEP, RUN };
+enum call { CHECK, START, RUN };
 
-static const char *const names[] = {"check", "start", "step", "run"};
-static const size_t wanted[] = {1, 2, 4, 4};
+static const char *const names[] = {"check", "start", "run"};
+static const size_t wanted[] = {1, 2, 4};
 
 /* Bytes lent to a call: `bytes` points behind the first guard. */
 struct room {
@@ -199,9 +199,6 @@ static uint32_t call(const struct request *request, couplerfinch_answer *answer)
         return couplerfinch_check(r[0].bytes, r[0].length, answer);
     case START:
         return couplerfinch_start(r[0].bytes, r[0].length, r[1].bytes, r[1].length, answer);
-    case STEP:
-        return couplerfinch_step(r[0].bytes, r[0].length, r[1].bytes, r[1].length, r[2].bytes, r[2].length, r[3].bytes, r[3].length,
-                                 answer);
     default:
         return couplerfinch_run(r[0].bytes, r[0].length, r[1].bytes, r[1].length, r[2].bytes, r[2].length, r[3].bytes, r[3].length,
                                 answer);
@@ -211,7 +208,7 @@ static uint32_t call(const struct request *request, couplerfinch_answer *answer)
 /* Holds what the header says of an answer: the code is answered too, and numbers that the call does not give are 0. */
 static void hold_answer(enum call of, uint32_t code, const couplerfinch_answer *a)
 {
-    bool checked = of == CHECK && code == 0, ran = of == STEP || of == RUN;
+    bool checked = of == CHECK && code == 0, ran = of == RUN;
     if (code != a->code || code > COUPLERFINCH_TIME_BACK)
         fail("the code answered is not that of the answer");
     if ((a->place != 0 && code == 0) || (!ran && (a->steps != 0 || a->work != 0)))

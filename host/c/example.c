@@ -62,7 +62,7 @@ int main(int argc, char **argv)
     if (couplerfinch_start(program, length, state, state_length, &answer) != COUPLERFINCH_DONE)
         return refused(&answer);
     while (fread(record, 1, sizeof record, file) == sizeof record) {
-        uint32_t code = couplerfinch_step(program, length, state, state_length, record, sizeof record, value, sizeof value, &answer);
+        uint32_t code = couplerfinch_run(program, length, state, state_length, record, sizeof record, value, sizeof value, &answer);
         printf("%10" PRIu32 " ms  code %2" PRIu32 "  ", number(record), code);
         if (code == COUPLERFINCH_DONE)
             print_value(value);

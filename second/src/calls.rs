@@ -1,4 +1,4 @@
-//! The four public calls and the order in which they try their codes.
+//! The three public calls and the order in which they try their codes.
 
 use crate::program::Program;
 use crate::record::{Record, MOST_RECORDS, RECORD};
@@ -19,7 +19,7 @@ pub struct Accepted {
     pub root_type: u8,
 }
 
-/// The answer to a finished step or run.
+/// The answer to a finished run.
 #[derive(Clone, Copy, Debug, PartialEq, Eq)]
 pub struct Done {
     pub steps: usize,
@@ -51,41 +51,17 @@ pub fn start(program: &[u8], state: &mut [u8]) -> Result<(), Refusal> {
     Ok(())
 }
 
-/// Makes one step: codes 1 to 11, then 12, then 13.
-pub fn step(
-    program: &[u8],
-    state: &mut [u8],
-    record: &[u8],
-    output: &mut [u8],
-) -> Result<Done, Refusal> {
-    let one_record = |length| length == RECORD;
-    work_records(program, state, record, output, one_record)
-}
-
-/// Runs a list of records: codes 1 to 11, then 12 and 13 for each record.
+/// Runs a list of records: codes 1 to 11, then 12 and 13 for each record. The lent state is
+/// written once, with what the finished steps made of it.
 pub fn run(
     program: &[u8],
     state: &mut [u8],
     records: &[u8],
     output: &mut [u8],
 ) -> Result<Done, Refusal> {
-    let whole_records =
-        |length: usize| length.is_multiple_of(RECORD) && length <= MOST_RECORDS * RECORD;
-    work_records(program, state, records, output, whole_records)
-}
-
-/// Checks all lent memory and works the records one after the other. The lent state is written
-/// once, with what the finished steps made of it.
-fn work_records(
-    program: &[u8],
-    state: &mut [u8],
-    records: &[u8],
-    output: &mut [u8],
-    right_length: impl Fn(usize) -> bool,
-) -> Result<Done, Refusal> {
     let program = Program::read(program)?;
     let read = State::read(&program, state).ok_or(Refusal::at(refusal::STATE, 0))?;
-    if !right_length(records.len()) {
+    if !records.len().is_multiple_of(RECORD) || records.len() > MOST_RECORDS * RECORD {
         return Err(Refusal::at(refusal::RECORDS, 0));
     }
     if output.len() != records.len() / RECORD * OUTPUT {

@@ -134,13 +134,13 @@ fn damaged(random: &mut Random, file: &mut Vec<u8>, nodes: &[Node]) {
     }
 }
 
-/// A request to any of the four calls.
+/// A request to any of the three calls; many a run has one record.
 pub fn request(random: &mut Random) -> Request {
     match random.weighted(&[25, 12, 28, 35]) {
         0 => check_request(random),
         1 => start_request(random),
-        2 => steps_request(random, true),
-        _ => steps_request(random, false),
+        2 => run_request(random, true),
+        _ => run_request(random, false),
     }
 }
 
@@ -168,7 +168,7 @@ fn start_request(random: &mut Random) -> Request {
     Request::Start { program, state }
 }
 
-fn steps_request(random: &mut Random, single: bool) -> Request {
+fn run_request(random: &mut Random, single: bool) -> Request {
     let (sample, program) = sample_for_call(random, 15);
     let (mut state, time) = reached_state(random, &sample);
     let count = if single { 1 } else { record_count(random, sample.nodes.len()) };
@@ -186,10 +186,7 @@ fn steps_request(random: &mut Random, single: bool) -> Request {
     if random.chance(10) {
         wrong_lengths(random, &mut records, &mut output);
     }
-    match single {
-        true => Request::Step { program, state, records, output },
-        false => Request::Run { program, state, records, output },
-    }
+    Request::Run { program, state, records, output }
 }
 
 /// How many records a run gets: few, and rarely the most where the program is small.

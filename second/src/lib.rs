@@ -1,4 +1,4 @@
-//! The independent second program: the four calls of document 01, written from the paper alone.
+//! The independent second program: the three calls of documents 01 and 02, written from the paper alone.
 //!
 //! The modules follow the paper: `format` (codes 1-4), `shape` (5), `scope` (6), `types` (7),
 //! `ready` (8), `bound`, `state` (9), `record` (12), `evaluate`, `update` and `calls`. The tools
@@ -29,5 +29,5 @@ pub mod update;
 pub mod value;
 pub mod wild;
 
-pub use calls::{check, run, start, step, Accepted, Done};
+pub use calls::{check, run, start, Accepted, Done};
 pub use refusal::Refusal;

@@ -1,4 +1,4 @@
-//! Requests to the four calls as a stream of bytes, and their answers as text.
+//! Requests to the three calls as a stream of bytes, and their answers as text.
 
 use crate::calls::{self, Accepted, Done};
 use crate::refusal::Refusal;
@@ -9,7 +9,6 @@ use std::io::{self, BufRead, Read, Write};
 pub enum Request {
     Check { program: Vec<u8> },
     Start { program: Vec<u8>, state: Vec<u8> },
-    Step { program: Vec<u8>, state: Vec<u8>, records: Vec<u8>, output: Vec<u8> },
     Run { program: Vec<u8>, state: Vec<u8>, records: Vec<u8>, output: Vec<u8> },
 }
 
@@ -41,7 +40,7 @@ impl Request {
         let wanted = match name {
             "check" => 1,
             "start" => 2,
-            "step" | "run" => 4,
+            "run" => 4,
             _ => return None,
         };
         if rooms.len() != wanted {
@@ -53,7 +52,6 @@ impl Request {
         Some(match name {
             "check" => Request::Check { program },
             "start" => Request::Start { program, state },
-            "step" => Request::Step { program, state, records, output },
             _ => Request::Run { program, state, records, output },
         })
     }
@@ -63,9 +61,6 @@ impl Request {
         match self {
             Request::Check { program } => ("check", vec![program]),
             Request::Start { program, state } => ("start", vec![program, state]),
-            Request::Step { program, state, records, output } => {
-                ("step", vec![program, state, records, output])
-            }
             Request::Run { program, state, records, output } => {
                 ("run", vec![program, state, records, output])
             }
@@ -90,10 +85,6 @@ impl Request {
             Request::Start { program, mut state } => {
                 let answer = calls::start(&program, &mut state);
                 Answer::Start(answer, state)
-            }
-            Request::Step { program, mut state, records, mut output } => {
-                let answer = calls::step(&program, &mut state, &records, &mut output);
-                Answer::Steps(answer, state, output)
             }
             Request::Run { program, mut state, records, mut output } => {
                 let answer = calls::run(&program, &mut state, &records, &mut output);
@@ -179,13 +170,13 @@ pub fn tally(input: &mut impl BufRead) -> Tally {
     tally
 }
 
-/// The four calls in the paper's order.
-pub const CALLS: [&str; 4] = ["check", "start", "step", "run"];
+/// The three calls in the paper's order.
+pub const CALLS: [&str; 3] = ["check", "start", "run"];
 
 /// Counts by call and code.
 #[derive(Clone, Debug, Default, PartialEq, Eq)]
 pub struct Tally {
-    pub counts: [[usize; 15]; 4],
+    pub counts: [[usize; 15]; 3],
 }
 
 impl Tally {

@@ -389,7 +389,7 @@ fn steps_by_the_words() {
             let (value, first) = rules.evaluate(root, &cells, &Bindings::new());
             let (cells, second) = rules.update(root, &cells, &Bindings::new());
             let mut output = [0; 8];
-            let done = second::step(&sample.file, &mut bytes, record, &mut output).unwrap();
+            let done = second::run(&sample.file, &mut bytes, record, &mut output).unwrap();
             assert_eq!((output, done.work), (value.bytes(), first + second));
             let after = State::read(&program, &bytes).unwrap();
             assert_eq!(after.cells, cells.into_values().collect::<Vec<_>>());

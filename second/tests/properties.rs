@@ -6,7 +6,7 @@ use second::kinds;
 use second::random::Random;
 use second::request::{Answer, Request};
 use second::value::Value;
-use second::{check, run, start, step};
+use second::{check, run, start};
 
 #[test]
 fn grown_programs_are_accepted_and_have_their_size() {
@@ -61,7 +61,7 @@ fn a_step_keeps_type_state_and_bound() {
         assert!(accepted.bound <= (count * (count + 1)) as u64);
         for record in records.chunks(40) {
             let mut output = [0xAA; 8];
-            let done = step(&sample.file, &mut state, record, &mut output).unwrap();
+            let done = run(&sample.file, &mut state, record, &mut output).unwrap();
             assert!(done.steps == 1 && done.work <= accepted.bound);
             let word = format::number32(&output, 4) as i32;
             let value = Value::from_parts(output[0], output[1] as u16, word).unwrap();
@@ -93,7 +93,7 @@ fn a_run_cut_anywhere_is_the_same() {
         let mut single = (state, vec![0; steps * 8]);
         let mut work = 0;
         for (record, room) in records.chunks(40).zip(single.1.chunks_mut(8)) {
-            work += step(&sample.file, &mut single.0, record, room).unwrap().work;
+            work += run(&sample.file, &mut single.0, record, room).unwrap().work;
         }
         assert_eq!((work, single), (done.work, whole));
     }
@@ -103,10 +103,6 @@ fn a_run_cut_anywhere_is_the_same() {
 fn keeps_memory(request: &Request, answer: &Answer) {
     match (request, answer) {
         (Request::Start { state, .. }, Answer::Start(Err(_), after)) => assert_eq!(state, after),
-        (Request::Step { state, output, .. }, Answer::Steps(Err(refusal), after, room)) => {
-            assert_eq!((state, output), (after, room));
-            assert_eq!(refusal.work, 0);
-        }
         (
             Request::Run { program, state, records, output },
             Answer::Steps(Err(refusal), after, room),
@@ -127,7 +123,7 @@ fn keeps_memory(request: &Request, answer: &Answer) {
 #[test]
 fn refusals_leave_memory_and_every_code_comes_up() {
     let mut random = Random::new(5);
-    let mut seen = [[0usize; 15]; 4];
+    let mut seen = [[0usize; 15]; 3];
     for _ in 0..8000 {
         let request = generate::request(&mut random);
         let answer = request.clone().answer();
@@ -135,8 +131,8 @@ fn refusals_leave_memory_and_every_code_comes_up() {
         let call = second::request::CALLS.iter().position(|&call| call == request.parts().0);
         seen[call.unwrap()][answer.code() as usize] += 1;
     }
-    // Code 14 cannot come up: no run's total reaches so far.
-    for (counts, last) in seen.iter().zip([8, 9, 13, 13]) {
+    // Code 14 is gone.
+    for (counts, last) in seen.iter().zip([8, 9, 13]) {
         for (code, &count) in counts.iter().enumerate() {
             assert_eq!(count >= 4, code <= last, "{seen:?}");
         }
@@ -182,7 +178,7 @@ fn switches_catch_and_untils_fire() {
         let (sample, mut state, records) = situation(&mut random, count, 6);
         let bound = check(&sample.file).unwrap().bound;
         for record in records.chunks(40) {
-            let work = step(&sample.file, &mut state, record, &mut [0; 8]).unwrap().work;
+            let work = run(&sample.file, &mut state, record, &mut [0; 8]).unwrap().work;
             full += usize::from(work == bound);
         }
         let holders = sample.nodes.iter().filter(|node| kinds::has_cell(node.kind));
@@ -211,6 +207,5 @@ fn any_bytes_are_answered() {
         assert!(check(&program).is_err());
         assert!(start(&program, &mut state).is_err());
         assert!(run(&program, &mut state, &records, &mut output).is_err());
-        assert!(step(&program, &mut state, &records, &mut output).is_err());
     }
 }

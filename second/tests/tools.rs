@@ -55,10 +55,12 @@ fn calls_answers_one_request() {
     assert_eq!(ask("start 512 4", &[&program, &[1, 2, 3, 4]]), "OK\nffffffff\n");
     assert_eq!(ask("start 512 0", &[&program]), "REFUSED 9 0 0\n\n");
     let record = assemble::records("258").expect("a record");
-    let step = ask("step 512 4 40 8", &[&program, &[255; 4], &record, &[9; 8]]);
-    assert_eq!(step, "OK 1 2\n02010000\n0301000002010000\n");
+    let one = ask("run 512 4 40 8", &[&program, &[255; 4], &record, &[9; 8]]);
+    assert_eq!(one, "OK 1 2\n02010000\n0301000002010000\n");
     let run = ask("run 512 4 0 0", &[&program, &[255; 4]]);
     assert_eq!(run, "OK 0 0\nffffffff\n\n");
+    let gone = ask("step 512 4 40 8", &[&program, &[255; 4], &record, &[9; 8]]);
+    assert_eq!(gone, "NO REQUEST\n");
     let bad = [record.clone(), vec![255; 40]].concat();
     let run = ask("run 512 4 80 16", &[&program, &[255; 4], &bad, &[9; 16]]);
     assert_eq!(run, "REFUSED 12 1 2\n02010000\n03010000020100000909090909090909\n");

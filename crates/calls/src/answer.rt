@@ -1,7 +1,6 @@
 // The calls, and their answers: the line, then the state and the output room in hex, a line each.
 ghost use Prim.Native.Nat.{_≤_};
 ghost use lib.ListN.{length};
-use rules::Ran;
 use wire::Request;
 
 // Puts at most 2,048 bytes in hex to the output, and answers how many bytes of output wait.
@@ -54,17 +53,8 @@ fn start_answer(program: &[u8], state: &mut [u8], full: usize, out: &mut [u8]) -
     hex_line(state, waits, out)
 }
 
-// Makes a run, or a step.
-fn ran(is_run: bool, program: &[u8], state: &mut [u8], records: &[u8], room: &mut [u8]) -> Ran {
-    if is_run {
-        return watch::run(program, state, records, room);
-    }
-    watch::step(program, state, records, room)
-}
-
-// Makes a run, or a step, and puts the answer to the output.
-fn steps_answer(
-    is_run: bool,
+// Makes a run, and puts the answer to the output.
+fn run_answer(
     program: &[u8],
     state: &mut [u8],
     records: &[u8],
@@ -73,7 +63,7 @@ fn steps_answer(
     out: &mut [u8],
 ) -> usize {
     let mut line = [0u8; 64];
-    let n = wire::ran_line(ran(is_run, program, state, records, room), &mut line);
+    let n = wire::ran_line(watch::run(program, state, records, room), &mut line);
     let waits = feed::append(&line[..n], out, full);
     let more = hex_line(state, waits, out);
     hex_line(room, more, out)
@@ -87,9 +77,8 @@ fn start_call(program: &[u8], n: usize, state: &mut [u8], full: usize, out: &mut
     start_answer(program, &mut state[..n], full, out)
 }
 
-// A run, or a step, with the first n bytes of state and the first m of the output room.
-fn steps_call(
-    is_run: bool,
+// A run with the first n bytes of state and the first m of the output room.
+fn run_call(
     program: &[u8],
     n: usize,
     state: &mut [u8],
@@ -105,15 +94,7 @@ fn steps_call(
     if m > room.len() {
         return full;
     }
-    steps_answer(
-        is_run,
-        program,
-        &mut state[..n],
-        records,
-        &mut room[..m],
-        full,
-        out,
-    )
+    run_answer(program, &mut state[..n], records, &mut room[..m], full, out)
 }
 
 // Makes the call of a request whose memory is read, and puts the answer to the output.
@@ -135,24 +116,9 @@ pub fn call(
             full,
             out,
         ),
-        Request::Step(p, s, r, o) => {
-            let of = feed::first(program, p as usize);
-            steps_call(
-                false,
-                of,
-                s as usize,
-                state,
-                feed::first(records, r as usize),
-                o as usize,
-                room,
-                full,
-                out,
-            )
-        }
         Request::Run(p, s, r, o) => {
             let of = feed::first(program, p as usize);
-            steps_call(
-                true,
+            run_call(
                 of,
                 s as usize,
                 state,

@@ -26,12 +26,6 @@ fn lengths(request: Request) -> Sizes {
             records: 0,
             room: 0,
         },
-        Request::Step(p, s, r, o) => Sizes {
-            program: p as usize,
-            state: s as usize,
-            records: r as usize,
-            room: o as usize,
-        },
         Request::Run(p, s, r, o) => Sizes {
             program: p as usize,
             state: s as usize,

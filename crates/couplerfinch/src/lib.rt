@@ -1,6 +1,6 @@
-// The four calls for C and Rust: slices and numbers only, the answer in a lent room of eight numbers (include/couplerfinch.h).
+// The three calls for C and Rust: slices and numbers only, the answer in a lent room of eight numbers (include/couplerfinch.h).
 ghost use mathlib.Core.Path.{_≡_};
-ghost use Rattle.rules.specs.Calls.{checkCall, startCall, stepCall, runCall};
+ghost use Rattle.rules.specs.Calls.{checkCall, startCall, runCall};
 ghost use Rattle.couplerfinch.specs.Room.{room, stepsBefore, checkedRoom, startedRoom, ranRoom, checkedCode, startedCode, ranCode};
 use rules::Checked;
 use rules::Ran;
@@ -61,7 +61,7 @@ fn put_started(found: Started, answer: &mut [u32; 8]) -> u32
     }
 }
 
-// The answer of step and run, as numbers.
+// The answer of run, as numbers.
 fn put_ran(found: Ran, answer: &mut [u32; 8]) -> u32
     ensures { λ r. ⌜ (r ≡ ranCode found) × (now (answer .exit) ≡ ranRoom found) ⌝ }
 {
@@ -91,20 +91,6 @@ pub extern "C" fn couplerfinch_start(program: &[u8], state: &mut [u8], answer: &
     ensures { λ r. ⌜ (r ≡ startedCode (startCall (now (program .entry)) (now (state .entry)) .answer)) × (now (answer .exit) ≡ startedRoom (startCall (now (program .entry)) (now (state .entry)) .answer)) × (now (state .exit) ≡ startCall (now (program .entry)) (now (state .entry)) .state) ⌝ }
 {
     put_started(watch::start(program, state), answer)
-}
-
-// Makes one step.
-#[no_mangle]
-pub extern "C" fn couplerfinch_step(
-    program: &[u8],
-    state: &mut [u8],
-    input: &[u8],
-    output: &mut [u8],
-    answer: &mut [u32; 8],
-) -> u32
-    ensures { λ r. ⌜ (r ≡ ranCode (stepCall (now (program .entry)) (now (state .entry)) (now (input .entry)) (now (output .entry)) .answer)) × (now (answer .exit) ≡ ranRoom (stepCall (now (program .entry)) (now (state .entry)) (now (input .entry)) (now (output .entry)) .answer)) × (now (state .exit) ≡ stepCall (now (program .entry)) (now (state .entry)) (now (input .entry)) (now (output .entry)) .state) × (now (output .exit) ≡ stepCall (now (program .entry)) (now (state .entry)) (now (input .entry)) (now (output .entry)) .output) ⌝ }
-{
-    put_ran(watch::step(program, state, input, output), answer)
 }
 
 // Makes a step for each record.

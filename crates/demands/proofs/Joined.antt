@@ -9,14 +9,14 @@ use Rattle.rules.specs.Bytes.{Bytes}
 use Rattle.rules.specs.Layout.{nodes}
 use Rattle.rules.specs.Bound.{bound}
 use Rattle.rules.specs.WellFormed.{wellFormed}
-use Rattle.rules.specs.Calls.{checkCall, stepCall, runCall}
+use Rattle.rules.specs.Calls.{checkCall, runCall}
 use Rattle.rules.specs.declared.Ran.{Ran}
 use Rattle.rules.specs.declared.Checked.the-variants.{Accepted}
 use Rattle.promises.specs.Small.{Small}
 use Rattle.promises.specs.GoesOn.{State, GoesOn}
 use Rattle.promises.proofs.Steps.{well-parts}
 use Rattle.promises.proofs.Promises.{goes-on, answered}
-use Rattle.demands.specs.Demand.{Kept, StepAnswered, StepDemand, RunAnswered, RunDemand}
+use Rattle.demands.specs.Demand.{Kept, RunAnswered, RunDemand}
 
 -- what is kept, by what was left
 keeps : (p st st₁ : Bytes) (count cells most type : ℕ) → Small p → checkCall p ≡ Accepted count cells most type → wellFormed p st ≡ true
@@ -28,18 +28,6 @@ keeps p st st₁ count cells most type hp a w s =
       well = s .well;
       long = well-parts p st₁ (s .well) .long ∙ sym (well-parts p st w .long);
       bounded = rw (q .most-is, q .count-is) b;
-    }
-
-pub step-demand : (p st rec out : Bytes) {r : Ran} {st₁ out₁ : Bytes} → Small p → Small st → Small rec
-    → r ≡ stepCall p st rec out .answer → st₁ ≡ stepCall p st rec out .state → out₁ ≡ stepCall p st rec out .output
-    → StepDemand p st rec out r st₁ out₁
-step-demand p st rec out {r} {st₁} {out₁} hp hs hr e f g count cells most type a w =
-    let q = answered p count cells most type a in
-    let on = goes-on p hp (q .accepts) in
-    let s : State p st = record { bytes = hs; well = w } in
-    record {
-      answers = rw (e, f, g) (on .steps st rec out s hr);
-      kept = keeps p st st₁ count cells most type hp a w (rw f (on .step-leaves st rec out s hr));
     }
 
 pub run-demand : (p st recs out : Bytes) {r : Ran} {st₁ out₁ : Bytes} → Small p → Small st → Small recs

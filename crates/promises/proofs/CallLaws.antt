@@ -1,5 +1,5 @@
--- The calls of an accepted program: start is ready with a well-formed state, and from a well-formed state step and run are refused only for
--- their records, and leave a well-formed state.
+-- The calls of an accepted program: start is ready with a well-formed state, and from a well-formed state a run is refused only for its
+-- records, and leaves a well-formed state.
 -- Assumes nothing.
 use mathlib.Core.Path.{_≡_, refl, sym}
 use mathlib.Core.Bool.{Bool, true, false, not}
@@ -14,11 +14,10 @@ use Rattle.rules.specs.Answers.{codeOf}
 use Rattle.rules.specs.Reset.{startState}
 use Rattle.rules.specs.WellFormed.{wellFormed}
 use Rattle.rules.specs.Bound.{bound}
-use Rattle.rules.specs.Update.{stepOf}
 use Rattle.rules.specs.Accepted.{Accepted}
-use Rattle.rules.specs.Calls.{_otherwise_, refuseIf, lentVerdict, inputWrong, timeWrong, recordVerdict, stepVerdict, startOutcome, startCall, RunOutcome, runOutcome, runCall, stepOutcome, stepCall}
+use Rattle.rules.specs.Calls.{_otherwise_, refuseIf, lentVerdict, startOutcome, startCall, RunOutcome, runOutcome, runCall}
 use Rattle.rules.specs.declared.Refusal.{Refusal}
-use Rattle.rules.specs.declared.Refusal.the-variants.{RecordsLength, OutputLength, InputFault, TimeBack}
+use Rattle.rules.specs.declared.Refusal.the-variants.{RecordsLength, OutputLength}
 use Rattle.rules.specs.declared.Verdict.{Verdict}
 use Rattle.rules.specs.declared.Verdict.the-variants.{Fine, Refuse}
 use Rattle.rules.specs.declared.Started.the-variants.{Ready}
@@ -26,11 +25,9 @@ use Rattle.rules.proofs.Static.{and-both}
 use Rattle.rules.proofs.Verdicts.{both-fine, if-fine, fine-verdict}
 use Rattle.promises.specs.Small.{Small}
 use Rattle.promises.specs.Seated.{Seated}
-use Rattle.promises.specs.Step.{StepMade}
-use Rattle.promises.specs.Run.{RunAnswers, lengths, ran, StepAnswers, unfit, made, workIn}
+use Rattle.promises.specs.Run.{RunAnswers, lengths, ran, workIn}
 use Rattle.promises.specs.GoesOn.{State}
-use Rattle.promises.proofs.Steps.{step-goes-on}
-use Rattle.promises.proofs.Runs.{in-time, run-from, run-ends-well, total-fits}
+use Rattle.promises.proofs.Runs.{run-from, run-ends-well, total-fits}
 
 -- Start.
 pub start-goes-on : (p st : Bytes) → Accepted p → length st ≡ stateLength p
@@ -38,7 +35,7 @@ pub start-goes-on : (p st : Bytes) → Accepted p → length st ≡ stateLength 
 unfolding startCall startOutcome _otherwise_ refuseIf
 start-goes-on p st acc l = rw (fine-verdict p acc, eq-eqb (length st) (stateLength p) l)
 
--- What step and run are lent.
+-- What a run is lent.
 lent : (p st recs out : Bytes) (fit : Bool) → Accepted p → wellFormed p st ≡ true
     → lentVerdict p st recs out fit
     ≡ (refuseIf (not fit) RecordsLength otherwise refuseIf (not (eqb (length out) (8 * (length recs / inputLength)))) OutputLength)
@@ -79,54 +76,12 @@ unfolding runCall
 run-goes-on p st recs out acc seat well hs hr =
     rw (lent p st recs out _ acc well) (run-outcome p st recs out acc seat well hs hr _ (lengths-lent 11 (omega arith) _ _) (at-most _ _ _))
 
--- Step.
-step-verdict : (st rec : Bytes) → Lent 13 (stepVerdict st rec)
-unfolding stepVerdict recordVerdict _otherwise_ refuseIf
-step-verdict st rec = go (inputWrong rec) (timeWrong st rec)
-  where
-    go : (a b : Bool) → Lent 13 ((if a then Refuse (InputFault 0) else Fine) otherwise (if b then Refuse (TimeBack 0) else Fine))
-    go true b = refuse (InputFault 0) (omega arith) (omega arith)
-    go false true = refuse (TimeBack 0) (omega arith) (omega arith)
-    go false false = fine
-
--- Two verdicts, one after the other.
-lent-then : (most : ℕ) (v w : Verdict) → Lent most v → Lent most w → Lent most (v otherwise w)
-unfolding _otherwise_
-lent-then most Fine w fine h = h
-lent-then most (Refuse r) w (refuse _ a b) h = refuse r a b
-
--- A record that step does not refuse is as it should be.
-step-fine : (st rec : Bytes) → stepVerdict st rec ≡ Fine → inputWrong rec ≡ false
-unfolding stepVerdict recordVerdict
-step-fine st rec e = if-fine _ _ (both-fine _ _ e .0)
-
--- A step after the verdict on what it is lent.
-step-outcome : (p st rec out : Bytes) → (v : Verdict) → Lent 13 v → (v ≡ Fine → StepMade p rec st)
-    → StepAnswers p st rec out (stepOutcome st out v (stepOf p rec st))
-unfolding stepOutcome
-step-outcome p st rec out Fine fine m = let s = m refl in made s (rw (s .made))
-step-outcome p st rec out (Refuse r) (refuse _ h g) m = unfit r h g refl
-
--- Step, from a well-formed state.
-pub step-call-goes-on : (p st rec out : Bytes) → Accepted p → Seated p → wellFormed p st ≡ true → Small st → Small rec
-    → StepAnswers p st rec out (stepCall p st rec out)
-unfolding stepCall
-step-call-goes-on p st rec out acc seat well hs hr =
-    step-outcome p st rec out _
-    (lent-then 13 _ _ (rw (lent p st rec out _ acc well) (lengths-lent 13 (omega arith) _ _)) (step-verdict st rec))
-    λ e. step-goes-on p rec st acc seat well hs hr (in-time rec (step-fine st rec (both-fine _ _ e .1)))
-
 -- A state is left a state.
 pub run-keeps : (p st recs out : Bytes) (o : RunOutcome) → State p st → RunAnswers p st recs out o → State p (o .state)
 run-keeps p st recs out o s (lengths r h g e) = rw e s
 run-keeps p st recs out o s (ran _ m) =
     let f = run-ends-well (length recs / inputLength) p recs o 0 0 st out (s .well) (s .bytes) m in
     record { bytes = f .bytes; well = f .well }
-
--- The same of a step.
-pub step-keeps : (p st rec out : Bytes) (o : RunOutcome) → State p st → StepAnswers p st rec out o → State p (o .state)
-step-keeps p st rec out o s (unfit r h g e) = rw e s
-step-keeps p st rec out o s (made m e) = rw e (record { bytes = m .bytes; well = m .well })
 
 -- No run's total passes 4,294,967,295.
 pub run-total : (p st recs out : Bytes) (o : RunOutcome) → bound p ≤ 1008 * 1009 → State p st → RunAnswers p st recs out o

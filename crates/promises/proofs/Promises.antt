@@ -9,7 +9,7 @@ use Rattle.rules.specs.Layout.{nodes, cells}
 use Rattle.rules.specs.Tree.{root}
 use Rattle.rules.specs.Typing.{typeS}
 use Rattle.rules.specs.Bound.{bound}
-use Rattle.rules.specs.Calls.{programVerdict, checkAnswer, checkCall, stepCall, runCall}
+use Rattle.rules.specs.Calls.{programVerdict, checkAnswer, checkCall, runCall}
 use Rattle.rules.specs.Accepted.{Accepted}
 use Rattle.rules.specs.declared.Checked.{Checked}
 use Rattle.rules.specs.declared.Verdict.{Verdict}
@@ -23,7 +23,7 @@ use Rattle.promises.specs.GoesOn.{GoesOn}
 use Rattle.promises.proofs.FromTable.{seated}
 use Rattle.promises.proofs.Start.{start-made}
 use Rattle.promises.proofs.Steps.{step-goes-on}
-use Rattle.promises.proofs.CallLaws.{start-goes-on, step-call-goes-on, step-keeps, run-goes-on, run-keeps, run-total}
+use Rattle.promises.proofs.CallLaws.{start-goes-on, run-goes-on, run-keeps, run-total}
 
 -- No bound exceeds 1,008 times 1,009.
 pub most-bound : (p : Bytes) → Accepted p → bound p ≤ 1008 * 1009
@@ -44,9 +44,6 @@ goes-on p small acc =
       starts = λ st l. start-goes-on p st acc l;
       started = record { bytes = start-made p seat .bytes; well = start-made p seat .well };
       makes = λ st rec s h t. step-goes-on p rec st acc seat (s .well) (s .bytes) h t;
-      steps = λ st rec out s h. step-call-goes-on p st rec out acc seat (s .well) (s .bytes) h;
-      step-leaves = λ st rec out s h.
-          step-keeps p st rec out (stepCall p st rec out) s (step-call-goes-on p st rec out acc seat (s .well) (s .bytes) h);
       runs = λ st recs out s h. run-goes-on p st recs out acc seat (s .well) (s .bytes) h;
       run-leaves = λ st recs out s h.
           run-keeps p st recs out (runCall p st recs out) s (run-goes-on p st recs out acc seat (s .well) (s .bytes) h);

@@ -53,11 +53,3 @@ pub data RunAnswers (p st recs out : Bytes) (o : RunOutcome) : Type 0 where
   lengths : (r : Refusal) → 10 ≤ codeOf r → codeOf r ≤ 11 → o ≡ record { answer = Ran.Refused r 0; state = st; output = out }
       → RunAnswers p st recs out o
   ran : length recs / inputLength ≤ 4096 → RunMade p recs o (length recs / inputLength) 0 0 st out → RunAnswers p st recs out o
-
--- A step's call: the lengths or the record are refused (10-13), and nothing is changed; or the step is made.
-pub data StepAnswers (p st rec out : Bytes) (o : RunOutcome) : Type 0 where
-  unfit : (r : Refusal) → 10 ≤ codeOf r → codeOf r ≤ 13 → o ≡ record { answer = Ran.Refused r 0; state = st; output = out }
-      → StepAnswers p st rec out o
-  made : (m : StepMade p rec st)
-      → o ≡ record { answer = Finished 1 (m .tally .work); state = m .state; output = writeAt out 0 (valueBytes (m .output)) }
-      → StepAnswers p st rec out o

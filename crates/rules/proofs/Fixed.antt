@@ -9,8 +9,8 @@ use lib.ListN.{length, replicate}
 use Rattle.rules.specs.Bytes.{Bytes, _and_, byteAt, u16At, u32At, u64At, bytesOf, writeAt}
 use Rattle.rules.specs.Values.{isPlain, valueFrom, packed, valueBytes, typeIn, presentIn, wordIn, unpacked}
 use Rattle.rules.specs.Layout.{stateLength}
-use Rattle.rules.specs.Calls.{StartOutcome, RunOutcome, checkCall, startCall, stepCall, runCall}
-use Rattle.rules.specs.Promised.{Checks, Starts, Steps, Runs}
+use Rattle.rules.specs.Calls.{StartOutcome, RunOutcome, checkCall, startCall, runCall}
+use Rattle.rules.specs.Promised.{Checks, Starts, Runs}
 use Rattle.rules.specs.Samples.{joined, quiet, event}
 use Rattle.rules.specs.Readings.{Step, Seen, int, counting, selfish, switching, rowA, rowC, rowD, readings, sights, expected}
 use Rattle.rules.specs.declared.Value.{Value}
@@ -29,10 +29,6 @@ one-check a b p = a .as-ruled p ∙ sym (b .as-ruled p)
 
 pub one-start : {f g : Bytes → Bytes → StartOutcome} → Starts f → Starts g → (p st : Bytes) → f p st ≡ g p st
 one-start a b p st = a .as-ruled p st ∙ sym (b .as-ruled p st)
-
-pub one-step : {f g : Bytes → Bytes → Bytes → Bytes → RunOutcome} → Steps f → Steps g
-    → (p st rec out : Bytes) → f p st rec out ≡ g p st rec out
-one-step a b p st rec out = a .as-ruled p st rec out ∙ sym (b .as-ruled p st rec out)
 
 pub one-run : {f g : Bytes → Bytes → Bytes → Bytes → RunOutcome} → Runs f → Runs g
     → (p st recs out : Bytes) → f p st recs out ≡ g p st recs out
@@ -70,19 +66,19 @@ roomD = replicate 32 0
 
 -- the three steps of row A, and the first two of row D
 abbrev firstA : RunOutcome
-firstA = stepCall (counting 0) startA (quiet 0) room
+firstA = runCall (counting 0) startA (quiet 0) room
 
 abbrev secondA : RunOutcome
-secondA = stepCall (counting 0) (firstA .state) (quiet 100) room
+secondA = runCall (counting 0) (firstA .state) (quiet 100) room
 
 abbrev thirdA : RunOutcome
-thirdA = stepCall (counting 0) (secondA .state) (quiet 100) room
+thirdA = runCall (counting 0) (secondA .state) (quiet 100) room
 
 abbrev firstD : RunOutcome
-firstD = stepCall switching startD (event 0 5) room
+firstD = runCall switching startD (event 0 5) room
 
 abbrev secondD : RunOutcome
-secondD = stepCall switching (firstD .state) (quiet 1) room
+secondD = runCall switching (firstD .state) (quiet 1) room
 
 -- an output room's value at a step
 abbrev shown : ℕ → Bytes → Value
@@ -129,7 +125,7 @@ not-accepting-all n k b t c =
 
 -- a step or a run that refuses all
 pub not-refusing-steps : (reason : Bytes → Refusal) (call : Bytes → Bytes → Bytes → Bytes → RunOutcome)
-    → ((p st rec out : Bytes) → call p st rec out .answer ≡ Ran.Refused (reason p) 0) → Steps call → ⊥
+    → ((p st rec out : Bytes) → call p st rec out .answer ≡ Ran.Refused (reason p) 0) → Runs call → ⊥
 not-refusing-steps reason call wrong c =
     let e : Ran.Refused (reason (counting 0)) 0 ≡ Finished 1 13
     = sym (wrong (counting 0) startA (quiet 0) room) ∙ ap (λ (o : RunOutcome). o .answer) (c .as-ruled (counting 0) startA (quiet 0) room) ∙ A-work in
@@ -137,9 +133,9 @@ not-refusing-steps reason call wrong c =
 
 -- a step with one fixed value
 pub not-one-value : (v : Value) (call : Bytes → Bytes → Bytes → Bytes → RunOutcome)
-    → ((p st rec out : Bytes) → call p st rec out .output ≡ writeAt out 0 (valueBytes v)) → Steps call → ⊥
+    → ((p st rec out : Bytes) → call p st rec out .output ≡ writeAt out 0 (valueBytes v)) → Runs call → ⊥
 not-one-value v call wrong c =
-    let same : (st rec : Bytes) → stepCall (counting 0) st rec room .output ≡ writeAt room 0 (valueBytes v)
+    let same : (st rec : Bytes) → runCall (counting 0) st rec room .output ≡ writeAt room 0 (valueBytes v)
     = λ st rec. sym (ap (λ (o : RunOutcome). o .output) (c .as-ruled (counting 0) st rec room)) ∙ wrong (counting 0) st rec room in
     let e : int 0 ≡ int 1
     = sym A-first ∙ ap (shown 0) (same startA (quiet 0) ∙ sym (same (firstA .state) (quiet 100))) ∙ A-second in
@@ -147,12 +143,12 @@ not-one-value v call wrong c =
 
 -- a step that writes no state
 pub not-without-state : (call : Bytes → Bytes → Bytes → Bytes → RunOutcome)
-    → ((p st rec out : Bytes) → call p st rec out .state ≡ st) → Steps call → ⊥
+    → ((p st rec out : Bytes) → call p st rec out .state ≡ st) → Runs call → ⊥
 not-without-state call wrong c =
     let same : secondA .state ≡ firstA .state
     = sym (ap (λ (o : RunOutcome). o .state) (c .as-ruled (counting 0) (firstA .state) (quiet 100) room)) ∙ wrong (counting 0) (firstA .state) (quiet 100) room in
     let e : int 1 ≡ int 2
-    = sym A-second ∙ ap (λ (st : Bytes). shown 0 (stepCall (counting 0) st (quiet 100) room .output)) (sym same) ∙ A-third in
+    = sym A-second ∙ ap (λ (st : Bytes). shown 0 (runCall (counting 0) st (quiet 100) room .output)) (sym same) ∙ A-third in
     let z : _≡_ {A = ℕ} 1 2 = cc in omega arith
 
 -- a run that works its first record and repeats it: its first two outputs are equal
@@ -167,14 +163,14 @@ not-repeating call wrong c =
 
 -- an invented work figure: any but the rules' own count in row A; and any that goes by the program alone, as the bound does
 pub not-invented : (w : ℕ) → (w ≡ 13 → ⊥) → (call : Bytes → Bytes → Bytes → Bytes → RunOutcome)
-    → call (counting 0) startA (quiet 0) room .answer ≡ Finished 1 w → Steps call → ⊥
+    → call (counting 0) startA (quiet 0) room .answer ≡ Finished 1 w → Runs call → ⊥
 not-invented w other call wrong c =
     let e : Finished 1 w ≡ Finished 1 13
     = sym wrong ∙ ap (λ (o : RunOutcome). o .answer) (c .as-ruled (counting 0) startA (quiet 0) room) ∙ A-work in
     other cc
 
 pub not-by-program : (figure : Bytes → ℕ) (call : Bytes → Bytes → Bytes → Bytes → RunOutcome)
-    → ((p st rec out : Bytes) (s w : ℕ) → call p st rec out .answer ≡ Finished s w → w ≡ figure p) → Steps call → ⊥
+    → ((p st rec out : Bytes) (s w : ℕ) → call p st rec out .answer ≡ Finished s w → w ≡ figure p) → Runs call → ⊥
 not-by-program figure call wrong c =
     let six : 6 ≡ figure switching
     = wrong switching startD (event 0 5) room 1 6 (ap (λ (o : RunOutcome). o .answer) (c .as-ruled switching startD (event 0 5) room) ∙ D-first) in

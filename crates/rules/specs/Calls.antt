@@ -1,4 +1,4 @@
--- The four calls: from the bytes that they are lent to the answer and the bytes after.
+-- The three calls: from the bytes that they are lent to the answer and the bytes after.
 -- Assumes nothing: these are definitions.
 use Prim.Native.Nat.{ℕ, zero, suc, _+_, _*_, _/_, _%_}
 use mathlib.Core.Bool.{Bool, not}
@@ -76,13 +76,13 @@ unfoldable pub startCall : Bytes → Bytes → StartOutcome
 startCall p st =
     startOutcome p st (programVerdict p otherwise refuseIf (not (eqb (length st) (stateLength p))) StateFault)
 
--- What step and run answer and leave.
+-- What a run answers and leaves.
 pub record RunOutcome : Type 0 where
   pub answer : Ran
   pub state : Bytes
   pub output : Bytes
 
--- Codes 1-11 of a call whose records are of the right length or not.
+-- Codes 1-11 of a run whose records are of the right length or not.
 unfoldable pub lentVerdict : Bytes → Bytes → Bytes → Bytes → Bool → Verdict
 lentVerdict p st recs out recordsFit =
     programVerdict p
@@ -127,23 +127,8 @@ unfoldable pub runOutcome : Bytes → Bytes → Bytes → Bytes → Verdict → 
 runOutcome p st recs out Fine = runFrom p recs (length recs / inputLength) 0 0 st out
 runOutcome p st recs out (Refuse r) = record { answer = Ran.Refused r 0; state = st; output = out }
 
--- A run has 0 to 4,096 records, output 8 bytes each.
+-- A run has 0 to 4,096 records, output 8 bytes each. (A step is a run of one record.)
 unfoldable pub runCall : Bytes → Bytes → Bytes → Bytes → RunOutcome
 runCall p st recs out =
     runOutcome p st recs out
     (lentVerdict p st recs out (eqb (length recs % inputLength) 0 and leb (length recs / inputLength) 4096))
-
--- Step takes one record and tries 1-11, then 12, then 13.
-unfoldable pub stepVerdict : Bytes → Bytes → Verdict
-stepVerdict st rec = recordVerdict 0 st rec
-
-unfoldable pub stepOutcome : Bytes → Bytes → Verdict → Stepped → RunOutcome
-stepOutcome st out (Refuse r) s = record { answer = Ran.Refused r 0; state = st; output = out }
-stepOutcome st out Fine (Made v st₁ w) = record { answer = Finished 1 (w .work); state = st₁; output = writeAt out 0 (valueBytes v) }
-stepOutcome st out Fine NotMade = record { answer = Ran.Refused StateFault 0; state = st; output = out }
-
-unfoldable pub stepCall : Bytes → Bytes → Bytes → Bytes → RunOutcome
-stepCall p st rec out =
-    stepOutcome st out
-    (lentVerdict p st rec out (eqb (length rec) inputLength) otherwise stepVerdict st rec)
-    (stepOf p rec st)

@@ -1,8 +1,8 @@
--- What each of the four calls promises: for every input, refusals too, the answer of the rules and the rules' content of all lent memory.
+-- What each of the three calls promises: for every input, refusals too, the answer of the rules and the rules' content of all lent memory.
 -- Assumes nothing: these are definitions.
 use mathlib.Core.Path.{_≡_}
 use Rattle.rules.specs.Bytes.{Bytes}
-use Rattle.rules.specs.Calls.{StartOutcome, RunOutcome, checkCall, startCall, stepCall, runCall}
+use Rattle.rules.specs.Calls.{StartOutcome, RunOutcome, checkCall, startCall, runCall}
 use Rattle.rules.specs.declared.Checked.{Checked}
 
 -- Check is lent a program to read.
@@ -13,9 +13,6 @@ pub record Checks (call : Bytes → Checked) : Type 0 where
 pub record Starts (call : Bytes → Bytes → StartOutcome) : Type 0 where
   pub as-ruled : (p st : Bytes) → call p st ≡ startCall p st
 
--- Step and run are lent a program and records to read, a state and an output room to write.
-pub record Steps (call : Bytes → Bytes → Bytes → Bytes → RunOutcome) : Type 0 where
-  pub as-ruled : (p st rec out : Bytes) → call p st rec out ≡ stepCall p st rec out
-
+-- Run is lent a program and records to read, a state and an output room to write.
 pub record Runs (call : Bytes → Bytes → Bytes → Bytes → RunOutcome) : Type 0 where
   pub as-ruled : (p st recs out : Bytes) → call p st recs out ≡ runCall p st recs out

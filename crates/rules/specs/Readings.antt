@@ -6,7 +6,7 @@ use lib.ListN.{length, replicate}
 use Rattle.rules.specs.Bytes.{Bytes, bytesOf, u64At}
 use Rattle.rules.specs.Values.{intT, maybeOf, unpacked, packed, valueBytes}
 use Rattle.rules.specs.Layout.{noNext, noTime, stateLength}
-use Rattle.rules.specs.Calls.{checkCall, startCall, stepCall, runCall}
+use Rattle.rules.specs.Calls.{checkCall, startCall, runCall}
 use Rattle.rules.specs.Samples.{minus, joined, program, quiet, event, twoEvents, input, ext, delay, letSignal, switch, letContinue, until, branch, case, variable, constant, add, divide}
 use Rattle.rules.specs.declared.Value.{Value}
 use Rattle.rules.specs.declared.Value.the-variants.{Plain, Absent, Present}
@@ -17,7 +17,7 @@ use Rattle.rules.specs.declared.Checked.the-variants.{Accepted}
 use Rattle.rules.specs.declared.Ran.{Ran}
 use Rattle.rules.specs.declared.Ran.the-variants.{Finished}
 
--- What is seen of a program and records: the answer of check; from the start state, each step's answer and value; the outcome of the run.
+-- What is seen of a program and records: the answer of check; from the start state, the answer and value of a run of each record by itself; the outcome of the run of all.
 pub record Step : Type 0 where
   pub answer : Ran
   pub value : Value
@@ -39,7 +39,7 @@ refused r = record { answer = Ran.Refused r 0; value = Absent 0 }
 abbrev pub stepsFrom : Bytes → Bytes → List Bytes → List Step
 stepsFrom p st [] = []
 stepsFrom p st (rec ∷ recs) =
-    let o = stepCall p st rec (replicate 8 0) in
+    let o = runCall p st rec (replicate 8 0) in
     record { answer = o .answer; value = unpacked (u64At (o .output) 0) } ∷ stepsFrom p (o .state) recs
 
 abbrev pub seen : Bytes → List Bytes → Seen

@@ -16,8 +16,6 @@ use Rattle.rules.specs.declared.Ran.{Ran}
 use Rattle.rules.specs.declared.Ran.the-variants.{Finished}
 use Rattle.rules.specs.Layout.{timeIn}
 use Rattle.rules.specs.WellFormed.{lastMoment}
-use Rattle.rules.specs.Update.{Stepped}
-use Rattle.rules.specs.Calls.{stepOutcome}
 use Rattle.rules.specs.declared.Verdict.{Verdict}
 use Rattle.rules.proofs.Verdicts.{both-fine, if-fine}
 use Rattle.promises.proofs.Runs.{in-time}
@@ -76,18 +74,6 @@ run-ends p recs n done work st out h =
 record-in-time : (done : ℕ) (st rec : Bytes) → recordVerdict done st rec ≡ Fine → timeIn rec ≤ lastMoment
 unfolding recordVerdict
 record-in-time done st rec e = in-time rec (if-fine _ _ (both-fine _ _ e .0))
-
--- what a step leaves, refused or made
-pub step-refused : (st out : Bytes) (s : Stepped) (v : Verdict) {found : Verdict} {r : Refusal} → found ≡ v → found ≡ Refuse r
-    → Leaves (stepOutcome st out v s) (Ran.Refused r 0) st out
-unfolding stepOutcome
-step-refused st out s v q e = rw (sym q ∙ e) (record { answer-is = refl; state-is = refl; output-is = refl })
-
-pub step-finished : (p rec st st₁ out out₁ : Bytes) (v : Verdict) {w : ℕ} → v ≡ Fine → Taken p rec st st₁ out out₁ 0 w
-    → Leaves (stepOutcome st out v (stepOf p rec st)) (Finished 1 w) st₁ out₁
-unfolding stepOutcome
-step-finished p rec st st₁ out out₁ v e t =
-    rw (e, t .made) (record { answer-is = ap (Finished 1) (t .worked); state-is = refl; output-is = t .shown })
 
 -- the record at a number, as the part of the records that is lent
 slice-is : (recs : Bytes) (done : ℕ) → take (40 * done + 40 - 40 * done) (drop (40 * done) recs) ≡ inputAt recs done

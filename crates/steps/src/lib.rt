@@ -5,8 +5,7 @@ ghost use lib.ListN.{length};
 ghost use Rattle.rules.specs.Layout.{inputLength, headerLength, mostNodes};
 ghost use Rattle.rules.specs.Tree.{root};
 ghost use Rattle.rules.specs.Evaluate.{unbound, evalS};
-ghost use Rattle.rules.specs.Update.{stepOf};
-ghost use Rattle.rules.specs.Calls.{recordVerdict, stepVerdict, stepOutcome, runFrom};
+ghost use Rattle.rules.specs.Calls.{recordVerdict, runFrom};
 ghost use Rattle.steps.specs.Going.{Going, Held, Displayed, Advanced, Taken, Leaves, mostWork};
 ghost use Rattle.promises.specs.Run.{workIn};
 use answers::otherwise;
@@ -130,27 +129,4 @@ pub fn run_records(
         done += 1;
     }
     Ran::Finished(done as u32, work)
-}
-
-// The one record of a step.
-pub fn step_record(
-    p: &[u8],
-    index: &[u16; 2016],
-    rec: &[u8],
-    st: &mut [u8],
-    env: &mut [u64; 1008],
-    out: &mut [u8],
-    count: usize,
-) -> Ran
-    requires { ⌜ Going (now p) (now index) (now st) (now env) count × (inputLength ≤ length (now rec)) × (8 ≤ length (now out)) ⌝ }
-    ensures { λ r. ⌜ Leaves (stepOutcome (now (st .entry)) (now (out .entry)) (stepVerdict (now (st .entry)) (now (rec .entry))) (stepOf (now (p .entry)) (now (rec .entry)) (now (st .entry)))) r (now (st .exit)) (now (out .exit)) ⌝ }
-{
-    let found = record_verdict(st, rec, 0);
-    match found {
-        Verdict::Refuse(r) => Ran::Refused(r, 0),
-        Verdict::Fine => {
-            let work = make_step(p, index, rec, st, env, out, 0, count);
-            Ran::Finished(1, work)
-        }
-    }
 }

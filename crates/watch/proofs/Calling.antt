@@ -9,7 +9,7 @@ use lib.Dec.{eqb}
 use lib.ListN.{length}
 use borrow.Author.Tests.{eq-eqb, ne-eqb, eqb-true, leb-true}
 use Rattle.rules.specs.Bytes.{Bytes, first}
-use Rattle.rules.specs.Layout.{nodes, cells, cellsBefore, cellAt, stateLength, inputLength}
+use Rattle.rules.specs.Layout.{nodes, cells, cellsBefore, cellAt, stateLength}
 use Rattle.rules.specs.Kinds.{isSignal}
 use Rattle.rules.specs.Shaped.{Shaped, NodeOf}
 use Rattle.rules.specs.Size.{sizeS}
@@ -17,10 +17,9 @@ use Rattle.rules.specs.Tree.{root}
 use Rattle.rules.specs.Typing.{typeS}
 use Rattle.rules.specs.Bound.{bound}
 use Rattle.rules.specs.Accepted.{Accepted}
-use Rattle.rules.specs.Calls.{_otherwise_, refuseIf, programVerdict, checkAnswer, checkCall, StartOutcome, startOutcome, startCall, lentVerdict, runFrom, runOutcome, runCall, stepVerdict, stepOutcome, stepCall}
+use Rattle.rules.specs.Calls.{_otherwise_, refuseIf, programVerdict, checkAnswer, checkCall, StartOutcome, startOutcome, startCall, lentVerdict, runFrom, runOutcome, runCall}
 use Rattle.rules.specs.Reset.{startState}
 use Rattle.rules.specs.WellFormed.{wellFormed}
-use Rattle.rules.specs.Update.{Stepped, stepOf}
 use Rattle.rules.specs.declared.Refusal.{Refusal}
 use Rattle.rules.specs.declared.Refusal.the-variants.{StateFault}
 use Rattle.rules.specs.declared.Verdict.{Verdict}
@@ -127,7 +126,7 @@ begun-made p st st₁ s a x l e = record {
   well = λ _. rw e (start-well-formed p (seated p s a));
 }
 
--- run and step, by the verdict
+-- run, by the verdict
 pub run-refused : (p st recs out : Bytes) (r : Refusal) → programVerdict p ≡ Refuse r
     → runCall p st recs out ≡ record { answer = Ran.Refused r 0; state = st; output = out }
 unfolding runCall runOutcome lentVerdict _otherwise_
@@ -137,16 +136,6 @@ pub run-accepted : (p st recs out : Bytes) → programVerdict p ≡ Fine
     → runCall p st recs out ≡ runOutcome p st recs out (lentRest p st recs out (runFits recs))
 unfolding runCall lentVerdict lentRest runFits
 run-accepted p st recs out e = rw (e, fine-first)
-
-pub step-refused : (p st rec out : Bytes) (r : Refusal) → programVerdict p ≡ Refuse r
-    → stepCall p st rec out ≡ record { answer = Ran.Refused r 0; state = st; output = out }
-unfolding stepCall stepOutcome lentVerdict _otherwise_
-step-refused p st rec out r e = rw e
-
-pub step-accepted : (p st rec out : Bytes) → programVerdict p ≡ Fine
-    → stepCall p st rec out ≡ stepOutcome st out (lentRest p st rec out (eqb (length rec) inputLength) otherwise stepVerdict st rec) (stepOf p rec st)
-unfolding stepCall lentVerdict lentRest
-step-accepted p st rec out e = rw (e, fine-first)
 
 -- codes 9-11 found nothing
 pub record Fits (p st recs out : Bytes) (fit : Bool) : Type 0 where
@@ -173,7 +162,7 @@ fits-most recs e =
     let d : length recs / 40 ≤ 4096 = leb-true _ _ (a .1) in
     omega arith
 
--- what run and step leave where one of them found something
+-- what a run leaves where one of them found something
 pub run-lent : (p st recs out : Bytes) (v : Verdict) {r : Refusal} → v ≡ Refuse r → Leaves (runOutcome p st recs out v) (Ran.Refused r 0) st out
 unfolding runOutcome
 run-lent p st recs out v e = rw e (record { answer-is = refl; state-is = refl; output-is = refl })
@@ -181,18 +170,3 @@ run-lent p st recs out v e = rw e (record { answer-is = refl; state-is = refl; o
 pub run-fits : (p st recs out : Bytes) (v : Verdict) → v ≡ Fine → runOutcome p st recs out v ≡ runFrom p recs (length recs / 40) 0 0 st out
 unfolding runOutcome
 run-fits p st recs out v e = rw e
-
-pub step-lent : (st out : Bytes) (v w : Verdict) (s : Stepped) {r : Refusal} → v ≡ Refuse r → Leaves (stepOutcome st out (v otherwise w) s) (Ran.Refused r 0) st out
-unfolding stepOutcome _otherwise_
-step-lent st out v w s e = rw e (record { answer-is = refl; state-is = refl; output-is = refl })
-
-pub step-fits : (v w : Verdict) → v ≡ Fine → (v otherwise w) ≡ w
-unfolding _otherwise_
-step-fits v w e = rw e
-
--- the record and the output room of a step
-pub one-record : (p st rec out : Bytes) → Fits p st rec out (eqb (length rec) 40) → (40 ≤ length rec) × (8 ≤ length out)
-one-record p st rec out f =
-    let l : length rec ≡ 40 = eqb-true _ _ (f .fitting) in
-    let o : length out ≡ 8 * (length rec / 40) = f .room in
-    (omega arith, omega arith)

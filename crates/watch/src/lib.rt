@@ -1,17 +1,14 @@
-// The four public calls. Each answers for every byte string that it is handed: none has a requires. (`begin` is for a program that was accepted.)
+// The three public calls. Each answers for every byte string that it is handed: none has a requires. (`begin` is for a program that was accepted.)
 ghost use mathlib.Core.Path.{_≡_};
 ghost use Prim.Native.Nat.{_-_};
-ghost use lib.Dec.{eqb};
-ghost use lib.ListN.{length};
-ghost use Rattle.rules.specs.Layout.{nodes, cells as cellsOf, inputLength};
+ghost use Rattle.rules.specs.Layout.{nodes, cells as cellsOf};
 ghost use Rattle.rules.specs.Bound.{bound as boundOf};
 ghost use Rattle.rules.specs.Kinds.{isSignal};
 ghost use Rattle.rules.specs.Shaped.{NodeOf};
 ghost use Rattle.rules.specs.Tree.{root};
 ghost use Rattle.rules.specs.Typing.{typeS};
 ghost use Rattle.rules.specs.Accepted.{Accepted};
-ghost use Rattle.rules.specs.Update.{stepOf};
-ghost use Rattle.rules.specs.Calls.{checkCall, startCall, stepCall, runCall, stepOutcome, runOutcome, stepVerdict, _otherwise_};
+ghost use Rattle.rules.specs.Calls.{checkCall, startCall, runCall, runOutcome};
 ghost use Rattle.cells.specs.Indexed.{Indexed};
 ghost use Rattle.steps.specs.Going.{Leaves};
 ghost use Rattle.watch.specs.Begun.{Begun, startRest};
@@ -29,7 +26,6 @@ use rules::Started;
 use rules::Verdict;
 use state::fill_start;
 use steps::run_records;
-use steps::step_record;
 use verdict::judge;
 use well::well_formed;
 
@@ -163,35 +159,5 @@ pub fn run(program: &[u8], state: &mut [u8], records: &[u8], output: &mut [u8]) 
     match fault {
         Verdict::Refuse(r) => Ran::Refused(r, 0),
         Verdict::Fine => run_accepted(program, state, records, output, found.count),
-    }
-}
-
-// A step of an accepted program.
-fn step_accepted(p: &[u8], st: &mut [u8], rec: &[u8], out: &mut [u8], count: usize) -> Ran
-    requires { ⌜ Accepted (now p) × (count ≡ nodes (now p)) ⌝ }
-    ensures { λ r. ⌜ Leaves (stepOutcome (now (st .entry)) (now (out .entry)) (lentRest (now (p .entry)) (now (st .entry)) (now (rec .entry)) (now (out .entry)) (eqb (length (now (rec .entry))) inputLength) otherwise stepVerdict (now (st .entry)) (now (rec .entry))) (stepOf (now (p .entry)) (now (rec .entry)) (now (st .entry)))) r (now (st .exit)) (now (out .exit)) ⌝ }
-{
-    let mut index: [u16; 2016] = [0; 2016];
-    let held = index_cells(p, &mut index, count);
-    let fit = rec.len() == 40;
-    let fault = lent_verdict(p, &index, st, rec, out, count, held, fit);
-    match fault {
-        Verdict::Refuse(r) => Ran::Refused(r, 0),
-        Verdict::Fine => {
-            let mut env: [u64; 1008] = [0; 1008];
-            step_record(p, &index, rec, st, &mut env, out, count)
-        }
-    }
-}
-
-// Make one step.
-pub fn step(program: &[u8], state: &mut [u8], input: &[u8], output: &mut [u8]) -> Ran
-    ensures { λ r. ⌜ (r ≡ stepCall (now (program .entry)) (now (state .entry)) (now (input .entry)) (now (output .entry)) .answer) × (now (state .exit) ≡ stepCall (now (program .entry)) (now (state .entry)) (now (input .entry)) (now (output .entry)) .state) × (now (output .exit) ≡ stepCall (now (program .entry)) (now (state .entry)) (now (input .entry)) (now (output .entry)) .output) ⌝ }
-{
-    let found = judge(program);
-    let fault = found.verdict;
-    match fault {
-        Verdict::Refuse(r) => Ran::Refused(r, 0),
-        Verdict::Fine => step_accepted(program, state, input, output, found.count),
     }
 }

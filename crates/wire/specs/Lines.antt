@@ -10,7 +10,7 @@ use Rattle.rules.specs.declared.Ran.{Ran}
 use Rattle.rules.specs.declared.Ran.the-variants.{Finished}
 use Rattle.rules.specs.Answers.{codeOf, placeOf}
 use Rattle.wire.specs.declared.Request.{Request}
-use Rattle.wire.specs.declared.Request.the-variants.{Check, Start, Step, Run, Broken}
+use Rattle.wire.specs.declared.Request.the-variants.{Check, Start, Run, Broken}
 use Rattle.wire.specs.Text.{field}
 
 -- "OK "
@@ -43,7 +43,7 @@ startedLine (Started.Refused r) = refusedLine r 0
 unfoldable pub finishedLine : ℕ → ℕ → List ℕ
 finishedLine steps work = ok ++ field steps 32 ++ field work 10
 
--- the answer of step and run: OK steps work, or the refusal with the work of the steps done
+-- the answer of run: OK steps work, or the refusal with the work of the steps done
 unfoldable pub ranLine : Ran → List ℕ
 ranLine (Finished steps work) = finishedLine steps work
 ranLine (Ran.Refused r work) = refusedLine r work
@@ -55,10 +55,6 @@ check = 99 ∷ 104 ∷ 101 ∷ 99 ∷ 107 ∷ 32 ∷ []
 -- "start "
 abbrev pub start : List ℕ
 start = 115 ∷ 116 ∷ 97 ∷ 114 ∷ 116 ∷ 32 ∷ []
-
--- "step "
-abbrev pub step : List ℕ
-step = 115 ∷ 116 ∷ 101 ∷ 112 ∷ 32 ∷ []
 
 -- "run "
 abbrev pub run : List ℕ
@@ -72,10 +68,6 @@ checkLine p = check ++ field p 10
 unfoldable pub startLine : ℕ → ℕ → List ℕ
 startLine p s = start ++ field p 32 ++ field s 10
 
--- step PLEN SLEN RLEN OLEN
-unfoldable pub stepLine : ℕ → ℕ → ℕ → ℕ → List ℕ
-stepLine p s r o = step ++ field p 32 ++ field s 32 ++ field r 32 ++ field o 10
-
 -- run PLEN SLEN RLEN OLEN
 unfoldable pub runLine : ℕ → ℕ → ℕ → ℕ → List ℕ
 runLine p s r o = run ++ field p 32 ++ field s 32 ++ field r 32 ++ field o 10
@@ -84,6 +76,5 @@ runLine p s r o = run ++ field p 32 ++ field s 32 ++ field r 32 ++ field o 10
 unfoldable pub headerLine : Request → List ℕ
 headerLine (Check p) = checkLine p
 headerLine (Start p s) = startLine p s
-headerLine (Step p s r o) = stepLine p s r o
 headerLine (Run p s r o) = runLine p s r o
 headerLine Broken = []

@@ -76,7 +76,7 @@ fn finished_line(steps: u32, work: u32, line: &mut [u8; 64]) -> usize
     put_field(work, b'\n', line, b)
 }
 
-// Puts the answer of a step or a run at the start of line, and answers its length.
+// Puts the answer of a run at the start of line, and answers its length.
 pub fn ran_line(answer: Ran, line: &mut [u8; 64]) -> usize
     ensures { λ r. ⌜ Counts r (now (line .exit)) ⌝ }
     ensures { λ r. ⌜ take r (now (line .exit)) ≡ ranLine answer ⌝ }

@@ -63,15 +63,6 @@ fn guess_start(line: &[u8]) -> Request {
     Request::Start(p.value, s.value)
 }
 
-// A step with the four numbers that stand behind `step `.
-fn guess_step(line: &[u8]) -> Request {
-    let p = number(line, 5);
-    let s = number(line, p.next);
-    let r = number(line, s.next);
-    let o = number(line, r.next);
-    Request::Step(p.value, s.value, r.value, o.value)
-}
-
 // A run with the four numbers that stand behind `run `.
 fn guess_run(line: &[u8]) -> Request {
     let p = number(line, 4);
@@ -81,7 +72,7 @@ fn guess_run(line: &[u8]) -> Request {
     Request::Run(p.value, s.value, r.value, o.value)
 }
 
-// The call goes by the first byte, and start and step by the third.
+// The call goes by the first byte.
 pub(crate) fn guess(line: &[u8]) -> Request {
     let first = byte_at(line, 0);
     if first == b'c' {
@@ -91,8 +82,5 @@ pub(crate) fn guess(line: &[u8]) -> Request {
     if first == b'r' {
         return guess_run(line);
     }
-    if byte_at(line, 2) == b'a' {
-        return guess_start(line);
-    }
-    guess_step(line)
+    guess_start(line)
 }

@@ -3,13 +3,13 @@ ghost use mathlib.Core.Path.{_≡_};
 ghost use lib.ListN.{take};
 ghost use Rattle.io.specs.Counts.{Counts};
 ghost use Rattle.wire.specs.declared.Request.the-variants.{Broken};
-ghost use Rattle.wire.specs.Lines.{headerLine, checkLine, startLine, stepLine, runLine};
+ghost use Rattle.wire.specs.Lines.{headerLine, checkLine, startLine, runLine};
 use crate::Request;
 use crate::guess::guess;
 use crate::text::put;
 use crate::text::put_field;
 
-// The header line of a check, at the start of line; answers its length, as the next three do.
+// The header line of a check, at the start of line; answers its length, as the next two do.
 fn check_header(p: u32, line: &mut [u8; 64]) -> usize
     ensures { λ n. ⌜ Counts n (now (line .exit)) ⌝ }
     ensures { λ n. ⌜ take n (now (line .exit)) ≡ checkLine p ⌝ }
@@ -26,18 +26,6 @@ fn start_header(p: u32, s: u32, line: &mut [u8; 64]) -> usize
     let a = put(b"start ", line, 0);
     let b = put_field(p, b' ', line, a);
     put_field(s, b'\n', line, b)
-}
-
-// The header line of a step.
-fn step_header(p: u32, s: u32, r: u32, o: u32, line: &mut [u8; 64]) -> usize
-    ensures { λ n. ⌜ Counts n (now (line .exit)) ⌝ }
-    ensures { λ n. ⌜ take n (now (line .exit)) ≡ stepLine p s r o ⌝ }
-{
-    let a = put(b"step ", line, 0);
-    let b = put_field(p, b' ', line, a);
-    let c = put_field(s, b' ', line, b);
-    let d = put_field(r, b' ', line, c);
-    put_field(o, b'\n', line, d)
 }
 
 // The header line of a run.
@@ -60,7 +48,6 @@ pub fn header(request: Request, line: &mut [u8; 64]) -> usize
     match request {
         Request::Check(p) => check_header(p, line),
         Request::Start(p, s) => start_header(p, s, line),
-        Request::Step(p, s, r, o) => step_header(p, s, r, o, line),
         Request::Run(p, s, r, o) => run_header(p, s, r, o, line),
         Request::Broken => 0,
     }

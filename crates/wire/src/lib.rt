@@ -18,7 +18,6 @@ pub use text::put_number;
 pub enum Request {
     Check(u32),
     Start(u32, u32),
-    Step(u32, u32, u32, u32),
     Run(u32, u32, u32, u32),
     Broken,
 }

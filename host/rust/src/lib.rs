@@ -1,4 +1,4 @@
-//! The four calls of Couplerfinch for Rust: [`check`], [`start`], [`step`] and [`run`].
+//! The three calls of Couplerfinch for Rust: [`check`], [`start`] and [`run`].
 //!
 //! They stand over the static library `libcouplerfinch.a`, whose answers are proved: every call ends
 //! and answers, whatever bytes and lengths it is handed. What a caller in C owes (a pointer to as
@@ -18,9 +18,9 @@
 //! couplerfinch::start(program, state)?;
 //! while let Some(record) = next_record() {
 //!     let mut value = [0; couplerfinch::VALUE];
-//!     match couplerfinch::step(program, state, &record, &mut value) {
+//!     match couplerfinch::run(program, state, &record, &mut value) {
 //!         Ok(_) => show(value),
-//!         // A refused step changes neither state nor value.
+//!         // A refused run of one record changes neither state nor value.
 //!         Err(refusal) => eprintln!("{refusal}"),
 //!     }
 //! }
@@ -59,7 +59,7 @@ impl Checked {
     }
 }
 
-/// What step and run say of steps that went through.
+/// What run says of steps that went through.
 #[derive(Clone, Copy, Debug, PartialEq, Eq)]
 pub struct Ran {
     /// How many steps were done.
@@ -107,44 +107,9 @@ pub fn start(program: &[u8], state: &mut [u8]) -> Result<(), Refusal> {
     Ok(())
 }
 
-/// Makes one step: the value goes to the 8 bytes of output, and the state goes on. A refused step
-/// changes neither.
-pub fn step(
-    program: &[u8],
-    state: &mut [u8],
-    input: &[u8],
-    output: &mut [u8],
-) -> Result<Ran, Refusal> {
-    steps(raw::couplerfinch_step, program, state, input, output)
-}
-
 /// Makes a step for each of 0 to 4,096 records, with 8 bytes of output each; the program is checked
 /// once. A refused run keeps the steps done before the refused record.
 pub fn run(
-    program: &[u8],
-    state: &mut [u8],
-    records: &[u8],
-    output: &mut [u8],
-) -> Result<Ran, Refusal> {
-    steps(raw::couplerfinch_run, program, state, records, output)
-}
-
-/// The form that step and run have in common.
-type Steps = unsafe extern "C" fn(
-    *const u8,
-    usize,
-    *mut u8,
-    usize,
-    *const u8,
-    usize,
-    *mut u8,
-    usize,
-    *mut raw::Answer,
-) -> u32;
-
-/// Makes a step or a run.
-fn steps(
-    call: Steps,
     program: &[u8],
     state: &mut [u8],
     records: &[u8],
@@ -157,7 +122,7 @@ fn steps(
         let (output, length) = (output.as_mut_ptr(), output.len());
         // Safety: as for `check`; state and output are lent alone, so they overlap nothing.
         unsafe {
-            call(
+            raw::couplerfinch_run(
                 program,
                 program_length,
                 state,

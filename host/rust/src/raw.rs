@@ -56,17 +56,6 @@ extern "C" {
         state_length: usize,
         answer: *mut Answer,
     ) -> u32;
-    pub fn couplerfinch_step(
-        program: *const u8,
-        program_length: usize,
-        state: *mut u8,
-        state_length: usize,
-        input: *const u8,
-        input_length: usize,
-        output: *mut u8,
-        output_length: usize,
-        answer: *mut Answer,
-    ) -> u32;
     pub fn couplerfinch_run(
         program: *const u8,
         program_length: usize,

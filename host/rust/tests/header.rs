@@ -148,7 +148,7 @@ const SILENT: [&str; 4] = [
 #[test]
 fn declarations_are_the_headers() {
     let (one, other) = (header(HEADER), rust(RAW));
-    assert_eq!((one.numbers.len(), one.fields.len(), one.functions.len()), (22, 8, 4));
+    assert_eq!((one.numbers.len(), one.fields.len(), one.functions.len()), (22, 8, 3));
     assert_eq!(one, other);
     assert!(RAW.contains("#[repr(C)]\n#[derive"), "C's layout");
 }
@@ -199,7 +199,7 @@ const EDITS: [(bool, &str, &str); 14] = [
         "uint8_t *state, size_t state_length,\n",
         "const uint8_t *state, size_t state_length,\n",
     ),
-    (true, "size_t input_length, ", ""),
+    (true, "size_t records_length, ", ""),
     (false, "BLOCKS: usize = 24", "BLOCKS: usize = 42"),
     (false, "    pub cells: u32,\n    pub bound: u32,", "    pub bound: u32,\n    pub cells: u32,"),
     (
@@ -207,7 +207,7 @@ const EDITS: [(bool, &str, &str); 14] = [
         "state: *mut u8,\n        state_length: usize,",
         "state_length: usize,\n        state: *mut u8,",
     ),
-    (false, "input: *const u8,", "input: *mut u8,"),
+    (false, "records: *const u8,", "records: *mut u8,"),
     (false, "program: *const u8,", "table: *const u8,"),
     (false, "    4 + 8 * cells", "    4 + 8 * cells + 4"),
     (false, "pub const NOT_READY: u32 = 8;\n", ""),

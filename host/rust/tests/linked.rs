@@ -1,8 +1,8 @@
-//! The four calls through the static library, on readings A, C and D of document 01 and on refusals.
+//! The three calls through the static library, on readings A, C and D of document 01 and on refusals.
 //! Where there is no archive for the target this file is empty.
 #![cfg(linked)]
 
-use couplerfinch::{check, run, start, step, Checked, Code, Ran, Refusal, Type, BLOCK, RECORD};
+use couplerfinch::{check, run, start, Checked, Code, Ran, Refusal, Type, BLOCK, RECORD};
 
 /// A record of a table: kind, type, a, b, c and word.
 type Node = (u8, u8, u16, u16, u16, i32);
@@ -75,7 +75,7 @@ fn refusal(code: Code, place: u32) -> Refusal {
 }
 
 #[test]
-fn reading_a_by_steps() {
+fn reading_a_record_by_record() {
     let program = block(&A);
     let checked = check(&program).unwrap();
     assert_eq!(checked, Checked { nodes: 8, cells: 1, bound: 13, value: Type::Int });
@@ -84,7 +84,7 @@ fn reading_a_by_steps() {
     assert_eq!(state, [255, 255, 255, 255, 3, 1, 0, 0, 0, 0, 0, 0]);
     for (time, value) in [(0, 0), (100, 1), (100, 2)] {
         let mut output = [9; 8];
-        let ran = step(&program, &mut state, &record(time, None), &mut output);
+        let ran = run(&program, &mut state, &record(time, None), &mut output);
         assert_eq!((ran, output), (Ok(Ran { steps: 1, work: 13 }), int(value)));
     }
     assert_eq!(state, [100, 0, 0, 0, 3, 1, 0, 0, 3, 0, 0, 0]);
@@ -126,16 +126,15 @@ fn refused_lengths_change_nothing() {
     for length in [0, 4, 11, 13] {
         let room = &mut state[..length];
         assert_eq!(start(&program, room), Err(refusal(Code::StateFault, 0)));
-        assert_eq!(step(&program, room, &one, &mut output), Err(refusal(Code::StateFault, 0)));
+        assert_eq!(run(&program, room, &one, &mut output), Err(refusal(Code::StateFault, 0)));
     }
     assert_eq!(state, [7; 13]);
     let room = &mut state[..12];
     start(&program, room).unwrap();
     let started = room.to_vec();
     let long = [0; 41];
-    assert_eq!(step(&program, room, &long, &mut output), Err(refusal(Code::RecordsLength, 0)));
     assert_eq!(run(&program, room, &long, &mut output), Err(refusal(Code::RecordsLength, 0)));
-    assert_eq!(step(&program, room, &one, &mut output), Err(refusal(Code::OutputLength, 0)));
+    assert_eq!(run(&program, room, &one, &mut output), Err(refusal(Code::OutputLength, 0)));
     assert_eq!(run(&program, room, &[], &mut output[..1]), Err(refusal(Code::OutputLength, 0)));
     assert_eq!((&*room, output), (&started[..], [9; 9]));
 }

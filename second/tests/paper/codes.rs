@@ -1,7 +1,7 @@
 //! Every code with its place, and what a refusal leaves of the lent memory.
 
 use crate::tables::*;
-use second::{check, run, start, step, Refusal};
+use second::{check, run, start, Refusal};
 
 fn refusal(code: u32, place: u32) -> Refusal {
     Refusal { code, place, work: 0 }
@@ -193,32 +193,32 @@ fn code_9_start_asks_for_the_length_only() {
     assert_eq!(start(&program, &mut [7; 12]), Ok(()));
 }
 
-/// Steps with given memory; memory must stay as it was.
-fn step_refused(program: &[u8], state: &[u8], record: &[u8], room: usize) -> (u32, u32) {
+/// Runs one record with given memory; memory must stay as it was.
+fn one_refused(program: &[u8], state: &[u8], record: &[u8], room: usize) -> (u32, u32) {
     let (mut after, mut output) = (state.to_vec(), vec![0xAA; room]);
-    let refusal = step(program, &mut after, record, &mut output).expect_err("it is refused");
+    let refusal = run(program, &mut after, record, &mut output).expect_err("it is refused");
     assert_eq!((after, output), (state.to_vec(), vec![0xAA; room]));
     assert_eq!(refusal.work, 0);
     (refusal.code, refusal.place)
 }
 
 #[test]
-fn codes_9_to_13_of_a_step() {
+fn codes_9_to_13_of_one_record() {
     let program = table(&counter_from(0));
     let state = started(&program);
     let record = records("5");
-    assert_eq!(step_refused(&program, &[0; 12], &record, 8), (9, 0));
-    assert_eq!(step_refused(&program, &state[..11], &record, 8), (9, 0));
-    assert_eq!(step_refused(&program, &state, &record[..39], 8), (10, 0));
-    assert_eq!(step_refused(&program, &state, &records("5\n5"), 16), (10, 0));
-    assert_eq!(step_refused(&program, &state, &[], 0), (10, 0));
-    assert_eq!(step_refused(&program, &state, &record, 7), (11, 0));
-    assert_eq!(step_refused(&program, &state, &records("5 flags=16"), 8), (12, 0));
+    assert_eq!(one_refused(&program, &[0; 12], &record, 8), (9, 0));
+    assert_eq!(one_refused(&program, &state[..11], &record, 8), (9, 0));
+    assert_eq!(one_refused(&program, &state, &record[..39], 8), (10, 0));
+    assert_eq!(one_refused(&program, &state, &records("5\n5"), 8), (11, 0));
+    assert_eq!(one_refused(&program, &state, &[], 8), (11, 0));
+    assert_eq!(one_refused(&program, &state, &record, 7), (11, 0));
+    assert_eq!(one_refused(&program, &state, &records("5 flags=16"), 8), (12, 0));
     let mut later = state.clone();
     later[..4].copy_from_slice(&[6, 0, 0, 0]);
-    assert_eq!(step_refused(&program, &later, &record, 8), (13, 0));
+    assert_eq!(one_refused(&program, &later, &record, 8), (13, 0));
     // 12 is tried before 13.
-    assert_eq!(step_refused(&program, &later, &records("5 flags=128"), 8), (12, 0));
+    assert_eq!(one_refused(&program, &later, &records("5 flags=128"), 8), (12, 0));
 }
 
 #[test]
@@ -240,7 +240,7 @@ fn code_12_each_way() {
         "2147483648",
         "4294967295",
     ] {
-        assert_eq!(step_refused(&program, &state, &records(line), 8), (12, 0), "{line}");
+        assert_eq!(one_refused(&program, &state, &records(line), 8), (12, 0), "{line}");
     }
 }
 

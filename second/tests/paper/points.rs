@@ -1,7 +1,7 @@
 //! The numbered points of READINGS.md, one test or more for each.
 
 use crate::tables::*;
-use second::{check, run, start, step, Accepted};
+use second::{check, run, start, Accepted};
 
 /// A table of so many delays over an input, to fill blocks.
 fn tower(nodes: usize) -> String {
@@ -422,7 +422,7 @@ fn point_22_lengths_are_exact_and_in_order() {
     let program = table("time");
     let call = |state: usize, records: usize, output: usize| {
         let mut state = vec![255; state];
-        step(&program, &mut state, &vec![0; records], &mut vec![0; output]).map_err(|it| it.code)
+        run(&program, &mut state, &vec![0; records], &mut vec![0; output]).map_err(|it| it.code)
     };
     assert_eq!(call(5, 41, 9), Err(9));
     assert_eq!(call(4, 41, 9), Err(10));
@@ -437,7 +437,7 @@ fn point_22_lengths_are_exact_and_in_order() {
 fn point_23_unused_channels_and_equal_times() {
     let program = table("time");
     let call = |time: [u8; 4], record: &str| {
-        step(&program, &mut time.clone(), &records(record), &mut [0; 8]).map_err(|it| it.code)
+        run(&program, &mut time.clone(), &records(record), &mut [0; 8]).map_err(|it| it.code)
     };
     assert_eq!(call([255; 4], "0 w7=1"), Err(12));
     assert!(call([255; 4], "0").is_ok());
@@ -463,6 +463,5 @@ fn a_program_is_checked_before_all_else() {
     let program = table("time\n.check 0 1");
     assert_eq!(check(&program).unwrap_err().code, 2);
     assert_eq!(start(&program, &mut []).unwrap_err().code, 2);
-    assert_eq!(step(&program, &mut [], &[], &mut []).unwrap_err().code, 2);
     assert_eq!(run(&program, &mut [], &[], &mut []).unwrap_err().code, 2);
 }

@@ -2,7 +2,7 @@
 
 use crate::tables::*;
 use second::value::{BOOL, INT, MAYBE};
-use second::{check, run, step, Accepted, Done};
+use second::{check, run, Accepted, Done};
 
 #[test]
 fn a_counter() {
@@ -123,7 +123,7 @@ fn latest_time_passes() {
     assert_eq!(play("time", "2147483647").values, ["2147483647"]);
     let program = table("time");
     let mut state = started(&program);
-    let refusal = step(&program, &mut state, &records("2147483648"), &mut [0; 8]).unwrap_err();
+    let refusal = run(&program, &mut state, &records("2147483648"), &mut [0; 8]).unwrap_err();
     assert_eq!((refusal.code, refusal.place), (12, 0));
 }
 

@@ -3,7 +3,7 @@
 use second::format;
 use second::print;
 use second::value::Value;
-use second::{assemble, check, run, start, step, Accepted};
+use second::{assemble, check, run, start, Accepted};
 
 /// Case A with a first value of its own.
 pub fn counter_from(first: i32) -> String {
@@ -97,7 +97,7 @@ pub fn play(text: &str, record_text: &str) -> Played {
     let mut outputs = Vec::new();
     for record in records.chunks(40) {
         let mut output = [0xAA; 8];
-        let done = step(&program, &mut state, record, &mut output).expect("the step is done");
+        let done = run(&program, &mut state, record, &mut output).expect("the step is done");
         assert_eq!(done.steps, 1);
         played.values.push(words(&output));
         played.works.push(done.work);

@@ -21,12 +21,6 @@ start-header-requires c κs = search needs
 enum-known-request-3 : tie.Need-enum-known-request-3
 enum-known-request-3 c = search needs
 
-step-header-requires : tie.Need-step-header-requires
-step-header-requires c κs = search needs
-
-enum-known-request-4 : tie.Need-enum-known-request-4
-enum-known-request-4 c = search needs
-
 run-header-requires : tie.Need-run-header-requires
 run-header-requires c κs = search needs
 
@@ -43,15 +37,11 @@ returns-2 c = let e = c .start-header .ensures in (e .0, e .1 ∙ sym (ap header
 
 returns-3 : tie.Need-returns-3
 unfolding headerLine
-returns-3 c = let e = c .step-header .ensures in (e .0, e .1 ∙ sym (ap headerLine (c .before .before .before .request3 .given .1)))
+returns-3 c = let e = c .run-header .ensures in (e .0, e .1 ∙ sym (ap headerLine (c .before .before .before .request3 .given .1)))
 
 returns-4 : tie.Need-returns-4
 unfolding headerLine
-returns-4 c = let e = c .run-header .ensures in (e .0, e .1 ∙ sym (ap headerLine (c .before .before .before .request4 .given .1)))
-
-returns-5 : tie.Need-returns-5
-unfolding headerLine
-returns-5 c = ((zero-le, refl), sym (ap headerLine (c .enum-told .given .1)))
+returns-4 c = ((zero-le, refl), sym (ap headerLine (c .enum-told .given .1)))
 
 pub header-spec : {M : Type 1} → statement M
 header-spec =
@@ -62,12 +52,9 @@ header-spec =
     enum-known-request-2
     start-header-requires
     enum-known-request-3
-    step-header-requires
-    enum-known-request-4
     run-header-requires
     enum-told
     returns
     returns-2
     returns-3
-    returns-4
-    returns-5)
+    returns-4)

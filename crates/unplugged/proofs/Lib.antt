@@ -1,0 +1,3 @@
+pub mod SameSteps
+pub mod FromTable
+pub mod Unplugged

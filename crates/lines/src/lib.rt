@@ -1,6 +1,6 @@
 // The lines that watchrun prints, as bytes.
 mod line;
-mod words;
+mod wording;
 
 pub use line::end_line;
 pub use line::first_line;

@@ -28,7 +28,7 @@ use rules::Refusal;
 use rules::Verdict;
 use scope::scope_fault;
 use shape::first_shape;
-use types::type_root;
+use typing::type_root;
 
 // The verdict, and of a program that has no fault the number of its nodes and its root's type.
 pub struct Judged {

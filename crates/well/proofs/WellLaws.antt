@@ -16,7 +16,7 @@ use Rattle.rules.specs.WellFormed.{contentFits, wellS, wellB, wellC, wellFormed
 use Rattle.rules.specs.Tree.{signalAt, branchesAt, casesAt, root}
 use Rattle.rules.specs.Shaped.{NodeOf}
 use Rattle.rules.proofs.Signals.{delay-tree, let-tree, switch-tree, group-tree, until-tree, branch-end, branch-on, case-end, case-on}
-use Rattle.types.proofs.ExprLaws.{value-type}
+use Rattle.typing.proofs.ExprLaws.{value-type}
 use Rattle.state.specs.Stated.{Stated}
 use Rattle.state.proofs.Carried.{number, quiet}
 

@@ -10,7 +10,7 @@ use Rattle.answers.proofs.scope_at.Reads as scope-at-reads
 use Rattle.answers.proofs.type_at.Reads as type-at-reads
 use Rattle.ready.proofs.ready_fault.Reads as ready-fault-reads
 use Rattle.scope.proofs.scope_fault.Reads as scope-fault-reads
-use Rattle.types.proofs.type_root.Reads as type-root-reads
+use Rattle.typing.proofs.type_root.Reads as type-root-reads
 
 -- src/lib.rt:55:9
 type-root-requires : tie.Need-type-root-requires

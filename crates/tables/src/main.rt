@@ -1,0 +1,24 @@
+// tables WORD ARGUMENTS: the commands over tables. A further command is a module with one public function, a test in `chosen` and a line of help.
+mod checking;
+mod files;
+mod say;
+
+// Does what a word names. (Twelve such tests are proved with no proof file; the same tests on a part of main's array are not, from the eighth on.)
+fn chosen(word: &[u8]) {
+    if check::same(word, b"check") {
+        checking::check();
+        return;
+    }
+    if check::same(word, b"help") {
+        say::help();
+        return;
+    }
+    say::no_command();
+}
+
+// The command that the first argument names.
+fn main() {
+    let mut word = [0u8; 16];
+    let n = os::arg(1, &mut word);
+    chosen(&word[..n]);
+}

@@ -1,0 +1,28 @@
+-- The type and the place are those that the callees answer, read back from one number.
+use borrow.Author.Needs.{needs}
+use Rattle.typing.proofs.letting.Statement.{statement}
+use Rattle.typing.proofs.letting.Tie as tie
+
+place-in-requires : tie.Need-place-in-requires
+place-in-requires c κs = search needs
+
+place-in-requires-2 : tie.Need-place-in-requires-2
+place-in-requires-2 c κs = search needs
+
+type-in-requires : tie.Need-type-in-requires
+type-in-requires c κs = search needs
+
+type-in-requires-2 : tie.Need-type-in-requires-2
+type-in-requires-2 c κs = search needs
+
+under-requires : tie.Need-under-requires
+under-requires c κs = search needs
+
+typed-at-requires : tie.Need-typed-at-requires
+typed-at-requires c κs = search needs
+
+returns : tie.Need-returns
+returns c = (cc, cc)
+
+pub letting-spec : {M : Type 1} → statement M
+letting-spec = tie.close (tie.spec place-in-requires place-in-requires-2 type-in-requires type-in-requires-2 under-requires typed-at-requires returns)

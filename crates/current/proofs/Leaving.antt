@@ -42,24 +42,37 @@ set-kept st k m s = record {
   others = λ j e. cell-other st k j m (cell-another j k e);
 }
 
+-- A switch that has not switched leaves first, and puts it to start;
+left-first : (k : ℕ) (x y : Signal) (st : Bytes) (v : Value) → isClear st k ≡ true → swapped k x y st v ≡ resetS x (hold st k v)
+unfolding swapped
+left-first k x y st v e = rw e
+
+-- one that has leaves second.
+left-second : (k : ℕ) (x y : Signal) (st : Bytes) (v : Value) → isClear st k ≡ false → swapped k x y st v ≡ resetS y (hold st k v)
+unfolding swapped
+left-second k x y st v e = rw e
+
 -- A switch that catches a value: st is the state after its event's update.
 pub swapped-same : (count cells : ℕ) (τ : ℕ → ℕ) (n k t : ℕ) (x e y : Signal) → SitsS count cells τ (switch n k t x e y)
     → ((j : ℕ) → timesS j (switch n k t x e y) ≤ 1) → (st : Bytes) → Small st → length st ≡ cellAt cells
     → (if isClear st k then wellS st x and restsS st y else contentFits t 0 (cell st k) and restsS st x and wellS st y) ≡ true
     → (v : Value) → swapped k x y st v ≡ resetS y (resetS x (hold st k v))
-unfolding swapped hold timesS
+unfolding hold timesS
 swapped-same count cells τ n k t x e y sits once st s l w v =
     let q : Bytes = hold st k v in
     let a : Kept (λ j. isCell j k) st q = set-kept st k _ s in
     let b = reset-rests x count cells τ q (sits .2) (λ j. omega (arith, once j)) (a .bytes) (a .long ∙ l) .kept in
-    either (λ c. (if c then resetS x q else resetS y q) ≡ resetS y (resetS x q)) (isClear st k) _ _ w
-    (λ p.
+    either (λ c. isClear st k ≡ c → swapped k x y st v ≡ resetS y (resetS x q)) (isClear st k) _ _ w
+    (λ p f.
     let far : Kept (λ j. isCell j k + timesS j x) st (resetS x q) = kept-then (λ j z. omega arith) (λ j z. omega arith) a b in
-    sym (rests-reset y (resetS x q) (b .bytes)
+    left-first k x y st v f
+    ∙ sym (rests-reset y (resetS x q) (b .bytes)
     (rests-agree y st (resetS x q) (apart-agree (λ j. omega (arith, once j)) far) ∙ and-both _ _ p .1)))
-    (λ p.
+    (λ p f.
     let rests : restsS st x ≡ true = and-both _ _ (and-both _ _ p .0) .1 in
-    ap (resetS y) (sym (rests-reset x q (a .bytes) (rests-agree x st q (apart-agree (λ j. omega (arith, once j)) a) ∙ rests))))
+    left-second k x y st v f
+    ∙ ap (resetS y) (sym (rests-reset x q (a .bytes) (rests-agree x st q (apart-agree (λ j. omega (arith, once j)) a) ∙ rests))))
+    refl
 
 -- A group that catches a jump out of a part: rest says that the reset of all parts is the reset of that one.
 pub leaves-same : {Δ : Offers} {τ : ℕ → ℕ} {test : Bytes → Bool} {st : Bytes} (k : ℕ) (part body : Signal) (all : Branches) {r : Updated}

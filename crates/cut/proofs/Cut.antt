@@ -34,18 +34,18 @@ use Rattle.cut.proofs.Records.{drop-past, input-before, input-after}
 use Rattle.cut.proofs.Halves.{behind, walk-split, counting, walk-later, Made₁₂, walk-counted}
 
 -- The records fit a run.
-fits : Bytes → Bool
+unfoldable pub fits : Bytes → Bool
 fits recs = eqb (length recs % inputLength) 0 and leb (length recs / inputLength) 4096
 
 -- What is lent to a run is as it should be.
-record Lent (p st recs out : Bytes) : Type 0 where
-  accepts : Accepted p
-  well : wellFormed p st ≡ true
-  even : length recs % inputLength ≡ 0
-  few : length recs / inputLength ≤ 4096
-  room : length out ≡ 8 * (length recs / inputLength)
+pub record Lent (p st recs out : Bytes) : Type 0 where
+  pub accepts : Accepted p
+  pub well : wellFormed p st ≡ true
+  pub even : length recs % inputLength ≡ 0
+  pub few : length recs / inputLength ≤ 4096
+  pub room : length out ≡ 8 * (length recs / inputLength)
 
-lent-fine : (p st recs out : Bytes) → lentVerdict p st recs out (fits recs) ≡ Fine → Lent p st recs out
+pub lent-fine : (p st recs out : Bytes) → lentVerdict p st recs out (fits recs) ≡ Fine → Lent p st recs out
 unfolding lentVerdict fits
 lent-fine p st recs out e =
     let a = both-fine _ _ e in
@@ -60,7 +60,7 @@ lent-fine p st recs out e =
       room = eqb-true _ _ (not-not _ (if-fine _ _ (c .1)));
     }
 
-fine-lent : (p st recs out : Bytes) → Lent p st recs out → lentVerdict p st recs out (fits recs) ≡ Fine
+pub fine-lent : (p st recs out : Bytes) → Lent p st recs out → lentVerdict p st recs out (fits recs) ≡ Fine
 unfolding lentVerdict fits _and_ _otherwise_ refuseIf
 fine-lent p st recs out l =
     rw (fine-verdict p (l .accepts), l .well, eq-eqb _ _ (l .even), le-leb _ _ (l .few), eq-eqb _ _ (l .room))
@@ -176,7 +176,7 @@ sizes recs₁ recs₂ e f = record {
 
 -- j)
 pub cut : (p st recs₁ recs₂ out₁ out₂ out : Bytes) (steps work : ℕ) → Small p → Small st → Small recs₁ → Small recs₂
-    → CutAt p st recs₁ recs₂ out₁ out₂ out steps work
+    → CutAt recs₁ recs₂ out₁ out₂ out (runCall p st recs₁ out₁ .answer) steps work
     → SameParts out₁ out₂ out steps work (runCall p st recs₁ out₁) (runCall p (runCall p st recs₁ out₁ .state) recs₂ out₂)
     (runCall p st (recs₁ ++ recs₂) out)
 unfolding inRoom

@@ -7,7 +7,7 @@ use lib.ListN.{length, drop}
 use Rattle.rules.specs.Bytes.{Bytes}
 use Rattle.rules.specs.Layout.{inputLength}
 use Rattle.rules.specs.Answers.{placeOf}
-use Rattle.rules.specs.Calls.{RunOutcome, runCall}
+use Rattle.rules.specs.Calls.{RunOutcome}
 use Rattle.rules.specs.declared.Refusal.{Refusal}
 use Rattle.rules.specs.declared.Refusal.the-variants.{ProgramLength, CheckSum, BlockNumber, RecordFault, ShapeFault, ScopeFault, TypeFault, NotReady, StateFault, RecordsLength, OutputLength, InputFault, TimeBack}
 use Rattle.rules.specs.declared.Ran.{Ran}
@@ -39,10 +39,10 @@ abbrev pub stepsIn : Ran → ℕ
 stepsIn (Finished steps work) = steps
 stepsIn (Ran.Refused r work) = placeOf r
 
--- Two parts, the first with its run not refused, the second of whole records; each of the three rooms fits its records, and the whole has
--- at most 4,096.
-pub record CutAt (p st recs₁ recs₂ out₁ out₂ out : Bytes) (steps work : ℕ) : Type 0 where
-  pub not-refused : runCall p st recs₁ out₁ .answer ≡ Finished steps work
+-- Two parts, the first with its run not refused (its answer tells so), the second of whole records; each of the three rooms fits its records,
+-- and the whole has at most 4,096.
+pub record CutAt (recs₁ recs₂ out₁ out₂ out : Bytes) (answer : Ran) (steps work : ℕ) : Type 0 where
+  pub not-refused : answer ≡ Finished steps work
   pub whole-records : length recs₂ % inputLength ≡ 0
   pub room₁ : length out₁ ≡ 8 * (length recs₁ / inputLength)
   pub room₂ : length out₂ ≡ 8 * (length recs₂ / inputLength)

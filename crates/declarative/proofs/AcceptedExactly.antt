@@ -35,10 +35,9 @@ use Rattle.declarative.proofs.TypingS.{complete-s, sound-s}
 use Rattle.declarative.proofs.FromTable.{declared}
 use Rattle.declarative.proofs.EachShape.{each-shape, shape-each}
 use Rattle.declarative.proofs.EachRecord.{each-format, format-each}
-use Rattle.declarative.proofs.ScopeExactly.{unmarked-none, unmarked-long, table, in-scope, no-scope-fault}
-use Rattle.declarative.proofs.Clean.{clean-s, all-clean}
-use Rattle.declarative.proofs.TypesEach.{types-right, lets-ready}
-use Rattle.declarative.proofs.TypesDown.{types-down}
+use Rattle.declarative.proofs.Free.{nowhere-right, right-nowhere}
+use Rattle.declarative.proofs.ScopeExactly.{unmarked-none, unmarked-long, finds-scope}
+use Rattle.declarative.proofs.TypesExactly.{finds-types, finds-ready}
 
 -- Above the root Γ is [].
 no-variable : (τ : ℕ → ℕ) → Variables τ (unmarked mostNodes) none
@@ -68,7 +67,7 @@ pub meets : (p : Bytes) → programVerdict p ≡ Fine → Meets p
 unfolding readyFault
 meets p e =
     let a = accepted p e in
-    let s = each-shape p (some-node p (a .formed)) (a .shape-right) in
+    let s = each-shape p (a .shape-right) in
     record {
       formatted = each-format p (a .formed);
       shaped = s;
@@ -94,31 +93,33 @@ root-type p m =
 
 -- Accepted: it meets every sentence over the table.
 pub meets-table : (p : Bytes) → programVerdict p ≡ Fine → MeetsTable p
-unfolding root typeFault readyFault
 meets-table p e =
     let a = accepted p e in
     let w = root-of p a in
-    let s = each-shape p (some-node p (a .formed)) (a .shape-right) in
-    let t = table p w s in
-    let all = all-clean p t (clean-s w (a .types-right) (a .ready-right)) in
+    let s = each-shape p (a .shape-right) in
     record {
       formatted = each-format p (a .formed);
       shaped = s;
-      scoped = in-scope p w s (a .scope-right);
-      typed = types-right p t all;
-      ready = lets-ready p t all;
+      scoped = record { each = nowhere-right _ _ _ (finds-scope p w s) (a .scope-right) };
+      typed = record { each = nowhere-right _ _ _ (finds-types p w s) (a .types-right) };
+      ready = record { each = nowhere-right _ _ _ (finds-ready p w s) (a .ready-right) };
     }
 
 -- It meets every sentence over the table: accepted.
 pub table-accepts : (p : Bytes) → MeetsTable p → programVerdict p ≡ Fine
-unfolding root typeFault readyFault
 table-accepts p m =
     let f = format-each p (m .formatted) in
     let e = shape-each p (m .shaped) in
     let w = root-signal p (f .length-right) e (some-node p f) in
-    let d = types-down p (table p w (m .shaped)) (m .typed) (m .ready) (nodes p - 1) w in
+    let s = m .shaped in
     fine-verdict p
-    (record { formed = f; shape-right = e; scope-right = no-scope-fault p w (m .shaped) (m .scoped); types-right = d .0; ready-right = d .1 })
+    (record {
+      formed = f;
+      shape-right = e;
+      scope-right = right-nowhere _ _ _ (finds-scope p w s) (m .scoped .each);
+      types-right = right-nowhere _ _ _ (finds-types p w s) (m .typed .each);
+      ready-right = right-nowhere _ _ _ (finds-ready p w s) (m .ready .each);
+    })
 
 -- Check's answer follows the verdict.
 answers : (p : Bytes) → programVerdict p ≡ Fine → Accepts p

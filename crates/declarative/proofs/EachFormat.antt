@@ -10,9 +10,9 @@ use lib.Dec.{eqb, leb}
 use lib.ListN.{length, getD, take, drop}
 use lib.Seq.{getD-drop}
 use borrow.Author.Tests.{leb-true, le-leb, ltb-false, le-ltb, eqb-true, eqb-false, eq-eqb, ne-eqb}
-use Rattle.rules.specs.Bytes.{Bytes, byteAt, _and_, _or_}
+use Rattle.rules.specs.Bytes.{Bytes, byteAt, first, _and_, _or_}
 use Rattle.rules.specs.Values.{unitT, boolT, maybeOf, isPlain, isMaybe, isType, valueFits}
-use Rattle.rules.specs.Layout.{blockAt}
+use Rattle.rules.specs.Layout.{blocks, blockAt}
 use Rattle.rules.specs.Format.{weighed, checkOf, lengthWrong, sumWrong, numberWrong, fieldWrong, typeFieldWrong, nodeWrong}
 use Rattle.rules.specs.Kinds.{isSignal, isExpression, isBranch, isCase, isKind}
 use Rattle.rules.specs.declared.Field.{Field}
@@ -22,7 +22,8 @@ use Rattle.rules.specs.declared.TypeField.the-variants.{NoType, AnyType, PlainT
 use Rattle.rules.proofs.Static.{and-both, not-both, or-left, or-right}
 use Rattle.rules.proofs.Kids.{or-none, not-not}
 use Rattle.rules.proofs.ByKind.{choose}
-use Rattle.declarative.specs.Formats.{sumFrom, WholeBlocks, BlockRight, IsMaybe, IsType, ValueRight, TypeRight, FieldRight, IsKind, NodeRight}
+use Rattle.declarative.specs.Formats.{sumFrom, WholeBlocks, SumRight, NumberRight, IsMaybe, IsType, ValueRight, TypeRight, FieldRight, IsKind, NodeRight}
+use Rattle.declarative.proofs.Free.{Finds, finds-first}
 use Rattle.declarative.proofs.Joining.{by-either, and-true, or-false}
 use Rattle.declarative.proofs.EachShape.{deny, between, is-between}
 
@@ -77,22 +78,33 @@ check-sum p j = weighed-sum _ 508 0 (drop (blockAt j) p) (λ k. term (0 + k) k (
         ap (λ (u : ℕ). u * getD p (blockAt j + m) 0) (let z : m + 1 ≡ suc m = omega arith in z)
         ∙ ap (λ (v : ℕ). suc m * v) (ap (λ (i : ℕ). getD p (blockAt j + i) 0) e ∙ sym (getD-drop (blockAt j) p k 0))
 
--- Codes 2 and 3, at a block.
-pub block-right : (p : Bytes) (j : ℕ) → sumWrong p j ≡ false → numberWrong p j ≡ false → BlockRight p j
-unfolding sumWrong numberWrong
-block-right p j e f =
-    let h = and-both _ _ (not-not _ f) in
-    record { number = eqb-true _ _ (h .0); count = eqb-true _ _ (h .1); check = eqb-true _ _ (not-not _ e) ∙ check-sum p j }
+-- Code 2, at a block.
+sum-right : (p : Bytes) (j : ℕ) → sumWrong p j ≡ false → SumRight p j
+unfolding sumWrong
+sum-right p j e = record { check = eqb-true _ _ (not-not _ e) ∙ check-sum p j }
 
--- And the other way: the check,
-pub right-sum : (p : Bytes) (j : ℕ) → BlockRight p j → sumWrong p j ≡ false
+-- And the other way.
+right-sum : (p : Bytes) (j : ℕ) → SumRight p j → sumWrong p j ≡ false
 unfolding sumWrong
 right-sum p j b = deny (eq-eqb _ _ (b .check ∙ sym (check-sum p j)))
 
--- and number and count.
-pub right-number : (p : Bytes) (j : ℕ) → BlockRight p j → numberWrong p j ≡ false
+-- Code 3.
+number-right : (p : Bytes) (j : ℕ) → numberWrong p j ≡ false → NumberRight p j
+unfolding numberWrong
+number-right p j f = let h = and-both _ _ (not-not _ f) in record { number = eqb-true _ _ (h .0); count = eqb-true _ _ (h .1) }
+
+-- And the other way.
+right-number : (p : Bytes) (j : ℕ) → NumberRight p j → numberWrong p j ≡ false
 unfolding numberWrong
 right-number p j b = deny (and-true (eq-eqb _ _ (b .number)) (eq-eqb _ _ (b .count)))
+
+-- Below a bound no fault is found exactly when every block there keeps its own rule.
+pub finds-sum : (p : Bytes) → Finds (first (sumWrong p) (blocks p)) (SumRight p) (blocks p)
+finds-sum p = finds-first (sumWrong p) (blocks p) (SumRight p) (λ b h m i l. sum-right p m (h m i l)) (λ b h m i l. right-sum p m (h m i l))
+
+pub finds-number : (p : Bytes) → Finds (first (numberWrong p) (blocks p)) (NumberRight p) (blocks p)
+finds-number p =
+    finds-first (numberWrong p) (blocks p) (NumberRight p) (λ b h m i l. number-right p m (h m i l)) (λ b h m i l. right-number p m (h m i l))
 
 -- Types.
 type-right : (t : ℕ) → isType t ≡ true → IsType t

@@ -4,27 +4,20 @@ use mathlib.Core.Path.{_≡_, refl, sym, subst}
 use mathlib.Core.Bool.{Bool, true, false, not}
 use Prim.Native.Nat.{ℕ, zero, suc, _+_, _-_, _%_, _≤_, _<_}
 use native.Mathlib.Omega.{arith}
-use lib.Dec.{eqb, ltb}
-use borrow.Author.Tests.{ltb-true, ltb-false, eqb-true, eqb-false, eq-eqb, ne-eqb}
-use Rattle.rules.specs.Bytes.{Bytes, byteAt, u16At, u32At, u64At, _and_}
-use Rattle.rules.specs.Layout.{blocks, records, recordAt, kindAt}
-use Rattle.rules.specs.Format.{sumWrong, numberWrong, nodeWrong, isZero, mayEnd, afterEnd, recordWrong}
+use lib.Dec.{eqb}
+use borrow.Author.Tests.{eqb-true, eqb-false, eq-eqb, ne-eqb}
+use Rattle.rules.specs.Bytes.{Bytes, byteAt, u16At, u32At, u64At, first, _and_}
+use Rattle.rules.specs.Layout.{records, recordAt, kindAt}
+use Rattle.rules.specs.Format.{nodeWrong, isZero, mayEnd, afterEnd, recordWrong}
 use Rattle.rules.specs.Accepted.{Formed}
 use Rattle.rules.proofs.Static.{and-both, not-both}
 use Rattle.rules.proofs.Kids.{or-none, not-not}
 use Rattle.rules.proofs.ByKind.{choose}
-use Rattle.declarative.specs.Formats.{AllZero, EndRight, Formatted}
+use Rattle.declarative.specs.Formats.{AllZero, RecordRight, Formatted}
+use Rattle.declarative.proofs.Free.{side, Finds, finds-first, nowhere-right, right-nowhere}
 use Rattle.declarative.proofs.Joining.{and-true, or-false}
-use Rattle.declarative.proofs.EachShape.{first-nowhere, nowhere-each, deny}
-use Rattle.declarative.proofs.EachFormat.{whole-blocks, blocks-whole, block-right, right-sum, right-number, node-right, right-node}
-
--- A number is below another, or is not.
-pub side : {A : Type 0} (j m : ℕ) → (j < m → A) → (m ≤ j → A) → A
-side {A} j m f g = go (ltb j m) refl
-  where
-    go : (b : Bool) → ltb j m ≡ b → A
-    go true e = f (ltb-true j m e)
-    go false e = g (ltb-false j m e)
+use Rattle.declarative.proofs.EachShape.{deny}
+use Rattle.declarative.proofs.EachFormat.{whole-blocks, blocks-whole, finds-sum, finds-number, node-right, right-node}
 
 -- So many bytes from a place on are zero.
 abbrev Zeros : Bytes → ℕ → ℕ → Type 0
@@ -101,76 +94,81 @@ module _ (p : Bytes) where
   unfolding recordWrong
   node-of r e d = or-none _ _ (simp (ne-eqb (kindAt p r) 0 d) at e)
 
-  module _ (right : (r : ℕ) → r < records p → recordWrong p r ≡ false) where
+  -- Below a bound, where no record has a fault:
+  module _ (b : ℕ) (right : (r : ℕ) → r < b → r < records p → recordWrong p r ≡ false) where
     -- After kind 0 comes kind 0.
-    goes-on : (r : ℕ) → kindAt p r ≡ 0 → suc r < records p → kindAt p (suc r) ≡ 0
+    goes-on : (r : ℕ) → kindAt p r ≡ 0 → suc r < b → suc r < records p → kindAt p (suc r) ≡ 0
     unfolding afterEnd
-    goes-on r q l =
-        choose (kindAt p (suc r)) 0 (λ z. z) (λ d. absurd (eqb-false (kindAt p r) 0 (node-of (suc r) (right (suc r) l) d .0) q))
+    goes-on r q i l =
+        choose (kindAt p (suc r)) 0 (λ z. z) (λ d. absurd (eqb-false (kindAt p r) 0 (node-of (suc r) (right (suc r) i l) d .0) q))
 
     -- So every later record is of kind 0,
-    ended : (d r : ℕ) → kindAt p r ≡ 0 → r + d < records p → kindAt p (r + d) ≡ 0
-    ended zero r q l = subst (λ (k : ℕ). kindAt p k ≡ 0) (let z : r ≡ r + 0 = omega arith in z) q
-    ended (suc d) r q l =
+    ended : (d r : ℕ) → kindAt p r ≡ 0 → r + d < b → r + d < records p → kindAt p (r + d) ≡ 0
+    ended zero r q i l = subst (λ (k : ℕ). kindAt p k ≡ 0) (let z : r ≡ r + 0 = omega arith in z) q
+    ended (suc d) r q i l =
         subst (λ (k : ℕ). kindAt p k ≡ 0) (let z : suc (r + d) ≡ r + suc d = omega arith in z)
-        (goes-on (r + d) (ended d r q (omega arith)) (omega arith))
+        (goes-on (r + d) (ended d r q (omega arith) (omega arith)) (omega arith) (omega arith))
 
-    -- and an end is as the sentence says.
-    end-right : (r : ℕ) → r < records p → kindAt p r ≡ 0 → EndRight p r
+    -- and each record keeps its own rule.
+    record-right : (r : ℕ) → r < b → r < records p → RecordRight p r
     unfolding mayEnd
-    end-right r l q =
-        let m = and-both _ _ (end-of r (right r l) q .0) in
-        record {
-          last-block = eqb-true _ _ (m .0);
-          not-first = λ z. not-both (let w : false ≡ true = simp (eq-eqb (r % 42) 0 z) at (m .1) in w);
-          zeros = λ k h u.
-              let e : r + (k - r) ≡ k = omega arith in
-              let z : kindAt p k ≡ 0 = subst (λ (x : ℕ). kindAt p x ≡ 0) e (ended (k - r) r q (omega arith)) in
-              all-zero p k (end-of k (right k u) z .1);
-        }
+    record-right r i l = record {
+      end = λ q.
+          let m = and-both _ _ (end-of r (right r i l) q .0) in
+          record {
+            last-block = eqb-true _ _ (m .0);
+            not-first = λ z. not-both (let w : false ≡ true = simp (eq-eqb (r % 42) 0 z) at (m .1) in w);
+          };
+      zeros = λ k h q.
+          let e : k + (r - k) ≡ r = omega arith in
+          let z : kindAt p r ≡ 0 = subst (λ (x : ℕ). kindAt p x ≡ 0) e (ended (r - k) k q (omega arith) (omega arith)) in
+          all-zero p r (end-of r (right r i l) z .1);
+      node = λ d. node-right p r (node-of r (right r i l) d .1);
+    }
 
-  module _ (f : Formatted p) where
-    before : (r : ℕ) → r < records p → (kindAt p r ≡ 0 → ⊥) → afterEnd p r ≡ false
-    unfolding afterEnd
-    before zero l d = refl
-    before (suc r) l d =
-        ne-eqb (kindAt p r) 0 λ q. d (zero-kind p (suc r) (f .each-end r (omega arith) q .zeros (suc r) (omega arith) l))
+  -- And the other way: the record before is no end,
+  before : (r : ℕ) → RecordRight p r → (kindAt p r ≡ 0 → ⊥) → afterEnd p r ≡ false
+  unfolding afterEnd
+  before zero w d = refl
+  before (suc r) w d = ne-eqb (kindAt p r) 0 λ q. d (zero-kind p (suc r) (w .zeros r (omega arith) q))
 
-    -- A record of kind 0 may end, and is zero.
-    right-end : (r : ℕ) → r < records p → EndRight p r → (mayEnd p r and isZero p r) ≡ true
-    unfolding mayEnd
-    right-end r l e =
-        and-true (and-true (eq-eqb _ _ (e .last-block)) (go (eqb (r % 42) 0) refl)) (zero-all p r (e .zeros r (omega arith) l))
-      where
-        go : (b : Bool) → eqb (r % 42) 0 ≡ b → not b ≡ true
-        go true q = absurd (e .not-first (eqb-true _ _ q))
-        go false q = refl
+  -- a record of kind 0 may end, and is zero,
+  right-end : (r : ℕ) → RecordRight p r → kindAt p r ≡ 0 → (mayEnd p r and isZero p r) ≡ true
+  unfolding mayEnd
+  right-end r w q =
+      and-true (and-true (eq-eqb _ _ (w .end q .last-block)) (go (eqb (r % 42) 0) refl)) (zero-all p r (w .zeros r (omega arith) q))
+    where
+      go : (b : Bool) → eqb (r % 42) 0 ≡ b → not b ≡ true
+      go true e = absurd (w .end q .not-first (eqb-true _ _ e))
+      go false e = refl
 
-    -- So no record has a fault.
-    right-record : (r : ℕ) → r < records p → recordWrong p r ≡ false
-    unfolding recordWrong
-    right-record r l =
-        choose (kindAt p r) 0
-        (λ q. simp (eq-eqb (kindAt p r) 0 q) (deny (right-end r l (f .each-end r l q))))
-        (λ d. simp (ne-eqb (kindAt p r) 0 d) (or-false (before r l d) (right-node p r (f .each-node r l d))))
+  -- so the record has no fault.
+  right-record : (r : ℕ) → RecordRight p r → recordWrong p r ≡ false
+  unfolding recordWrong
+  right-record r w =
+      choose (kindAt p r) 0
+      (λ q. simp (eq-eqb (kindAt p r) 0 q) (deny (right-end r w q)))
+      (λ d. simp (ne-eqb (kindAt p r) 0 d) (or-false (before r w d) (right-node p r (w .node d))))
+
+-- Below a bound no fault is found exactly when every record there keeps its own rule.
+pub finds-record : (p : Bytes) → Finds (first (recordWrong p) (records p)) (RecordRight p) (records p)
+finds-record p =
+    finds-first (recordWrong p) (records p) (RecordRight p) (λ b h m i l. record-right p b h m i l) (λ b h m i l. right-record p m (h m i l))
 
 -- No fault of format: every block and record is right.
 pub each-format : (p : Bytes) → Formed p → Formatted p
-each-format p f =
-    let right : (r : ℕ) → r < records p → recordWrong p r ≡ false = nowhere-each (recordWrong p) (records p) (f .records-right) in
-    record {
-      whole = whole-blocks p (f .length-right);
-      each-block = λ j h.
-          block-right p j (nowhere-each (sumWrong p) (blocks p) (f .sums-right) j h) (nowhere-each (numberWrong p) (blocks p) (f .numbers-right) j h);
-      each-end = end-right p right;
-      each-node = λ r l d. node-right p r (node-of p r (right r l) d .1);
-    }
+each-format p f = record {
+  whole = whole-blocks p (f .length-right);
+  each-sum = nowhere-right _ _ _ (finds-sum p) (f .sums-right);
+  each-number = nowhere-right _ _ _ (finds-number p) (f .numbers-right);
+  each-record = nowhere-right _ _ _ (finds-record p) (f .records-right);
+}
 
 -- Every block and record is right: no fault of format.
 pub format-each : (p : Bytes) → Formatted p → Formed p
 format-each p f = record {
   length-right = blocks-whole p (f .whole);
-  sums-right = first-nowhere (sumWrong p) (blocks p) (λ j h. right-sum p j (f .each-block j h));
-  numbers-right = first-nowhere (numberWrong p) (blocks p) (λ j h. right-number p j (f .each-block j h));
-  records-right = first-nowhere (recordWrong p) (records p) (right-record p f);
+  sums-right = right-nowhere _ _ _ (finds-sum p) (f .each-sum);
+  numbers-right = right-nowhere _ _ _ (finds-number p) (f .each-number);
+  records-right = right-nowhere _ _ _ (finds-record p) (f .each-record);
 }

@@ -1,13 +1,13 @@
 -- No fault of shape exactly when every node is as document 01 says.
 -- Assumes nothing.
-use mathlib.Core.Path.{_≡_, refl, subst}
+use mathlib.Core.Path.{_≡_, refl}
 use mathlib.Core.Logic.{_⊎_, inl, inr}
 use mathlib.Core.Bool.{Bool, true, false, not}
-use Prim.Native.Nat.{ℕ, zero, suc, _+_, _-_, _≤_, _<_}
+use Prim.Native.Nat.{ℕ, suc, _≤_, _<_}
 use native.Mathlib.Omega.{arith}
 use lib.Dec.{eqb, leb, ltb}
 use borrow.Author.Tests.{leb-true, le-leb, ltb-true, lt-ltb, eqb-true, eqb-false, eq-eqb, ne-eqb}
-use Rattle.rules.specs.Bytes.{Bytes, _and_, firstFrom, first, if_then_else_}
+use Rattle.rules.specs.Bytes.{Bytes, _and_, first, if_then_else_}
 use Rattle.rules.specs.Layout.{nodes, kindAt, noNext}
 use Rattle.rules.specs.Kinds.{isSignal, isExpression, isBranch, isCase}
 use Rattle.rules.specs.Shape.{isChild, mayBe, mayStop, childWrong, childrenWrong, named, shapeWrong}
@@ -16,24 +16,10 @@ use Rattle.rules.specs.declared.Field.the-variants.{Unused, Channel, PresentByt
 use Rattle.rules.specs.declared.Place.the-variants.{Nowhere}
 use Rattle.rules.proofs.Static.{and-both}
 use Rattle.rules.proofs.Kids.{or-none, not-not}
-use Rattle.rules.proofs.Established.{nowhere-from}
 use Rattle.rules.proofs.ByKind.{choose}
-use Rattle.declarative.specs.Shapes.{IsSignal, ChildRight, ChildrenRight, WellShaped}
+use Rattle.declarative.specs.Shapes.{ChildRight, ChildrenRight, ShapeRight, WellShaped}
+use Rattle.declarative.proofs.Free.{Finds, finds-first, nowhere-right, right-nowhere}
 use Rattle.declarative.proofs.Joining.{and-true, or-false}
-
--- A test that fails at every place has no first place.
-from-nowhere : (test : ℕ → Bool) (left k : ℕ) → ((n : ℕ) → k ≤ n → n < k + left → test n ≡ false) → firstFrom test k left ≡ Nowhere
-unfolding firstFrom
-from-nowhere test zero k h = refl
-from-nowhere test (suc left) k h = rw (h k (omega arith) (omega arith), firstFrom) (from-nowhere test left (suc k) (λ n l g. h n (omega arith) (omega arith)))
-
-pub first-nowhere : (test : ℕ → Bool) (count : ℕ) → ((n : ℕ) → n < count → test n ≡ false) → first test count ≡ Nowhere
-unfolding first
-first-nowhere test count h = from-nowhere test count 0 (λ n l g. h n (omega arith))
-
-pub nowhere-each : (test : ℕ → Bool) (count : ℕ) → first test count ≡ Nowhere → (n : ℕ) → n < count → test n ≡ false
-unfolding first
-nowhere-each test count e n h = nowhere-from test count 0 n e (omega arith) (omega arith)
 
 -- A denied test, and a test that holds, denied.
 pub deny : {b : Bool} → b ≡ true → not b ≡ false
@@ -116,28 +102,33 @@ module _ (p : Bytes) (n : ℕ) where
   unfolding childrenWrong
   right-children h = or-false (or-false (right-child _ _ (h .a)) (right-child _ _ (h .b))) (right-child _ _ (h .c))
 
--- No fault: every node is right. (A formed program has a node.)
-pub each-shape : (p : Bytes) → 0 < nodes p → first (shapeWrong p) (nodes p) ≡ Nowhere → WellShaped p
-unfolding shapeWrong isSignal
-each-shape p some e =
-    let at : (n : ℕ) → n < nodes p → shapeWrong p n ≡ false = nowhere-each (shapeWrong p) (nodes p) e in
-    let q : suc (nodes p - 1) ≡ nodes p = omega arith in
-    record {
-      children = λ n h. children-right p n (or-none _ _ (at n h) .0);
-      once = λ n h. eqb-true _ _ (not-not _ (simp (ne-eqb (suc n) (nodes p) (λ z. omega arith)) at (or-none _ _ (at n (omega arith)) .1)));
-      last = between 1 _ 8 (not-not _ (simp (eq-eqb _ _ q) at (or-none _ _ (at (nodes p - 1) (omega arith)) .1)));
-    }
+  -- A node without a fault keeps its own rule.
+  shape-right : n < nodes p → shapeWrong p n ≡ false → ShapeRight p n
+  unfolding shapeWrong isSignal
+  shape-right l e = record {
+    children = children-right (or-none _ _ e .0);
+    once = λ h. eqb-true _ _ (not-not _ (simp (ne-eqb (suc n) (nodes p) (λ z. omega arith)) at (or-none _ _ e .1)));
+    last = λ q. between 1 _ 8 (not-not _ (simp (eq-eqb (suc n) (nodes p) q) at (or-none _ _ e .1)));
+  }
+
+  -- And the other way.
+  right-shape : n < nodes p → ShapeRight p n → shapeWrong p n ≡ false
+  unfolding shapeWrong isSignal
+  right-shape l w = or-false (right-children (w .children)) (go (eqb (suc n) (nodes p)) refl)
+    where
+      go : (b : Bool) → eqb (suc n) (nodes p) ≡ b → (if b then not (isSignal (kindAt p n)) else not (eqb (named p n) 1)) ≡ false
+      go true e = deny (is-between 1 (kindAt p n) 8 (w .last (eqb-true (suc n) (nodes p) e)))
+      go false e = let d = eqb-false (suc n) (nodes p) e in deny (eq-eqb _ _ (w .once (omega (arith, d))))
+
+-- Below a bound no fault is found exactly when every node there keeps its own rule.
+pub finds-shape : (p : Bytes) → Finds (first (shapeWrong p) (nodes p)) (ShapeRight p) (nodes p)
+finds-shape p =
+    finds-first (shapeWrong p) (nodes p) (ShapeRight p) (λ b h m i l. shape-right p m l (h m i l)) (λ b h m i l. right-shape p m l (h m i l))
+
+-- No fault: every node is right.
+pub each-shape : (p : Bytes) → first (shapeWrong p) (nodes p) ≡ Nowhere → WellShaped p
+each-shape p e = record { each = nowhere-right _ _ _ (finds-shape p) e }
 
 -- Every node is right: no fault.
 pub shape-each : (p : Bytes) → WellShaped p → first (shapeWrong p) (nodes p) ≡ Nowhere
-unfolding shapeWrong isSignal
-shape-each p w =
-    first-nowhere (shapeWrong p) (nodes p) λ n h.
-    or-false (right-children p n (w .children n h)) (go n h (eqb (suc n) (nodes p)) refl)
-  where
-    go : (n : ℕ) → n < nodes p → (b : Bool) → eqb (suc n) (nodes p) ≡ b
-        → (if b then not (isSignal (kindAt p n)) else not (eqb (named p n) 1)) ≡ false
-    go n h true e =
-        let q : nodes p - 1 ≡ n = let z = eqb-true (suc n) (nodes p) e in omega arith in
-        deny (is-between 1 (kindAt p n) 8 (subst (λ (m : ℕ). IsSignal (kindAt p m)) q (w .last)))
-    go n h false e = let d = eqb-false (suc n) (nodes p) e in deny (eq-eqb _ _ (w .once n (omega (arith, d))))
+shape-each p w = right-nowhere _ _ _ (finds-shape p) (w .each)

@@ -1,3 +1,4 @@
+pub mod Free
 pub mod Joining
 pub mod Readiness
 pub mod Declares
@@ -18,4 +19,6 @@ pub mod NeedsTable
 pub mod TypeTable
 pub mod TypesEach
 pub mod TypesDown
+pub mod TypesExactly
 pub mod AcceptedExactly
+pub mod SmallestPlaces

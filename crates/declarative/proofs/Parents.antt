@@ -18,8 +18,8 @@ use Rattle.rules.proofs.Static.{and-both, not-both}
 use Rattle.rules.proofs.Kids.{Kid, kids}
 use Rattle.rules.proofs.ByKind.{choose}
 use Rattle.declarative.specs.WayUp.{Above, by-a, by-b, by-c, Binds, let-definition, let-body, switch-second, branch-body, take-present, Passes, by-let-body, by-branch-body, by-branch-list, Arrives, by-group-body, by-group-branches}
+use Rattle.declarative.proofs.Free.{side}
 use Rattle.declarative.proofs.Joining.{and-true}
-use Rattle.declarative.proofs.EachRecord.{side}
 
 -- A field that names n counts 1.
 names-one : (f : Field) (x n : ℕ) → isChild f ≡ true → x ≡ n → names f x n ≡ 1

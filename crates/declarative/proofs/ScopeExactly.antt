@@ -1,4 +1,4 @@
--- The definition finds no fault of scope exactly when every variable and every case is in scope by the way up.
+-- Below a bound the definition finds no fault of scope exactly when every variable and every case there is in scope by the way up.
 -- Assumes nothing.
 use mathlib.Core.Path.{_≡_, refl, ap}
 use mathlib.Core.List.{[]}
@@ -13,9 +13,9 @@ use Rattle.rules.specs.Kinds.{isSignal}
 use Rattle.rules.specs.Shaped.{NodeOf}
 use Rattle.rules.specs.Tree.{root}
 use Rattle.rules.specs.Scope.{isMarked, unmarked, scopeFault}
-use Rattle.rules.specs.declared.Place.the-variants.{Nowhere}
 use Rattle.declarative.specs.Shapes.{WellShaped}
-use Rattle.declarative.specs.WayUp.{Above, Sees, enters, goes-up, GroupOf, arrives, passes, InScope}
+use Rattle.declarative.specs.WayUp.{Above, Sees, enters, goes-up, GroupOf, arrives, passes, ScopeRight}
+use Rattle.declarative.proofs.Free.{Finds}
 use Rattle.declarative.proofs.Parents.{binds-above, passes-above, arrives-above, above-more, Table}
 use Rattle.declarative.proofs.WayDown.{scope-down}
 use Rattle.declarative.proofs.WayUps.{scope-up}
@@ -39,7 +39,7 @@ unmarked-long n = length-replicate n 0
 module _ (p : Bytes) (w : NodeOf isSignal p (nodes p - 1)) (s : WellShaped p) where
   -- The table that the way up goes in.
   pub table : Table p
-  table = record { shaped = w .shaped; once = s .once }
+  table = record { shaped = w .shaped; once = λ n l. s .each n (omega arith) .once l }
 
   -- Nothing is above the root.
   no-above : (m : ℕ) → m < nodes p → Above p m (nodes p - 1) → ⊥
@@ -55,15 +55,13 @@ module _ (p : Bytes) (w : NodeOf isSignal p (nodes p - 1)) (s : WellShaped p) wh
   none-reached g n e (arrives l b) = absurd (no-above g l (rw (← e) (arrives-above p g n b)))
   none-reached g n e (passes m l a s) = absurd (no-above m l (rw (← e) (passes-above p m n a)))
 
-  -- No fault: in scope.
-  pub in-scope : scopeFault p ≡ Nowhere → InScope p
+  -- Below a bound no fault is found exactly when all there is in scope.
+  pub finds-scope : Finds (scopeFault p) (ScopeRight p) (nodes p)
   unfolding scopeFault root
-  in-scope e = scope-up p table w (unmarked mostNodes) (unmarked-none mostNodes) e
-
-  -- In scope: no fault.
-  pub no-scope-fault : InScope p → scopeFault p ≡ Nowhere
-  unfolding scopeFault root
-  no-scope-fault i =
-      scope-down p table i (nodes p - 1) w (unmarked mostNodes) []
-      (record { long = unmarked-long mostNodes; all = λ x h. none-seen x (nodes p - 1) refl h })
-      (record { all = λ g k h b. none-reached g (nodes p - 1) refl h })
+  finds-scope = record {
+    only-if = λ b f. scope-up p b table w (unmarked mostNodes) (unmarked-none mostNodes) f;
+    if₀ = λ b h.
+        scope-down p table b h (nodes p - 1) w (unmarked mostNodes) []
+        (record { long = unmarked-long mostNodes; all = λ x h. none-seen x (nodes p - 1) refl h })
+        (record { all = λ g k h b. none-reached g (nodes p - 1) refl h });
+  }

@@ -1,4 +1,5 @@
--- A node's type by document 01's sentences is its tree's type by the definition: it is that one, and a tree without fault has it.
+-- A node's type by document 01's sentences is its tree's type by the definition: it is that one, and a tree without fault below a bound, above its own number,
+-- has it.
 -- Assumes nothing.
 use mathlib.Core.Path.{_≡_, refl, sym, ap, subst, _∙_}
 use mathlib.Core.Bool.{Bool, true, false}
@@ -14,9 +15,8 @@ use Rattle.rules.specs.Kinds.{isSignal, isExpression}
 use Rattle.rules.specs.Shaped.{NodeOf}
 use Rattle.rules.specs.Tree.{Expr, Signal, exprAt, signalAt, valueAt}
 use Rattle.rules.specs.Typing.{justType, typeE, typeS, typesE, typesS}
-use Rattle.rules.specs.declared.Place.the-variants.{Nowhere}
 use Rattle.rules.specs.declared.Value.the-variants.{Plain, Absent, Present}
-use Rattle.rules.proofs.Static.{and-both, not-both, both, holds}
+use Rattle.rules.proofs.Static.{and-both, not-both}
 use Rattle.rules.proofs.Nodes.{expr-variable, expr-constant, signal-input, signal-time}
 use Rattle.rules.proofs.Kids.{Child}
 use Rattle.rules.proofs.Expressions.{IsOperation, negation-tree, just-kid, just-tree, choice-kids, choice-tree, taking-kids, taking-tree, operation-tree}
@@ -24,6 +24,7 @@ use Rattle.rules.proofs.Signals.{ext-kid, ext-tree, delay-kid, delay-tree, let-
 use Rattle.rules.proofs.ByKind.{ExpressionKind, is-variable, is-constant, is-negation, is-choice, is-just, is-taking, is-operation, expression-kind, SignalKind, is-input, is-time, is-ext, is-delay, is-let, is-switch, is-group, is-until, signal-kind}
 use Rattle.declarative.specs.TypedE.{Takes, number, quotient, comparison, logical}
 use Rattle.declarative.specs.HasType.{HasType, input-type, time-type, ext-type, delay-type, let-type, switch-type, group-type, until-type, variable-type, constant-type, operation-type, not-type, if-type, just-type, take-type}
+use Rattle.declarative.proofs.Free.{Free, free-both, free-holds}
 use Rattle.declarative.proofs.EachShape.{between, is-between}
 use Rattle.declarative.proofs.TypingE.{takes-result, just-plain}
 use Rattle.declarative.proofs.FromTable.{takes}
@@ -127,66 +128,69 @@ module _ (p : Bytes) where
   typed-s n t (take-type k h) w = other isSignal p n 29 k refl w
 
   -- An expression without fault has its type.
-  module _ (n : ℕ) (ih : (m : ℕ) → m < n → NodeOf isExpression p m → typesE (exprAt p m) ≡ Nowhere → HasType p m (typeE (exprAt p m))) where
-    kid : {m : ℕ} → Child isExpression p n m → typesE (exprAt p m) ≡ Nowhere → HasType p m (typeE (exprAt p m))
+  module _ (β n : ℕ) (i : n < β)
+      (ih : (m : ℕ) → m < n → NodeOf isExpression p m → Free β (typesE (exprAt p m)) → HasType p m (typeE (exprAt p m))) where
+    kid : {m : ℕ} → Child isExpression p n m → Free β (typesE (exprAt p m)) → HasType p m (typeE (exprAt p m))
     kid {m} c h = ih m (c .less) (c .node) h
 
-    expr-at : (w : NodeOf isExpression p n) → ExpressionKind (kindAt p n) → typesE (exprAt p n) ≡ Nowhere → HasType p n (typeE (exprAt p n))
+    expr-at : (w : NodeOf isExpression p n) → ExpressionKind (kindAt p n) → Free β (typesE (exprAt p n)) → HasType p n (typeE (exprAt p n))
     unfolding typeE typesE isPlain
     expr-at w (is-variable e) h = variable-type e (sym (ap typeE (expr-variable p n e)))
     expr-at w (is-constant e) h = constant-type e (sym (ap typeE (expr-constant p n e) ∙ value-at-type p n))
     expr-at w (is-negation e) h = not-type e (sym (ap typeE (negation-tree p n w e)))
     expr-at w (is-choice e) h =
-        let q = both _ _ (both _ _ (both _ _ (subst (λ (x : Expr). typesE x ≡ Nowhere) (choice-tree p n w e) h) .1) .1) in
+        let q = free-both _ _ (free-both _ _ (free-both _ _ (subst (λ (x : Expr). Free β (typesE x)) (choice-tree p n w e) h) .1) .1) in
         subst (HasType p n) (sym (ap typeE (choice-tree p n w e))) (if-type e (kid (choice-kids p n w e .1) (q .0)))
     expr-at w (is-just e) h =
-        let q = both _ _ (subst (λ (x : Expr). typesE x ≡ Nowhere) (just-tree p n w e) h) in
-        let z = holds _ _ (q .0) in
+        let q = free-both _ _ (subst (λ (x : Expr). Free β (typesE x)) (just-tree p n w e) h) in
+        let z = free-holds _ _ i (q .0) in
         just-type e (kid (just-kid p n w e) (q .1)) (between 1 _ 3 z) (sym (ap typeE (just-tree p n w e) ∙ just-plain _ z))
     expr-at w (is-taking e) h =
-        let q = both _ _ (both _ _ (both _ _ (subst (λ (x : Expr). typesE x ≡ Nowhere) (taking-tree p n w e) h) .1) .1) in
+        let q = free-both _ _ (free-both _ _ (free-both _ _ (subst (λ (x : Expr). Free β (typesE x)) (taking-tree p n w e) h) .1) .1) in
         subst (HasType p n) (sym (ap typeE (taking-tree p n w e))) (take-type e (kid (taking-kids p n w e .1) (q .0)))
     expr-at w (is-operation o) h =
         subst (HasType p n) (sym (ap typeE (operation-tree p n w o))) (operation-type (takes (kindAt p n) (w .sorted) o))
 
-  expr-has : (g n : ℕ) → n < g → NodeOf isExpression p n → typesE (exprAt p n) ≡ Nowhere → HasType p n (typeE (exprAt p n))
-  expr-has zero n l w h = absurd (not-suc-le-zero l)
-  expr-has (suc g) n l w h = expr-at n (λ m i. expr-has g m (omega arith)) w (expression-kind (kindAt p n)) h
+  expr-has : (β g n : ℕ) → n < g → n < β → NodeOf isExpression p n → Free β (typesE (exprAt p n)) → HasType p n (typeE (exprAt p n))
+  expr-has β zero n l i w h = absurd (not-suc-le-zero l)
+  expr-has β (suc g) n l i w h = expr-at β n i (λ m j. expr-has β g m (omega arith) (omega arith)) w (expression-kind (kindAt p n)) h
 
-  pub has-type-e : (n : ℕ) → NodeOf isExpression p n → typesE (exprAt p n) ≡ Nowhere → HasType p n (typeE (exprAt p n))
-  has-type-e n w h = expr-has (suc n) n (omega arith) w h
+  pub has-type-e : (β n : ℕ) → n < β → NodeOf isExpression p n → Free β (typesE (exprAt p n)) → HasType p n (typeE (exprAt p n))
+  has-type-e β n i w h = expr-has β (suc n) n (omega arith) i w h
 
   -- So has a signal.
-  module _ (n : ℕ) (ih : (m : ℕ) → m < n → NodeOf isSignal p m → typesS (signalAt p m) ≡ Nowhere → HasType p m (typeS (signalAt p m))) where
-    sub : {m : ℕ} → Child isSignal p n m → typesS (signalAt p m) ≡ Nowhere → HasType p m (typeS (signalAt p m))
+  module _ (β n : ℕ) (i : n < β)
+      (ih : (m : ℕ) → m < n → NodeOf isSignal p m → Free β (typesS (signalAt p m)) → HasType p m (typeS (signalAt p m))) where
+    sub : {m : ℕ} → Child isSignal p n m → Free β (typesS (signalAt p m)) → HasType p m (typeS (signalAt p m))
     sub {m} c h = ih m (c .less) (c .node) h
 
-    signal-at : (w : NodeOf isSignal p n) → SignalKind (kindAt p n) → typesS (signalAt p n) ≡ Nowhere → HasType p n (typeS (signalAt p n))
+    signal-at : (w : NodeOf isSignal p n) → SignalKind (kindAt p n) → Free β (typesS (signalAt p n)) → HasType p n (typeS (signalAt p n))
     unfolding typeS typesS
     signal-at w (is-input e) h = input-type e (sym (ap typeS (signal-input p n e)))
     signal-at w (is-time e) h = time-type e (sym (ap typeS (signal-time p n e)))
     signal-at w (is-ext e) h =
         subst (HasType p n) (sym (ap typeS (ext-tree p n w e)))
-        (ext-type e (has-type-e (aAt p n) (ext-kid p n w e .node) (subst (λ (x : Signal). typesS x ≡ Nowhere) (ext-tree p n w e) h)))
+        (ext-type e (has-type-e β (aAt p n) (omega (arith, ext-kid p n w e .less)) (ext-kid p n w e .node) (subst (λ (x : Signal). Free β (typesS x)) (ext-tree p n w e) h)))
     signal-at w (is-delay e) h =
-        let q = both _ _ (subst (λ (x : Signal). typesS x ≡ Nowhere) (delay-tree p n w e) h) in
+        let q = free-both _ _ (subst (λ (x : Signal). Free β (typesS x)) (delay-tree p n w e) h) in
         subst (HasType p n) (sym (ap typeS (delay-tree p n w e))) (delay-type e (sub (delay-kid p n w e) (q .1)))
     signal-at w (is-let e) h =
-        let q = both _ _ (both _ _ (subst (λ (x : Signal). typesS x ≡ Nowhere) (let-tree p n w e) h) .1) in
+        let q = free-both _ _ (free-both _ _ (subst (λ (x : Signal). Free β (typesS x)) (let-tree p n w e) h) .1) in
         subst (HasType p n) (sym (ap typeS (let-tree p n w e))) (let-type e (sub (let-kids p n w e .1) (q .1)))
     signal-at w (is-switch e) h =
-        let q = both _ _ (both _ _ (subst (λ (x : Signal). typesS x ≡ Nowhere) (switch-tree p n w e) h) .1) in
+        let q = free-both _ _ (free-both _ _ (subst (λ (x : Signal). Free β (typesS x)) (switch-tree p n w e) h) .1) in
         subst (HasType p n) (sym (ap typeS (switch-tree p n w e))) (switch-type e (sub (switch-kids p n w e .0) (q .0)))
     signal-at w (is-group e) h =
-        let q = both _ _ (both _ _ (subst (λ (x : Signal). typesS x ≡ Nowhere) (group-tree p n w e) h) .1) in
+        let q = free-both _ _ (free-both _ _ (subst (λ (x : Signal). Free β (typesS x)) (group-tree p n w e) h) .1) in
         subst (HasType p n) (sym (ap typeS (group-tree p n w e))) (group-type e (sub (group-kids p n w e .0) (q .0)))
     signal-at w (is-until e) h =
-        let q = both _ _ (subst (λ (x : Signal). typesS x ≡ Nowhere) (until-tree p n w e) h) in
+        let q = free-both _ _ (subst (λ (x : Signal). Free β (typesS x)) (until-tree p n w e) h) in
         subst (HasType p n) (sym (ap typeS (until-tree p n w e))) (until-type e (sub (until-kids p n w e .0) (q .0)))
 
-  signal-has : (g n : ℕ) → n < g → NodeOf isSignal p n → typesS (signalAt p n) ≡ Nowhere → HasType p n (typeS (signalAt p n))
-  signal-has zero n l w h = absurd (not-suc-le-zero l)
-  signal-has (suc g) n l w h = signal-at n (λ m i. signal-has g m (omega arith)) w (signal-kind (kindAt p n) (w .sorted)) h
+  signal-has : (β g n : ℕ) → n < g → n < β → NodeOf isSignal p n → Free β (typesS (signalAt p n)) → HasType p n (typeS (signalAt p n))
+  signal-has β zero n l i w h = absurd (not-suc-le-zero l)
+  signal-has β (suc g) n l i w h =
+      signal-at β n i (λ m j. signal-has β g m (omega arith) (omega arith)) w (signal-kind (kindAt p n) (w .sorted)) h
 
-  pub has-type-s : (n : ℕ) → NodeOf isSignal p n → typesS (signalAt p n) ≡ Nowhere → HasType p n (typeS (signalAt p n))
-  has-type-s n w h = signal-has (suc n) n (omega arith) w h
+  pub has-type-s : (β n : ℕ) → n < β → NodeOf isSignal p n → Free β (typesS (signalAt p n)) → HasType p n (typeS (signalAt p n))
+  has-type-s β n i w h = signal-has β (suc n) n (omega arith) i w h

@@ -1,4 +1,4 @@
--- Where every variable and every case is in scope by the way up, the definition finds no fault of scope on its way down.
+-- Where every variable and every case below a bound is in scope by the way up, the definition finds no fault of scope there on its way down.
 -- Assumes nothing.
 use mathlib.Core.Path.{_≡_, refl, sym, subst}
 use mathlib.Core.List.{[], _∷_}
@@ -14,15 +14,15 @@ use Rattle.rules.specs.Shape.{isChild}
 use Rattle.rules.specs.Shaped.{NodeOf}
 use Rattle.rules.specs.Tree.{Expr, Signal, Branches, Cases, exprAt, signalAt, branchesAt, casesAt}
 use Rattle.rules.specs.Scope.{Marks, mark, Offers, isOffered, scopeE, scopeS, scopeB, scopeC}
-use Rattle.rules.specs.declared.Place.the-variants.{Nowhere}
 use Rattle.rules.proofs.Static.{and-both, or-left}
 use Rattle.rules.proofs.Nodes.{expr-variable, expr-constant, signal-input, signal-time}
 use Rattle.rules.proofs.Kids.{Child}
 use Rattle.rules.proofs.Expressions.{IsOperation, negation-kid, negation-tree, just-kid, just-tree, choice-kids, choice-tree, taking-kids, taking-tree, operation-kids, operation-tree}
 use Rattle.rules.proofs.Signals.{ext-kid, ext-tree, delay-kid, delay-tree, let-kids, let-tree, switch-kids, switch-tree, group-kids, group-tree, until-kids, until-tree, branch-kid, branch-next, branch-end, branch-on, case-kid, case-next, case-end, case-on}
 use Rattle.rules.proofs.ByKind.{ExpressionKind, is-variable, is-constant, is-negation, is-choice, is-just, is-taking, is-operation, expression-kind, SignalKind, is-input, is-time, is-ext, is-delay, is-let, is-switch, is-group, is-until, signal-kind, choose, two-kids}
-use Rattle.declarative.specs.WayUp.{Above, by-a, by-b, by-c, BranchOf, InScope}
-use Rattle.declarative.proofs.Joining.{sooner-nowhere, right, or-false}
+use Rattle.declarative.specs.WayUp.{Above, by-a, by-b, by-c, BranchOf, ScopeRight}
+use Rattle.declarative.proofs.Free.{Free, free-nowhere, free-sooner, free-right}
+use Rattle.declarative.proofs.Joining.{or-false}
 use Rattle.declarative.proofs.Parents.{child-a, child-b, child-c, Table}
 use Rattle.declarative.proofs.Parts.{listed, Seen, Reached, ReachedC, binding, passing, no-binds, no-passes, no-arrives, switch-a, switch-b, branch-b, take-a, take-b, let-a, keep, more, stop, pass, arrive, its-cases, next-case}
 
@@ -44,19 +44,19 @@ is-10 : (p : Bytes) (n : ℕ) → NodeOf isCase p n → kindAt p n ≡ 10
 unfolding isCase
 is-10 p n w = eqb-true _ _ (w .sorted)
 
-module _ (p : Bytes) (t : Table p) (sc : InScope p) where
+module _ (p : Bytes) (t : Table p) (β : ℕ) (sc : (n : ℕ) → n < β → n < nodes p → ScopeRight p n) where
   -- What is to be shown of an expression, a signal, a branch and a case.
   abbrev E : ℕ → Type 0
-  E n = NodeOf isExpression p n → (M : Marks) → Seen p M n → scopeE M (exprAt p n) ≡ Nowhere
+  E n = NodeOf isExpression p n → (M : Marks) → Seen p M n → Free β (scopeE M (exprAt p n))
 
   abbrev S : ℕ → Type 0
-  S n = NodeOf isSignal p n → (M : Marks) (O : Offers) → Seen p M n → Reached p O n → scopeS M O (signalAt p n) ≡ Nowhere
+  S n = NodeOf isSignal p n → (M : Marks) (O : Offers) → Seen p M n → Reached p O n → Free β (scopeS M O (signalAt p n))
 
   abbrev B : ℕ → Type 0
-  B n = NodeOf isBranch p n → (M : Marks) (O : Offers) → Seen p M n → Reached p O n → scopeB M O (branchesAt p n) ≡ Nowhere
+  B n = NodeOf isBranch p n → (M : Marks) (O : Offers) → Seen p M n → Reached p O n → Free β (scopeB M O (branchesAt p n))
 
   abbrev C : ℕ → Type 0
-  C n = NodeOf isCase p n → (M : Marks) (O : Offers) → Seen p M n → ReachedC p O n → scopeC M O (casesAt p n) ≡ Nowhere
+  C n = NodeOf isCase p n → (M : Marks) (O : Offers) → Seen p M n → ReachedC p O n → Free β (scopeC M O (casesAt p n))
 
   module _ (n : ℕ) (l : n < nodes p) where
     -- A child by its field, in the marks of a node that does not bind there.
@@ -91,42 +91,42 @@ module _ (p : Bytes) (t : Table p) (sc : InScope p) where
 
   -- An expression, given this for smaller ones.
   module _ (n : ℕ) (ih : (m : ℕ) → m < n → E m) where
-    kid : {x : ℕ} → Child isExpression p n x → (M : Marks) → Seen p M x → scopeE M (exprAt p x) ≡ Nowhere
+    kid : {x : ℕ} → Child isExpression p n x → (M : Marks) → Seen p M x → Free β (scopeE M (exprAt p x))
     kid {x} c M s = ih x (c .less) (c .node) M s
 
     -- By its kind.
     expr-at : ExpressionKind (kindAt p n) → E n
     unfolding scopeE fieldsOf row isChild _and_ _or_
     expr-at (is-variable e) w M s =
-        subst (λ (x : Expr). scopeE M x ≡ Nowhere) (sym (expr-variable p n e)) (right n (s .all (aAt p n) (sc .variables n (w .inside) e)))
-    expr-at (is-constant e) w M s = subst (λ (x : Expr). scopeE M x ≡ Nowhere) (sym (expr-constant p n e)) refl
+        subst (λ (x : Expr). Free β (scopeE M x)) (sym (expr-variable p n e)) (free-right _ n (λ i. s .all (aAt p n) (sc n i (w .inside) .variable e)))
+    expr-at (is-constant e) w M s = subst (λ (x : Expr). Free β (scopeE M x)) (sym (expr-constant p n e)) free-nowhere
     expr-at (is-negation e) w M s =
         let k = negation-kid p n w e in
-        subst (λ (x : Expr). scopeE M x ≡ Nowhere) (sym (negation-tree p n w e)) (kid k M (keep-a n (w .inside) 24 e refl refl (k .less) M s))
+        subst (λ (x : Expr). Free β (scopeE M x)) (sym (negation-tree p n w e)) (kid k M (keep-a n (w .inside) 24 e refl refl (k .less) M s))
     expr-at (is-choice e) w M s =
         let k = choice-kids p n w e in
-        subst (λ (x : Expr). scopeE M x ≡ Nowhere) (sym (choice-tree p n w e))
-        (sooner-nowhere (kid (k .0) M (keep-a n (w .inside) 27 e refl refl (k .0 .less) M s))
-        (sooner-nowhere (kid (k .1) M (keep-b n (w .inside) 27 e refl refl (k .1 .less) M s))
+        subst (λ (x : Expr). Free β (scopeE M x)) (sym (choice-tree p n w e))
+        (free-sooner (kid (k .0) M (keep-a n (w .inside) 27 e refl refl (k .0 .less) M s))
+        (free-sooner (kid (k .1) M (keep-b n (w .inside) 27 e refl refl (k .1 .less) M s))
         (kid (k .2) M (keep-c n (w .inside) 27 e refl refl (k .2 .less) M s))))
     expr-at (is-just e) w M s =
         let k = just-kid p n w e in
-        subst (λ (x : Expr). scopeE M x ≡ Nowhere) (sym (just-tree p n w e)) (kid k M (keep-a n (w .inside) 28 e refl refl (k .less) M s))
+        subst (λ (x : Expr). Free β (scopeE M x)) (sym (just-tree p n w e)) (kid k M (keep-a n (w .inside) 28 e refl refl (k .less) M s))
     expr-at (is-taking e) w M s =
         let k = taking-kids p n w e in
         let l = w .inside in
-        subst (λ (x : Expr). scopeE M x ≡ Nowhere) (sym (taking-tree p n w e))
-        (sooner-nowhere
+        subst (λ (x : Expr). Free β (scopeE M x)) (sym (taking-tree p n w e))
+        (free-sooner
         (kid (k .0) M (keep p t n (aAt p n) l (k .0 .less) (by-a (child-a p n 29 e refl) refl) M (take-a p t n (aAt p n) l (k .0 .less) e refl) s))
-        (sooner-nowhere
+        (free-sooner
         (kid (k .1) M (keep p t n (bAt p n) l (k .1 .less) (by-b (child-b p n 29 e refl) refl) M (take-b p t n (bAt p n) l (k .1 .less) e refl) s))
         (kid (k .2) (mark M n) (more p t n (cAt p n) l (k .2 .less) (by-c (child-c p n 29 e refl) refl) M s))))
     expr-at (is-operation o) w M s =
         let k = operation-kids p n w o in
         let b = operation-binds (kindAt p n) (w .sorted) o in
         let two = two-kids (kindAt p n) (w .sorted) o in
-        subst (λ (x : Expr). scopeE M x ≡ Nowhere) (sym (operation-tree p n w o))
-        (sooner-nowhere (kid (k .0) M (keep-a n (w .inside) (kindAt p n) refl (two .first-kid) b (k .0 .less) M s))
+        subst (λ (x : Expr). Free β (scopeE M x)) (sym (operation-tree p n w o))
+        (free-sooner (kid (k .0) M (keep-a n (w .inside) (kindAt p n) refl (two .first-kid) b (k .0 .less) M s))
         (kid (k .1) M (keep-b n (w .inside) (kindAt p n) refl (two .second-kid) b (k .1 .less) M s)))
 
   -- Every expression.
@@ -141,35 +141,35 @@ module _ (p : Bytes) (t : Table p) (sc : InScope p) where
     cases : C n
 
   module _ (n : ℕ) (ih : (m : ℕ) → m < n → DownAt m) where
-    sub : {x : ℕ} → Child isSignal p n x → (M : Marks) (O : Offers) → Seen p M x → Reached p O x → scopeS M O (signalAt p x) ≡ Nowhere
+    sub : {x : ℕ} → Child isSignal p n x → (M : Marks) (O : Offers) → Seen p M x → Reached p O x → Free β (scopeS M O (signalAt p x))
     sub {x} c = ih x (c .less) .signals (c .node)
 
-    brs : {x : ℕ} → Child isBranch p n x → (M : Marks) (O : Offers) → Seen p M x → Reached p O x → scopeB M O (branchesAt p x) ≡ Nowhere
+    brs : {x : ℕ} → Child isBranch p n x → (M : Marks) (O : Offers) → Seen p M x → Reached p O x → Free β (scopeB M O (branchesAt p x))
     brs {x} c = ih x (c .less) .branches (c .node)
 
-    cs : {x : ℕ} → Child isCase p n x → (M : Marks) (O : Offers) → Seen p M x → ReachedC p O x → scopeC M O (casesAt p x) ≡ Nowhere
+    cs : {x : ℕ} → Child isCase p n x → (M : Marks) (O : Offers) → Seen p M x → ReachedC p O x → Free β (scopeC M O (casesAt p x))
     cs {x} c = ih x (c .less) .cases (c .node)
 
     -- A signal, by its kind.
     signal-at : SignalKind (kindAt p n) → S n
     unfolding scopeS isOffered fieldsOf row isChild _or_
-    signal-at (is-input e) w M O s r = subst (λ (x : Signal). scopeS M O x ≡ Nowhere) (sym (signal-input p n e)) refl
-    signal-at (is-time e) w M O s r = subst (λ (x : Signal). scopeS M O x ≡ Nowhere) (sym (signal-time p n e)) refl
+    signal-at (is-input e) w M O s r = subst (λ (x : Signal). Free β (scopeS M O x)) (sym (signal-input p n e)) free-nowhere
+    signal-at (is-time e) w M O s r = subst (λ (x : Signal). Free β (scopeS M O x)) (sym (signal-time p n e)) free-nowhere
     signal-at (is-ext e) w M O s r =
         let k = ext-kid p n w e in
-        subst (λ (x : Signal). scopeS M O x ≡ Nowhere) (sym (ext-tree p n w e))
+        subst (λ (x : Signal). Free β (scopeS M O x)) (sym (ext-tree p n w e))
         (expr-down (suc (aAt p n)) (aAt p n) (omega arith) (k .node) M (keep-a n (w .inside) 3 e refl refl (k .less) M s))
     signal-at (is-delay e) w M O s r =
         let k = delay-kid p n w e in
-        subst (λ (x : Signal). scopeS M O x ≡ Nowhere) (sym (delay-tree p n w e))
+        subst (λ (x : Signal). Free β (scopeS M O x)) (sym (delay-tree p n w e))
         (sub k M [] (keep-a n (w .inside) 4 e refl refl (k .less) M s) (stop-a n (w .inside) 4 e refl (λ z. omega arith) refl (k .less)))
     signal-at (is-let e) w M O s r =
         let k = let-kids p n w e in
         let l = w .inside in
         let ua : Above p n (aAt p n) = by-a (child-a p n 5 e refl) refl in
         let ub : Above p n (bAt p n) = by-b (child-b p n 5 e refl) refl in
-        subst (λ (x : Signal). scopeS M O x ≡ Nowhere) (sym (let-tree p n w e))
-        (sooner-nowhere
+        subst (λ (x : Signal). Free β (scopeS M O x)) (sym (let-tree p n w e))
+        (free-sooner
         (sub (k .0) (mark M n) [] (more p t n (aAt p n) l (k .0 .less) ua M s)
         (stop p t n (aAt p n) l (k .0 .less) ua [] (no-arrives p n (aAt p n) 5 e (λ z. omega arith)) (let-a p t n (aAt p n) l (k .0 .less) e refl)))
         (sub (k .1) (mark M n) O (more p t n (bAt p n) l (k .1 .less) ub M s)
@@ -177,12 +177,12 @@ module _ (p : Bytes) (t : Table p) (sc : InScope p) where
     signal-at (is-switch e) w M O s r =
         let k = switch-kids p n w e in
         let l = w .inside in
-        subst (λ (x : Signal). scopeS M O x ≡ Nowhere) (sym (switch-tree p n w e))
-        (sooner-nowhere
+        subst (λ (x : Signal). Free β (scopeS M O x)) (sym (switch-tree p n w e))
+        (free-sooner
         (sub (k .0) M []
         (keep p t n (aAt p n) l (k .0 .less) (by-a (child-a p n 6 e refl) refl) M (switch-a p t n (aAt p n) l (k .0 .less) e refl) s)
         (stop-a n l 6 e refl (λ z. omega arith) refl (k .0 .less)))
-        (sooner-nowhere
+        (free-sooner
         (sub (k .1) M []
         (keep p t n (bAt p n) l (k .1 .less) (by-b (child-b p n 6 e refl) refl) M (switch-b p t n (bAt p n) l (k .1 .less) e refl) s)
         (stop-b n l 6 e refl (λ z. omega arith) refl (k .1 .less)))
@@ -193,8 +193,8 @@ module _ (p : Bytes) (t : Table p) (sc : InScope p) where
         let l = w .inside in
         let own : Offers = branchesAt p (bAt p n) ∷ [] in
         let has : (j : ℕ) → BranchOf p j (bAt p n) → isOffered j own ≡ true = λ j b. or-left _ _ (listed p j (bAt p n) (k .1 .node) b) in
-        subst (λ (x : Signal). scopeS M O x ≡ Nowhere) (sym (group-tree p n w e))
-        (sooner-nowhere
+        subst (λ (x : Signal). Free β (scopeS M O x)) (sym (group-tree p n w e))
+        (free-sooner
         (sub (k .0) M own (keep-a n l 7 e refl refl (k .0 .less) M s)
         (arrive p t n (aAt p n) l (k .0 .less) (by-a (child-a p n 7 e refl) refl) own (no-passes p n (aAt p n) 7 e refl) has))
         (brs (k .1) M own (keep-b n l 7 e refl refl (k .1 .less) M s)
@@ -202,8 +202,8 @@ module _ (p : Bytes) (t : Table p) (sc : InScope p) where
     signal-at (is-until e) w M O s r =
         let k = until-kids p n w e in
         let l = w .inside in
-        subst (λ (x : Signal). scopeS M O x ≡ Nowhere) (sym (until-tree p n w e))
-        (sooner-nowhere
+        subst (λ (x : Signal). Free β (scopeS M O x)) (sym (until-tree p n w e))
+        (free-sooner
         (sub (k .0) M [] (keep-a n l 8 e refl refl (k .0 .less) M s) (stop-a n l 8 e refl (λ z. omega arith) refl (k .0 .less)))
         (cs (k .1) M O (keep-b n l 8 e refl refl (k .1 .less) M s)
         (its-cases p t n (bAt p n) l (k .1 .less) (by-b (child-b p n 8 e refl) refl) O e r)))
@@ -220,10 +220,10 @@ module _ (p : Bytes) (t : Table p) (sc : InScope p) where
         let body = sub k (mark M n) O (more p t n (aAt p n) l (k .less) ua M s)
         (pass p t n (aAt p n) l (k .less) ua O (no-arrives p n (aAt p n) 9 e (λ z. omega arith)) r) in
         choose (bAt p n) 65535
-        (λ q. subst (λ (x : Branches). scopeB M O x ≡ Nowhere) (sym (branch-end p n w q)) (sooner-nowhere body refl))
+        (λ q. subst (λ (x : Branches). Free β (scopeB M O x)) (sym (branch-end p n w q)) (free-sooner body free-nowhere))
         (λ d. let j = branch-next p n w d in
-        subst (λ (x : Branches). scopeB M O x ≡ Nowhere) (sym (branch-on p n w d))
-        (sooner-nowhere body
+        subst (λ (x : Branches). Free β (scopeB M O x)) (sym (branch-on p n w d))
+        (free-sooner body
         (brs j M O (keep p t n (bAt p n) l (j .less) ub M (branch-b p t n (bAt p n) l (j .less) e refl) s)
         (pass p t n (bAt p n) l (j .less) ub O (no-arrives p n (bAt p n) 9 e (λ z. omega arith)) r))))
 
@@ -234,14 +234,15 @@ module _ (p : Bytes) (t : Table p) (sc : InScope p) where
         let e = is-10 p n w in
         let l = w .inside in
         let k = case-kid p n w in
-        let g = sc .cases n l e in
-        let own = right n (r .all (g .until₀) (g .group₀) (cAt p n) (g .its-until) (g .its-group) (g .its-branch)) in
+        let own = free-right _ n λ i.
+        let g = sc n i l .case e in
+        r .all (g .until₀) (g .group₀) (cAt p n) (g .its-until) (g .its-group) (g .its-branch) in
         let event = sub k M [] (keep-a n l 10 e refl refl (k .less) M s) (stop-a n l 10 e refl (λ z. omega arith) refl (k .less)) in
         choose (bAt p n) 65535
-        (λ q. subst (λ (x : Cases). scopeC M O x ≡ Nowhere) (sym (case-end p n w q)) (sooner-nowhere own (sooner-nowhere event refl)))
+        (λ q. subst (λ (x : Cases). Free β (scopeC M O x)) (sym (case-end p n w q)) (free-sooner own (free-sooner event free-nowhere)))
         (λ d. let j = case-next p n w d in
-        subst (λ (x : Cases). scopeC M O x ≡ Nowhere) (sym (case-on p n w d))
-        (sooner-nowhere own (sooner-nowhere event
+        subst (λ (x : Cases). Free β (scopeC M O x)) (sym (case-on p n w d))
+        (free-sooner own (free-sooner event
         (cs j M O (keep-b n l 10 e refl refl (j .less) M s)
         (next-case p t n (bAt p n) l (j .less) (by-b (child-b p n 10 e refl) refl) O e r)))))
 
@@ -257,6 +258,6 @@ module _ (p : Bytes) (t : Table p) (sc : InScope p) where
       }
 
 -- The tree at a signal, in marks and offers that have all that the way up from it comes to.
-pub scope-down : (p : Bytes) → Table p → InScope p → (n : ℕ) → NodeOf isSignal p n → (M : Marks) (O : Offers) → Seen p M n → Reached p O n
-    → scopeS M O (signalAt p n) ≡ Nowhere
-scope-down p t sc n w M O s r = down-at p t sc (suc n) n (omega arith) .signals w M O s r
+pub scope-down : (p : Bytes) → Table p → (β : ℕ) → ((n : ℕ) → n < β → n < nodes p → ScopeRight p n) → (n : ℕ) → NodeOf isSignal p n
+    → (M : Marks) (O : Offers) → Seen p M n → Reached p O n → Free β (scopeS M O (signalAt p n))
+scope-down p t β sc n w M O s r = down-at p t β sc (suc n) n (omega arith) .signals w M O s r

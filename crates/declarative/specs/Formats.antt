@@ -24,11 +24,14 @@ unfoldable pub sumFrom : (ℕ → ℕ) → ℕ → ℕ → ℕ
 sumFrom f i zero = 0
 sumFrom f i (suc left) = f i + sumFrom f (suc i) left
 
--- "Bytes 0-1: block number from 0. Bytes 2-3: count of blocks. Bytes 508-511: the check, the sum of (i+1) times byte i for i = 0..507."
-pub record BlockRight (p : Bytes) (j : ℕ) : Type 0 where
+-- "Bytes 508-511: the check, the sum of (i+1) times byte i for i = 0..507."
+pub record SumRight (p : Bytes) (j : ℕ) : Type 0 where
+  pub check : checkIn p j ≡ sumFrom (λ i. (i + 1) * byteAt p (blockAt j + i)) 0 508
+
+-- "Bytes 0-1: block number from 0. Bytes 2-3: count of blocks."
+pub record NumberRight (p : Bytes) (j : ℕ) : Type 0 where
   pub number : numberIn p j ≡ j
   pub count : countIn p j ≡ blocks p
-  pub check : checkIn p j ≡ sumFrom (λ i. (i + 1) * byteAt p (blockAt j + i)) 0 508
 
 -- "Types: 1 unit, 2 bool, 3 int; 5, 6, 7 are maybe of these. Types 1-3 are plain."
 abbrev pub IsPlain : ℕ → Type 0
@@ -84,15 +87,20 @@ pub record NodeRight (p : Bytes) (r : ℕ) : Type 0 where
 abbrev pub AllZero : Bytes → ℕ → Type 0
 AllZero p r = (i : ℕ) → recordAt r ≤ i → i < recordAt r + 12 → byteAt p i ≡ 0
 
--- "Kind 0 stands only in the last block, not as its first record, and it and every later record are all zero."
+-- "Kind 0 stands only in the last block, not as its first record,
 pub record EndRight (p : Bytes) (r : ℕ) : Type 0 where
   pub last-block : suc (r / 42) ≡ blocks p
   pub not-first : r % 42 ≡ 0 → ⊥
-  pub zeros : (q : ℕ) → r ≤ q → q < records p → AllZero p q
+
+-- and it and every later record are all zero." Record r's own rule.
+pub record RecordRight (p : Bytes) (r : ℕ) : Type 0 where
+  pub end : kindAt p r ≡ 0 → EndRight p r
+  pub zeros : (q : ℕ) → q ≤ r → kindAt p q ≡ 0 → AllZero p r
+  pub node : (kindAt p r ≡ 0 → ⊥) → NodeRight p r
 
 -- Codes 1-4: every block and every record.
 pub record Formatted (p : Bytes) : Type 0 where
   pub whole : WholeBlocks p
-  pub each-block : (j : ℕ) → j < blocks p → BlockRight p j
-  pub each-end : (r : ℕ) → r < records p → kindAt p r ≡ 0 → EndRight p r
-  pub each-node : (r : ℕ) → r < records p → (kindAt p r ≡ 0 → ⊥) → NodeRight p r
+  pub each-sum : (j : ℕ) → j < blocks p → SumRight p j
+  pub each-number : (j : ℕ) → j < blocks p → NumberRight p j
+  pub each-record : (r : ℕ) → r < records p → RecordRight p r

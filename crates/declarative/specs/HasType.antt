@@ -43,22 +43,26 @@ pub record PlainType (p : Bytes) (n : ℕ) : Type 0 where
   pub has : HasType p n type
   pub plain : IsPlain type
 
+-- Node n's own rule: "The fault is at the node whose own rule breaks."
+pub record OwnTypeRight (p : Bytes) (n : ℕ) : Type 0 where
+  -- "Kinds 18-21 take ints, [22 and 23 too]; 24-26 take bool."
+  pub operation : (g h : ℕ) → Takes (kindAt p n) g h → HasType p (aAt p n) g × HasType p (bAt p n) g
+  pub negation : kindAt p n ≡ 24 → HasType p (aAt p n) boolT
+  -- "If takes a bool; the arms of if and of take have one type."
+  pub choice : kindAt p n ≡ 27 → HasType p (aAt p n) boolT × OneType p (bAt p n) (cAt p n)
+  -- "Just takes a plain type; take's a is maybe of its variable's type."
+  pub just : kindAt p n ≡ 28 → PlainType p (aAt p n)
+  pub taking : kindAt p n ≡ 29 → HasType p (aAt p n) (maybeOf (typeAt p n)) × OneType p (bAt p n) (cAt p n)
+  -- "Delay's signal has the first value's type." "A let's definition has its declared type."
+  pub delay : kindAt p n ≡ 4 → HasType p (aAt p n) (typeAt p n)
+  pub definition : kindAt p n ≡ 5 → HasType p (aAt p n) (typeAt p n)
+  -- "A switch's event is maybe of its variable's type, and first and second have one type."
+  pub switch : kindAt p n ≡ 6 → HasType p (bAt p n) (maybeOf (typeAt p n)) × OneType p (aAt p n) (cAt p n)
+  -- "All bodies of a group have one type (fault: at its let continue)."
+  pub group : kindAt p n ≡ 7 → (k : ℕ) → BranchOf p k (bAt p n) → OneType p (aAt p n) (aAt p k)
+  -- "A case's event is maybe of its target's argument type."
+  pub case : kindAt p n ≡ 10 → HasType p (aAt p n) (maybeOf (typeAt p (cAt p n)))
+
 -- Code 7: every node keeps its own rule.
 pub record TypesRight (p : Bytes) : Type 0 where
-  -- "Kinds 18-21 take ints, [22 and 23 too]; 24-26 take bool."
-  pub operations : (n : ℕ) → n < nodes p → (g h : ℕ) → Takes (kindAt p n) g h → HasType p (aAt p n) g × HasType p (bAt p n) g
-  pub nots : (n : ℕ) → n < nodes p → kindAt p n ≡ 24 → HasType p (aAt p n) boolT
-  -- "If takes a bool; the arms of if and of take have one type."
-  pub ifs : (n : ℕ) → n < nodes p → kindAt p n ≡ 27 → HasType p (aAt p n) boolT × OneType p (bAt p n) (cAt p n)
-  -- "Just takes a plain type; take's a is maybe of its variable's type."
-  pub justs : (n : ℕ) → n < nodes p → kindAt p n ≡ 28 → PlainType p (aAt p n)
-  pub takes : (n : ℕ) → n < nodes p → kindAt p n ≡ 29 → HasType p (aAt p n) (maybeOf (typeAt p n)) × OneType p (bAt p n) (cAt p n)
-  -- "Delay's signal has the first value's type." "A let's definition has its declared type."
-  pub delays : (n : ℕ) → n < nodes p → kindAt p n ≡ 4 → HasType p (aAt p n) (typeAt p n)
-  pub lets : (n : ℕ) → n < nodes p → kindAt p n ≡ 5 → HasType p (aAt p n) (typeAt p n)
-  -- "A switch's event is maybe of its variable's type, and first and second have one type."
-  pub switches : (n : ℕ) → n < nodes p → kindAt p n ≡ 6 → HasType p (bAt p n) (maybeOf (typeAt p n)) × OneType p (aAt p n) (cAt p n)
-  -- "All bodies of a group have one type."
-  pub groups : (n : ℕ) → n < nodes p → kindAt p n ≡ 7 → (k : ℕ) → BranchOf p k (bAt p n) → OneType p (aAt p n) (aAt p k)
-  -- "A case's event is maybe of its target's argument type."
-  pub cases : (n : ℕ) → n < nodes p → kindAt p n ≡ 10 → HasType p (aAt p n) (maybeOf (typeAt p (cAt p n)))
+  pub each : (n : ℕ) → n < nodes p → OwnTypeRight p n

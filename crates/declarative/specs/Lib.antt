@@ -10,3 +10,4 @@ pub mod HasType
 pub mod Meets
 pub mod MeetsTable
 pub mod Exactly
+pub mod Smallest

@@ -19,6 +19,10 @@ pub data NeedsAt (p : Bytes) (x : ℕ) : ℕ → Type 0 where
   itself : {n : ℕ} → kindAt p n ≡ 16 → aAt p n ≡ x → NeedsAt p x n
   a-child : {n : ℕ} (c : ℕ) → c < nodes p → Counted p n c → NeedsAt p x c → NeedsAt p x n
 
--- "A let's definition never needs the let's own variable at once."
+-- Node n's own rule: "A let's definition never needs the let's own variable at once."
+pub record LetRight (p : Bytes) (n : ℕ) : Type 0 where
+  pub ready : kindAt p n ≡ 5 → NeedsAt p n (aAt p n) → ⊥
+
+-- Code 8: every let.
 pub record LetsReady (p : Bytes) : Type 0 where
-  pub lets : (n : ℕ) → n < nodes p → kindAt p n ≡ 5 → NeedsAt p n (aAt p n) → ⊥
+  pub each : (n : ℕ) → n < nodes p → LetRight p n

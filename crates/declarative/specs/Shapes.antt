@@ -2,7 +2,7 @@
 -- Assumes nothing: these are definitions.
 use mathlib.Core.Path.{_≡_}
 use mathlib.Core.Logic.{_⊎_}
-use Prim.Native.Nat.{ℕ, suc, _-_, _≤_, _<_}
+use Prim.Native.Nat.{ℕ, suc, _≤_, _<_}
 use Rattle.rules.specs.Bytes.{Bytes}
 use Rattle.rules.specs.Layout.{nodes, kindAt, aAt, bAt, cAt, noNext}
 use Rattle.rules.specs.Kinds.{fieldsOf}
@@ -38,8 +38,14 @@ pub record ChildrenRight (p : Bytes) (n : ℕ) : Type 0 where
   pub b : ChildRight (fieldsOf (kindAt p n) .b) p n (bAt p n)
   pub c : ChildRight (fieldsOf (kindAt p n) .c) p n (cAt p n)
 
--- "A child's number is smaller than its parent's; each node but the last is named as a child exactly once; the last is a signal (kinds 1-8)."
+-- Node n's own rule: "A child's number is smaller than its parent's; each node but the last is named as a child exactly once; the last is a
+-- signal (kinds 1-8). A child out of range or of the wrong sort is a shape fault of its parent; being named never or twice is one of the
+-- node itself."
+pub record ShapeRight (p : Bytes) (n : ℕ) : Type 0 where
+  pub children : ChildrenRight p n
+  pub once : suc n < nodes p → named p n ≡ 1
+  pub last : suc n ≡ nodes p → IsSignal (kindAt p n)
+
+-- Code 5: every node keeps its own rule.
 pub record WellShaped (p : Bytes) : Type 0 where
-  pub children : (n : ℕ) → n < nodes p → ChildrenRight p n
-  pub once : (n : ℕ) → suc n < nodes p → named p n ≡ 1
-  pub last : IsSignal (kindAt p (nodes p - 1))
+  pub each : (n : ℕ) → n < nodes p → ShapeRight p n

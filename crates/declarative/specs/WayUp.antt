@@ -63,7 +63,11 @@ pub record TargetRight (p : Bytes) (n k : ℕ) : Type 0 where
   pub its-group : GroupOf p group₀ until₀
   pub its-branch : BranchOf p k (bAt p group₀)
 
--- Code 6: every variable (its a is its binder) and every case (its c is its target).
+-- Node n's own rule: a variable (its a is its binder) and a case (its c is its target) are in scope.
+pub record ScopeRight (p : Bytes) (n : ℕ) : Type 0 where
+  pub variable : kindAt p n ≡ 16 → Sees p (aAt p n) n
+  pub case : kindAt p n ≡ 10 → TargetRight p n (cAt p n)
+
+-- Code 6: every variable and every case.
 pub record InScope (p : Bytes) : Type 0 where
-  pub variables : (n : ℕ) → n < nodes p → kindAt p n ≡ 16 → Sees p (aAt p n) n
-  pub cases : (n : ℕ) → n < nodes p → kindAt p n ≡ 10 → TargetRight p n (cAt p n)
+  pub each : (n : ℕ) → n < nodes p → ScopeRight p n

@@ -1,1 +1,3 @@
-pub mod Demand
+pub mod Third
+pub mod Unplugged
+pub mod Parts

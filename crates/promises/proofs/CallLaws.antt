@@ -3,7 +3,7 @@
 -- Assumes nothing.
 use mathlib.Core.Path.{_≡_, refl, sym}
 use mathlib.Core.Bool.{Bool, true, false, not}
-use Prim.Native.Nat.{ℕ, _*_, _/_, _≤_}
+use Prim.Native.Nat.{ℕ, _*_, _/_, _%_, _≤_}
 use native.Mathlib.Omega.{arith}
 use lib.Dec.{eqb, leb}
 use lib.ListN.{length}
@@ -25,7 +25,7 @@ use Rattle.rules.proofs.Static.{and-both}
 use Rattle.rules.proofs.Verdicts.{both-fine, if-fine, fine-verdict}
 use Rattle.promises.specs.Small.{Small}
 use Rattle.promises.specs.Seated.{Seated}
-use Rattle.promises.specs.Run.{RunAnswers, lengths, ran, workIn}
+use Rattle.promises.specs.Run.{runVerdict, RunAnswers, lengths, ran, workIn}
 use Rattle.promises.specs.GoesOn.{State}
 use Rattle.promises.proofs.Runs.{run-from, run-ends-well, total-fits}
 
@@ -55,11 +55,13 @@ lengths-lent most h false true = refuse OutputLength (omega arith) (omega arith)
 lengths-lent most h false false = fine
 
 -- Run.
-run-outcome : (p st recs out : Bytes) → Accepted p → Seated p → wellFormed p st ≡ true → Small st → Small recs → (v : Verdict) → Lent 11 v
-    → (v ≡ Fine → length recs / inputLength ≤ 4096) → RunAnswers p st recs out (runOutcome p st recs out v)
+run-outcome : (p st recs out : Bytes) → Accepted p → Seated p → wellFormed p st ≡ true → Small st → Small recs → (v : Verdict)
+    → runVerdict p st recs out ≡ v → Lent 11 v → (v ≡ Fine → length recs / inputLength ≤ 4096)
+    → RunAnswers p st recs out (runOutcome p st recs out v)
 unfolding runOutcome
-run-outcome p st recs out acc seat well hs hr Fine fine few = ran (few refl) (run-from (length recs / inputLength) p recs acc seat hr 0 0 st out well hs)
-run-outcome p st recs out acc seat well hs hr (Refuse r) (refuse _ h g) few = lengths r h g refl
+run-outcome p st recs out acc seat well hs hr Fine e fine few =
+    ran e (few refl) (run-from (length recs / inputLength) p recs acc seat hr 0 0 st out well hs)
+run-outcome p st recs out acc seat well hs hr (Refuse r) e (refuse _ h g) few = lengths r e h g refl
 
 -- Records that are not refused are at most 4,096.
 at-most : (b : Bool) (n : ℕ) (w : Verdict) → (refuseIf (not (b and leb n 4096)) RecordsLength otherwise w) ≡ Fine → n ≤ 4096
@@ -72,14 +74,15 @@ at-most b n w e = leb-true n 4096 (and-both b _ (yes _ (if-fine _ _ (both-fine _
 -- Run, from a well-formed state.
 pub run-goes-on : (p st recs out : Bytes) → Accepted p → Seated p → wellFormed p st ≡ true → Small st → Small recs
     → RunAnswers p st recs out (runCall p st recs out)
-unfolding runCall
+unfolding runCall runVerdict
 run-goes-on p st recs out acc seat well hs hr =
-    rw (lent p st recs out _ acc well) (run-outcome p st recs out acc seat well hs hr _ (lengths-lent 11 (omega arith) _ _) (at-most _ _ _))
+    let e = lent p st recs out (eqb (length recs % inputLength) 0 and leb (length recs / inputLength) 4096) acc well in
+    rw e (run-outcome p st recs out acc seat well hs hr _ e (lengths-lent 11 (omega arith) _ _) (at-most _ _ _))
 
 -- A state is left a state.
 pub run-keeps : (p st recs out : Bytes) (o : RunOutcome) → State p st → RunAnswers p st recs out o → State p (o .state)
-run-keeps p st recs out o s (lengths r h g e) = rw e s
-run-keeps p st recs out o s (ran _ m) =
+run-keeps p st recs out o s (lengths r v h g e) = rw e s
+run-keeps p st recs out o s (ran _ _ m) =
     let f = run-ends-well (length recs / inputLength) p recs o 0 0 st out (s .well) (s .bytes) m in
     record { bytes = f .bytes; well = f .well }
 
@@ -87,7 +90,7 @@ run-keeps p st recs out o s (ran _ m) =
 pub run-total : (p st recs out : Bytes) (o : RunOutcome) → bound p ≤ 1008 * 1009 → State p st → RunAnswers p st recs out o
     → workIn (o .answer) ≤ 4294967295
 unfolding workIn
-run-total p st recs out o b s (lengths r h g e) = rw e (omega arith)
-run-total p st recs out o b s (ran few m) =
+run-total p st recs out o b s (lengths r v h g e) = rw e (omega arith)
+run-total p st recs out o b s (ran _ few m) =
     total-fits p (length recs / inputLength) (o .answer) few b
     (run-ends-well (length recs / inputLength) p recs o 0 0 st out (s .well) (s .bytes) m .answers)

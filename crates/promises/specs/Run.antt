@@ -2,16 +2,18 @@
 -- Assumes nothing: these are definitions.
 use mathlib.Core.Path.{_≡_}
 use mathlib.Core.Bool.{true}
-use Prim.Native.Nat.{ℕ, zero, suc, _+_, _*_, _/_, _<_, _≤_}
+use Prim.Native.Nat.{ℕ, zero, suc, _+_, _*_, _/_, _%_, _<_, _≤_}
+use lib.Dec.{eqb, leb}
 use lib.ListN.{length}
-use Rattle.rules.specs.Bytes.{Bytes, writeAt}
+use Rattle.rules.specs.Bytes.{Bytes, writeAt, _and_}
 use Rattle.rules.specs.Values.{valueBytes}
 use Rattle.rules.specs.Layout.{inputLength, inputAt}
 use Rattle.rules.specs.Answers.{codeOf, placeOf}
 use Rattle.rules.specs.WellFormed.{wellFormed}
 use Rattle.rules.specs.Bound.{bound}
-use Rattle.rules.specs.Calls.{RunOutcome, recordVerdict}
+use Rattle.rules.specs.Calls.{RunOutcome, lentVerdict, recordVerdict}
 use Rattle.rules.specs.declared.Refusal.{Refusal}
+use Rattle.rules.specs.declared.Verdict.{Verdict}
 use Rattle.rules.specs.declared.Verdict.the-variants.{Fine, Refuse}
 use Rattle.rules.specs.declared.Ran.{Ran}
 use Rattle.rules.specs.declared.Ran.the-variants.{Finished}
@@ -47,9 +49,14 @@ unfoldable pub workIn : Ran → ℕ
 workIn (Finished steps total) = total
 workIn (Ran.Refused r total) = total
 
--- A run's call: the lengths of records and output are refused (10, 11), and nothing is changed; or it is a run of all its records,
--- at most 4,096.
+-- A run's codes 1-11, in their order: it has 0 to 4,096 records of 40 bytes.
+unfoldable pub runVerdict : Bytes → Bytes → Bytes → Bytes → Verdict
+runVerdict p st recs out = lentVerdict p st recs out (eqb (length recs % inputLength) 0 and leb (length recs / inputLength) 4096)
+
+-- A run's call: the verdict on what it is lent refuses the length of records or output (10, 11), the run is refused so, and nothing is changed; or
+-- that verdict is fine, and it is a run of all its records, at most 4,096.
 pub data RunAnswers (p st recs out : Bytes) (o : RunOutcome) : Type 0 where
-  lengths : (r : Refusal) → 10 ≤ codeOf r → codeOf r ≤ 11 → o ≡ record { answer = Ran.Refused r 0; state = st; output = out }
+  lengths : (r : Refusal) → runVerdict p st recs out ≡ Refuse r → 10 ≤ codeOf r → codeOf r ≤ 11
+      → o ≡ record { answer = Ran.Refused r 0; state = st; output = out } → RunAnswers p st recs out o
+  ran : runVerdict p st recs out ≡ Fine → length recs / inputLength ≤ 4096 → RunMade p recs o (length recs / inputLength) 0 0 st out
       → RunAnswers p st recs out o
-  ran : length recs / inputLength ≤ 4096 → RunMade p recs o (length recs / inputLength) 0 0 st out → RunAnswers p st recs out o

@@ -1,17 +1,17 @@
 -- The readings that the paper gives to hold against, as rows: a program, records, and what the calls answer.
 -- Assumes nothing: these are definitions.
-use Prim.Native.Nat.{ℕ, _*_}
+use Prim.Native.Nat.{ℕ, _+_, _*_}
 use mathlib.Core.List.{List, [], _∷_, _++_}
 use lib.ListN.{length, replicate}
 use Rattle.rules.specs.Bytes.{Bytes, bytesOf, u64At}
-use Rattle.rules.specs.Values.{intT, maybeOf, unpacked, packed, valueBytes}
+use Rattle.rules.specs.Values.{boolT, intT, maybeOf, unpacked, packed, valueBytes}
 use Rattle.rules.specs.Layout.{noNext, noTime, stateLength}
 use Rattle.rules.specs.Calls.{checkCall, startCall, runCall}
-use Rattle.rules.specs.Samples.{minus, joined, program, quiet, event, twoEvents, input, ext, delay, letSignal, switch, letContinue, until, branch, case, variable, constant, add, divide}
+use Rattle.rules.specs.Samples.{minus, joined, program, quiet, event, twoEvents, stray, input, ext, delay, letSignal, switch, letContinue, until, branch, case, variable, constant, truth, operation, add, divide, negation, choice}
 use Rattle.rules.specs.declared.Value.{Value}
 use Rattle.rules.specs.declared.Value.the-variants.{Plain, Absent, Present}
 use Rattle.rules.specs.declared.Refusal.{Refusal}
-use Rattle.rules.specs.declared.Refusal.the-variants.{NotReady, InputFault}
+use Rattle.rules.specs.declared.Refusal.the-variants.{TypeFault, NotReady, InputFault}
 use Rattle.rules.specs.declared.Checked.{Checked}
 use Rattle.rules.specs.declared.Checked.the-variants.{Accepted}
 use Rattle.rules.specs.declared.Ran.{Ran}
@@ -295,9 +295,100 @@ rowTime = record {
       (stateOf 2147483647 []);
 }
 
--- The table.
+-- What each operation means, its operands told apart. (18, add: A and B. 21, divide: F and G.) ext (x op y), of two constants.
+abbrev pub operates : ℕ → ℕ → ℕ → Value → Row
+operates kind x y v =
+    let first : ℕ = 0 in let second : ℕ = 1 in let result : ℕ = 2 in
+    record {
+      program = program (constant x ∷ constant y ∷ operation kind first second ∷ ext result ∷ []);
+      records = quiet 0 ∷ [];
+      sight = expect (Accepted 4 0 5 intT) (made v 5 ∷ []) (Finished 1 5) (stateOf 0 []);
+    }
+
+-- 19: 5 from which 7 is taken is -2. 20: -3 times 5 is -15.
+abbrev pub rowSubtract : Row
+rowSubtract = operates 19 5 7 (int (minus 2))
+
+abbrev pub rowMultiply : Row
+rowMultiply = operates 20 (minus 3) 5 (int (minus 15))
+
+-- ext of a sum: 1000 if the operation holds of the first pair of constants, 100 if of the second, 10 if of the third, 1 if of the fourth. A
+-- pair's six nodes stand from a number on.
+abbrev pub pair : ℕ → ℕ → Bytes → Bytes → ℕ → List Bytes
+pair kind at x y worth =
+    x ∷ y ∷ operation kind at (at + 1) ∷ constant worth ∷ constant 0 ∷ choice (at + 2) (at + 3) (at + 4) ∷ []
+
+abbrev pub four : ℕ → Bytes → Bytes → Bytes → Bytes → Bytes → Bytes → Bytes → Bytes → ℕ → Row
+four kind x₁ y₁ x₂ y₂ x₃ y₃ x₄ y₄ sum = record {
+  program = program (
+      pair kind 0 x₁ y₁ 1000
+      ++ pair kind 6 x₂ y₂ 100
+      ++ pair kind 12 x₃ y₃ 10
+      ++ pair kind 18 x₄ y₄ 1
+      ++ (add 5 11 ∷ add 17 23 ∷ add 24 25 ∷ ext 26 ∷ [])
+      );
+  records = quiet 0 ∷ [];
+  sight = expect (Accepted 28 0 25 intT) (made (int sum) 25 ∷ []) (Finished 1 25) (stateOf 0 []);
+}
+
+-- 22: -1 is less than 0; 0 is not less than -1, nor 5 than 5; -2147483648 is less than 2147483647.
+abbrev pub rowLess : Row
+rowLess =
+    four 22 (constant (minus 1)) (constant 0) (constant 0) (constant (minus 1)) (constant 5) (constant 5)
+    (constant (minus 2147483648)) (constant 2147483647) 1001
+
+-- 23: 5 is equal to 5; 5 is not equal to 6, nor 6 to 5; -1 is equal to -1.
+abbrev pub rowEqual : Row
+rowEqual =
+    four 23 (constant 5) (constant 5) (constant 5) (constant 6) (constant 6) (constant 5) (constant (minus 1)) (constant (minus 1)) 1001
+
+-- 25 and 26: both true, the first, the second, neither.
+abbrev pub rowAnd : Row
+rowAnd = four 25 (truth 1) (truth 1) (truth 1) (truth 0) (truth 0) (truth 1) (truth 0) (truth 0) 1000
+
+abbrev pub rowOr : Row
+rowOr = four 26 (truth 1) (truth 1) (truth 1) (truth 0) (truth 0) (truth 1) (truth 0) (truth 0) 1110
+
+-- 24: ext (if not false then not true else true) is false.
+abbrev pub rowNot : Row
+rowNot = record {
+  program = program (truth 0 ∷ negation 0 ∷ truth 1 ∷ negation 2 ∷ truth 1 ∷ choice 1 3 4 ∷ ext 5 ∷ []);
+  records = quiet 0 ∷ [];
+  sight = expect (Accepted 7 0 7 boolT) (made (Plain boolT 0) 7 ∷ []) (Finished 1 7) (stateOf 0 []);
+}
+
+-- Two faults of type, node 1 and node 3, each a not of an int: code 7 at the smaller, whichever of the two is met first.
+abbrev pub twoFaults : ℕ → ℕ → Row
+twoFaults first second =
+    let one : ℕ = 0 in let other : ℕ = 2 in let joint : ℕ = 4 in
+    record {
+      program = program (constant 1 ∷ negation one ∷ constant 1 ∷ negation other ∷ operation 25 first second ∷ ext joint ∷ []);
+      records = [];
+      sight = expect (Checked.Refused (TypeFault 1)) [] (Ran.Refused (TypeFault 1) 0) (0 ∷ 0 ∷ 0 ∷ 0 ∷ []);
+    }
+
+abbrev pub rowSmallerFirst : Row
+rowSmallerFirst = twoFaults 1 3
+
+abbrev pub rowSmallerLast : Row
+rowSmallerLast = twoFaults 3 1
+
+-- A word that is not zero on a channel that is absent, each of 4-7: code 12.
+abbrev pub rowAbsent : Row
+rowAbsent =
+    let no₀ : Step = refused (InputFault 0) in
+    record {
+      program = inputOnly;
+      records =
+          stray (1 ∷ 0 ∷ 0 ∷ 0 ∷ []) ∷ stray (0 ∷ 1 ∷ 0 ∷ 0 ∷ []) ∷ stray (0 ∷ 0 ∷ 1 ∷ 0 ∷ []) ∷ stray (0 ∷ 0 ∷ 0 ∷ 1 ∷ []) ∷ [];
+      sight = expect (Accepted 1 0 2 intT) (no₀ ∷ no₀ ∷ no₀ ∷ no₀ ∷ []) (Ran.Refused (InputFault 0) 0) (stateOf noTime []);
+    }
+
+-- The table: the paper's readings, and rows that tell each operation, the smallest place and the absent words.
 abbrev pub readings : List Row
-readings = rowA ∷ rowB ∷ rowC ∷ rowD ∷ rowE ∷ rowF ∷ rowFnorth ∷ rowFboth ∷ rowFlowest ∷ rowG ∷ rowH ∷ rowI ∷ rowTime ∷ []
+readings =
+    rowA ∷ rowB ∷ rowC ∷ rowD ∷ rowE ∷ rowF ∷ rowFnorth ∷ rowFboth ∷ rowFlowest ∷ rowG ∷ rowH ∷ rowI ∷ rowTime
+    ∷ rowSubtract ∷ rowMultiply ∷ rowLess ∷ rowEqual ∷ rowNot ∷ rowAnd ∷ rowOr ∷ rowSmallerFirst ∷ rowSmallerLast ∷ rowAbsent ∷ []
 
 -- Every row is seen as it should be.
 abbrev pub sights : List Row → List Seen

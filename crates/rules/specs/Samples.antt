@@ -5,7 +5,7 @@ use mathlib.Core.List.{List, [], _∷_, _++_}
 use mathlib.Core.Option.{Option, none, some}
 use lib.ListN.{length, take, drop, replicate}
 use Rattle.rules.specs.Bytes.{Bytes, bytesOf}
-use Rattle.rules.specs.Values.{intT}
+use Rattle.rules.specs.Values.{boolT, intT}
 use Rattle.rules.specs.Format.{checkOf}
 
 -- The word of a negative number.
@@ -53,11 +53,25 @@ variable binder = node 16 0 binder 0 0 0
 abbrev pub constant : ℕ → Bytes
 constant w = node 17 intT 0 1 0 w
 
+-- A constant bool: 1 is true.
+abbrev pub truth : ℕ → Bytes
+truth w = node 17 boolT 0 1 0 w
+
+-- An operation of two operands, by its kind; not, and if.
+abbrev pub operation : ℕ → ℕ → ℕ → Bytes
+operation kind x y = node kind 0 x y 0 0
+
 abbrev pub add : ℕ → ℕ → Bytes
-add x y = node 18 0 x y 0 0
+add x y = operation 18 x y
 
 abbrev pub divide : ℕ → ℕ → Bytes
-divide x y = node 21 0 x y 0 0
+divide x y = operation 21 x y
+
+abbrev pub negation : ℕ → Bytes
+negation x = node 24 0 x 0 0 0
+
+abbrev pub choice : ℕ → ℕ → ℕ → Bytes
+choice test x y = node 27 0 test x y 0
 
 abbrev pub joined : List Bytes → Bytes
 joined [] = []
@@ -105,3 +119,7 @@ event t x = reading t (0 ∷ 0 ∷ 0 ∷ 0 ∷ []) (some x ∷ none ∷ none ∷
 
 abbrev pub twoEvents : ℕ → ℕ → ℕ → Bytes
 twoEvents t x y = reading t (0 ∷ 0 ∷ 0 ∷ 0 ∷ []) (some x ∷ some y ∷ none ∷ none ∷ [])
+
+-- A record with no event whose channels 4-7 have these words all the same.
+abbrev pub stray : List ℕ → Bytes
+stray absent = bytesOf 4 0 ++ words (0 ∷ 0 ∷ 0 ∷ 0 ∷ []) ++ 0 ∷ 0 ∷ 0 ∷ 0 ∷ words absent

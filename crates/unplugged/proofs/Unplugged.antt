@@ -10,7 +10,7 @@ use lib.Dec.{eqb, leb}
 use lib.ListN.{length}
 use borrow.Author.Tests.{eqb-true}
 use Rattle.rules.specs.Bytes.{Bytes, writeAt, if_then_else_, _and_}
-use Rattle.rules.specs.Layout.{nodes, inputLength, inputAt, timeIn, lastTime}
+use Rattle.rules.specs.Layout.{nodes, inputLength, inputAt, timeIn, lastTime, channelValue}
 use Rattle.rules.specs.Tree.{root}
 use Rattle.rules.specs.Update.{stepOf}
 use Rattle.rules.specs.Calls.{_otherwise_, refuseIf, programVerdict, lentVerdict, inputWrong, timeWrong, recordVerdict, RunOutcome, runFrom, runOutcome, runCall}
@@ -30,12 +30,17 @@ use Rattle.unplugged.proofs.FromTable.{root-each}
 
 -- Alike records make the same step.
 alike-step : (p st rec₁ rec₂ : Bytes) → 0 < nodes p → Alike p rec₁ rec₂ → stepOf p rec₁ st ≡ stepOf p rec₂ st
-alike-step p st rec₁ rec₂ h a = step-same rec₁ rec₂ (a .moment) p st (root-each p _ h (a .channels))
+alike-step p st rec₁ rec₂ h a =
+    step-same rec₁ rec₂ (a .moment) p st
+    (root-each p (λ c. channelValue rec₁ c ≡ channelValue rec₂ c) h λ i l k. a .channels i (omega (arith, l)) k)
 
 -- And are refused alike.
 alike-verdict : (p : Bytes) (done : ℕ) (st rec₁ rec₂ : Bytes) → Alike p rec₁ rec₂ → recordVerdict done st rec₁ ≡ recordVerdict done st rec₂
 unfolding recordVerdict timeWrong
-alike-verdict p done st rec₁ rec₂ a = rw (a .well₁, a .well₂, a .moment)
+alike-verdict p done st rec₁ rec₂ a =
+    let first : inputWrong rec₁ ≡ false = a .well₁ in
+    let second : inputWrong rec₂ ≡ false = a .well₂ in
+    rw (first, second, a .moment)
 
 -- So a run cannot tell them apart.
 alike : (p rec₁ rec₂ : Bytes) (k : ℕ) → 0 < nodes p → Alike p rec₁ rec₂ → SameRecord p k rec₁ rec₂

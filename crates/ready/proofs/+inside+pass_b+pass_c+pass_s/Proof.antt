@@ -1,7 +1,7 @@
 -- Each arm is what is found in a signal of its kind, from what is found in its parts; a let's mark is put back.
 use Rattle.rules.proofs.PutBack.{put-back}
 use Rattle.places.proofs.NumberLaws.{no-place}
-use Rattle.rules.specs.Layout.{aAt, bAt}
+use Rattle.rules.specs.Layout.{aAt}
 use mathlib.Core.Path.{refl, sym, ap, _∙_}
 use native.Mathlib.Omega.{arith}
 use borrow.Author.Needs.{needs}
@@ -14,8 +14,9 @@ use Rattle.rules.specs.Tree.{signalAt}
 use Rattle.ready.specs.Regions.{markedIn}
 use Rattle.ready.specs.Found.{Lets, foundS}
 use Rattle.ready.proofs.RegionLaws.{entered, apart, marked, marked-entered}
+use Rattle.ready.proofs.PassLaws.{delay-passed, switch-passed}
 use Rattle.ready.proofs.ReadyLaws.{case-last-ready, case-more-ready}
-use Rattle.ready.proofs.FoundLaws.{input-found, time-found, ext-found, delay-found, let-found, switch-found, group-found, until-found, branch-last-found, branch-more-found}
+use Rattle.ready.proofs.FoundLaws.{input-found, time-found, ext-found, let-found, group-found, until-found, branch-last-found, branch-more-found}
 use Prim.Native.Nat.{ℕ, _<_}
 use borrow.Fn.Kinds.{In}
 use borrow.Fn.PlainCycle.{Measures, is, falls, and}
@@ -274,7 +275,10 @@ pass-s-returns-2 t c = (cc (ext-found (c .before .before .before .before .before
 
 -- src/lib.rt:83:1
 pass-s-returns-3 : (t : ℕ) → pass-s-lts.Need-returns-3 (pass-s-calls t) (pass-s-at t) pass-s.Post
-pass-s-returns-3 t c = (cc (delay-found (c .before .before .before .before .before .before .args .p .now .now) (c .before .before .before .before .before .before .args .i) (c .before .before .before .before .before .before .pre .1 .node) (markedIn (c .before .before .before .before .before .before .args .marks .now) (c .before .before .before .before .before .before .args .region)) (sym (c .before .before .before .before .node .ensures .kind-is) ∙ c .before .before .before .match .keys3), apart (c .before .before .before .before .before .before .pre .1) ((delay-kid (c .before .before .before .before .before .before .args .p .now .now) (c .before .before .before .before .before .before .args .i) (c .before .before .before .before .before .before .pre .1 .node) (sym (c .before .before .before .before .node .ensures .kind-is) ∙ c .before .before .before .match .keys3)) .less) (signalAt (c .before .before .before .before .before .before .args .p .now .now) (aAt (c .before .before .before .before .before .before .args .p .now .now) (c .before .before .before .before .before .before .args .i)))), c .pass-s .ensures .1)
+pass-s-returns-3 t c =
+    let s = c .before .before .before .before .before .before in
+    let n = c .before .before .before .before .node .ensures in
+    (delay-passed (s .pre .1) (sym (n .kind-is) ∙ c .before .before .before .match .keys3) (n .a-is) (c .pass-s .ensures .0), c .pass-s .ensures .1)
 
 -- src/lib.rt:83:1
 pass-s-returns-4 : (t : ℕ) → pass-s-lts.Need-returns-4 (pass-s-calls t) (pass-s-at t) pass-s.Post
@@ -282,7 +286,16 @@ pass-s-returns-4 t c = (cc (let-found (c .before .before .before .before .before
 
 -- src/lib.rt:83:1
 pass-s-returns-5 : (t : ℕ) → pass-s-lts.Need-returns-5 (pass-s-calls t) (pass-s-at t) pass-s.Post
-pass-s-returns-5 t c = (cc (switch-found (c .before .before .before .before .before .before .before .before .before .before .before .before .args .p .now .now) (c .before .before .before .before .before .before .before .before .before .before .before .before .args .i) (c .before .before .before .before .before .before .before .before .before .before .before .before .pre .1 .node) (markedIn (c .before .before .before .before .before .before .before .before .before .before .before .before .args .marks .now) (c .before .before .before .before .before .before .before .before .before .before .before .before .args .region)) (sym (c .before .before .before .before .before .before .before .before .before .before .node .ensures .kind-is) ∙ c .before .before .before .before .before .before .before .before .before .match .keys5), apart (c .before .before .before .before .before .before .before .before .before .before .before .before .pre .1) ((switch-kids (c .before .before .before .before .before .before .before .before .before .before .before .before .args .p .now .now) (c .before .before .before .before .before .before .before .before .before .before .before .before .args .i) (c .before .before .before .before .before .before .before .before .before .before .before .before .pre .1 .node) (sym (c .before .before .before .before .before .before .before .before .before .before .node .ensures .kind-is) ∙ c .before .before .before .before .before .before .before .before .before .match .keys5) .1) .less) (signalAt (c .before .before .before .before .before .before .before .before .before .before .before .before .args .p .now .now) (bAt (c .before .before .before .before .before .before .before .before .before .before .before .before .args .p .now .now) (c .before .before .before .before .before .before .before .before .before .before .before .before .args .i)))), c .before .before .pass-s5 .ensures .1 ∙ c .before .before .before .before .pass-s4 .ensures .1 ∙ c .before .before .before .before .before .before .before .pass-s3 .ensures .1)
+pass-s-returns-5 t c =
+    let s = c .before .before .before .before .before .before .before .before .before .before .before .before in
+    let n = c .before .before .before .before .before .before .before .before .before .before .node .ensures in
+    let x = c .before .before .before .before .before .before .before .pass-s3 .ensures in
+    let v = c .before .before .before .before .pass-s4 .ensures in
+    let y = c .before .before .pass-s5 .ensures in
+    let e = sym (n .kind-is) ∙ c .before .before .before .before .before .before .before .before .before .match .keys5 in (
+      switch-passed (s .pre .1) e (n .a-is) (n .b-is) (n .c-is) (x .1) (v .1 ∙ x .1) (x .0) (v .0) (y .0) (c .before .sooner2 .ensures) (c .sooner3 .ensures),
+      y .1 ∙ v .1 ∙ x .1,
+    )
 
 -- src/lib.rt:83:1
 pass-s-returns-6 : (t : ℕ) → pass-s-lts.Need-returns-6 (pass-s-calls t) (pass-s-at t) pass-s.Post

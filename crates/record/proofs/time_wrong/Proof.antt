@@ -1,4 +1,4 @@
-use Rattle.rules.specs.Calls.{timeWrong}
+use Rattle.record.proofs.TimeLaws.{time-back}
 use borrow.Author.Needs.{needs}
 use Rattle.record.proofs.time_wrong.Statement.{statement}
 use Rattle.record.proofs.time_wrong.Tie as tie
@@ -22,8 +22,7 @@ both-requires c κs = search needs
 
 -- src/lib.rt:58:1
 returns : tie.Need-returns
-unfolding timeWrong
-returns c = cc
+returns c = time-back _ _ (c .before .before .last-time .ensures) (c .before .time-of .ensures) (c .both .ensures)
 
 pub time-wrong-spec : {M : Type 1} → statement M
 time-wrong-spec = tie.close (tie.spec last-time-requires time-of-requires both-requires returns)

@@ -27,21 +27,19 @@ hold-requires c κs =
 resets-requires : tie.Need-resets-requires
 resets-requires c κs =
     let s = c .before .before .before .before .before .before .before .before .before .before .before in
-    record {
-      node = read (s .pre .0 .fields .a-is) (switch-kids (s .args .p .now .now) (s .args .i) (s .pre .0 .node) (s .pre .0 .kind) .0) .node;
-      indexed = s .pre .0 .table;
-      enough = omega (arith, s .pre .0 .cells, c .before .before .before .before .hold .kept .1 .0);
-    }
+    let kids = switch-kids (s .args .p .now .now) (s .args .i) (s .pre .0 .node) (s .pre .0 .kind) in
+    let first = read (s .pre .0 .fields .a-is) (kids .0) .node in
+    let second = read (s .pre .0 .fields .c-is) (kids .2) .node in
+    record { node = search needs; indexed = s .pre .0 .table; enough = omega (arith, s .pre .0 .cells, c .before .before .before .before .hold .kept .1 .0) }
 
 -- src/lib.rt:57:9
 resets-requires-2 : tie.Need-resets-requires-2
 resets-requires-2 c κs =
     let s = c .before .before .before .before .before .before .before .before .before .before .before in
-    record {
-      node = read (s .pre .0 .fields .c-is) (switch-kids (s .args .p .now .now) (s .args .i) (s .pre .0 .node) (s .pre .0 .kind) .2) .node;
-      indexed = s .pre .0 .table;
-      enough = omega (arith, s .pre .0 .cells, c .before .before .before .before .hold .kept .1 .0);
-    }
+    let kids = switch-kids (s .args .p .now .now) (s .args .i) (s .pre .0 .node) (s .pre .0 .kind) in
+    let first = read (s .pre .0 .fields .a-is) (kids .0) .node in
+    let second = read (s .pre .0 .fields .c-is) (kids .2) .node in
+    record { node = search needs; indexed = s .pre .0 .table; enough = omega (arith, s .pre .0 .cells, c .before .before .before .before .hold .kept .1 .0) }
 
 -- src/lib.rt:48:1
 same-length : tie.Need-same-length

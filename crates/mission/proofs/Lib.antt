@@ -1,0 +1,10 @@
+pub mod Traces
+pub mod Records
+pub mod Outcomes
+pub mod Refusals
+pub mod Third
+pub mod Firsts
+pub mod Demands
+pub mod Fixes
+pub mod Wrong
+pub mod CanBeLent

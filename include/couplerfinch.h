@@ -19,6 +19,20 @@
 extern "C" {
 #endif
 
+/* The version of this header and of the library; host/rust and tables version have the same. */
+#define COUPLERFINCH_VERSION "1.0.0"
+
+/* A record, 40 bytes (docs/FORMAT.md has them all, and a function that makes one). Numbers are little-endian.
+ *
+ *   0-3                  time in milliseconds, 0 to 2,147,483,647; never before the last record's, equal is allowed
+ *   4-7 8-11 12-15 16-19 channels 0 to 3, steady readings, signed
+ *   20                   flags: bits 0 to 3 are set where an event came on channels 4 to 7; bits 4 to 7 zero
+ *   21-23                zero
+ *   24-27 .. 36-39       the events' numbers, channels 4 to 7, signed; zero where none came
+ *
+ * A value, 8 bytes: type (1 unit, 2 bool, 3 int; 5, 6, 7 maybe of these), present (1, or 0 for an absent maybe), two zero bytes, the number.
+ */
+
 /* A program is 1 to 24 blocks; an input record has 40 bytes and the value of a step 8; a run has 0 to 4,096 records. */
 #define COUPLERFINCH_BLOCK 512u
 #define COUPLERFINCH_BLOCKS 24u
@@ -31,7 +45,7 @@ extern "C" {
 #define COUPLERFINCH_STATE(cells) (4u + 8u * (size_t)(cells))
 #define COUPLERFINCH_LONGEST_STATE COUPLERFINCH_STATE(COUPLERFINCH_NODES)
 
-/* The codes. (14 was one, and is not used again.) */
+/* The codes; docs/CODES.md says what each means, where its place is and what to do. */
 #define COUPLERFINCH_DONE 0u
 #define COUPLERFINCH_PROGRAM_LENGTH 1u
 #define COUPLERFINCH_CHECK_SUM 2u

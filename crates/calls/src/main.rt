@@ -1,6 +1,6 @@
 // Answers a stream of requests to the four calls on standard input: see second/README.md, `calls serve`.
 mod answer;
-mod rooms;
+mod lent;
 
 use feed::Place;
 use wire::Request;
@@ -36,7 +36,7 @@ fn serve_one(
     room: &mut [u8],
     out: &mut [u8],
 ) -> After {
-    let filled = rooms::read(request, place, input, program, state, records, room);
+    let filled = lent::read(request, place, input, program, state, records, room);
     if !filled.whole {
         return no_request(full, out);
     }

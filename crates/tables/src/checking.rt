@@ -1,4 +1,5 @@
-// tables check FILE: the first line of watchrun, or REFUSED.
+// tables check FILE: the first line of watchrun and the channels that the table names; or a refusal in words, and then REFUSED.
+use crate::codes;
 use crate::files::argument;
 use crate::say;
 use rules::Checked;
@@ -10,11 +11,14 @@ pub fn check() {
     if !got.whole {
         return;
     }
-    match watch::check(feed::first(&program, got.count)) {
+    let table = feed::first(&program, got.count);
+    match watch::check(table) {
         Checked::Accepted(n, held, bound, ty) => {
             say::accepted(n, held, bound, ty);
+            say::channels(channels::named_channels(table));
         }
         Checked::Refused(r) => {
+            codes::told(table, r);
             say::refused(r);
         }
     }

@@ -1,5 +1,6 @@
 // tables WORD ARGUMENTS: the commands over tables. A further command is a module with one public function, a test in `chosen` and a line of help.
 mod checking;
+mod codes;
 mod files;
 mod say;
 
@@ -7,6 +8,10 @@ mod say;
 fn chosen(word: &[u8]) {
     if check::same(word, b"check") {
         checking::check();
+        return;
+    }
+    if check::same(word, b"version") {
+        say::version();
         return;
     }
     if check::same(word, b"help") {

@@ -1,8 +1,8 @@
 // The lines.
 use rules::Refusal;
 
-// Writes a line, or says on standard error that it is lost.
-fn put(line: &[u8]) -> bool {
+// Writes a line, or a part of one, or says on standard error that it is lost.
+pub(crate) fn put(line: &[u8]) -> bool {
     let is_written = io::write_all(libc::STDOUT_FILENO, line);
     if !is_written {
         os::fail(b"tables: standard output");
@@ -16,6 +16,13 @@ pub fn accepted(n: u32, held: u32, bound: u32, ty: u8) -> bool {
     put(&line[..k])
 }
 
+// The channels that a table names, a bit a channel.
+pub fn channels(bits: u8) -> bool {
+    let mut line = [0u8; 64];
+    let k = lines::channels_line(bits, &mut line);
+    put(&line[..k])
+}
+
 pub fn refused(r: Refusal) -> bool {
     let mut line = [0u8; 64];
     let k = lines::refused_line(r, &mut line);
@@ -23,7 +30,18 @@ pub fn refused(r: Refusal) -> bool {
 }
 
 pub fn help() -> bool {
-    put(b"tables check FILE\ntables help\n")
+    put(
+        b"tables check FILE      checks a table, and prints the channels that it names; - is standard input
+tables run             prints a run of blocks and records on standard input, as watchrun does
+tables version         prints the version
+tables help            prints this
+",
+    )
+}
+
+// The version stands in include/couplerfinch.h; tools/hosts holds this line against it.
+pub fn version() -> bool {
+    put(b"couplerfinch 1.0.0\n")
 }
 
 pub fn no_command() {

@@ -10,7 +10,7 @@ use lib.Dec.{eqb, leb}
 use lib.ListN.{length}
 use borrow.Author.Tests.{eqb-true}
 use Rattle.rules.specs.Bytes.{Bytes, writeAt, if_then_else_, _and_}
-use Rattle.rules.specs.Layout.{nodes, inputLength, inputAt, timeIn, lastTime, channelValue}
+use Rattle.rules.specs.Layout.{nodes, aAt, inputLength, inputAt, timeIn, lastTime, channelValue}
 use Rattle.rules.specs.Tree.{root}
 use Rattle.rules.specs.Update.{stepOf}
 use Rattle.rules.specs.Calls.{_otherwise_, refuseIf, programVerdict, lentVerdict, inputWrong, timeWrong, recordVerdict, RunOutcome, runFrom, runOutcome, runCall}
@@ -32,7 +32,8 @@ use Rattle.unplugged.proofs.FromTable.{root-each}
 alike-step : (p st rec₁ rec₂ : Bytes) → 0 < nodes p → Alike p rec₁ rec₂ → stepOf p rec₁ st ≡ stepOf p rec₂ st
 alike-step p st rec₁ rec₂ h a =
     step-same rec₁ rec₂ (a .moment) p st
-    (root-each p (λ c. channelValue rec₁ c ≡ channelValue rec₂ c) h λ i l k. a .channels i (omega (arith, l)) k)
+    (root-each p (λ c. channelValue rec₁ c ≡ channelValue rec₂ c) h
+    λ i l e. a .channels (aAt p i) (record { node = i; within = omega (arith, l); input = e; channel = refl }))
 
 -- And are refused alike.
 alike-verdict : (p : Bytes) (done : ℕ) (st rec₁ rec₂ : Bytes) → Alike p rec₁ rec₂ → recordVerdict done st rec₁ ≡ recordVerdict done st rec₂

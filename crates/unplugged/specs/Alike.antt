@@ -9,13 +9,20 @@ use Rattle.rules.specs.Layout.{nodes, kindAt, aAt, inputLength, inputAt, timeIn
 use Rattle.rules.specs.Calls.{inputWrong, RunOutcome}
 use Rattle.rules.specs.declared.Ran.the-variants.{Finished}
 
--- Both records are well-formed, their times are equal, and they agree on every channel that some input node (kind 1) names: such a channel
--- gives the same value in both.
+-- Some input node (kind 1) names channel k.
+pub record Names (p : Bytes) (k : ℕ) : Type 0 where
+  pub node : ℕ
+  pub within : node < nodes p
+  pub input : kindAt p node ≡ 1
+  pub channel : aAt p node ≡ k
+
+-- Both records are well-formed, their times are equal, and they agree on every channel that some input node names: such a channel gives the
+-- same value in both.
 pub record Alike (p rec₁ rec₂ : Bytes) : Type 0 where
   pub well₁ : inputWrong rec₁ ≡ false
   pub well₂ : inputWrong rec₂ ≡ false
   pub moment : timeIn rec₁ ≡ timeIn rec₂
-  pub channels : (i : ℕ) → i < nodes p → kindAt p i ≡ 1 → channelValue rec₁ (aAt p i) ≡ channelValue rec₂ (aAt p i)
+  pub channels : (k : ℕ) → Names p k → channelValue rec₁ k ≡ channelValue rec₂ k
 
 -- Equally many records, alike one by one.
 pub record AllAlike (p recs₁ recs₂ : Bytes) : Type 0 where

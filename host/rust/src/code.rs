@@ -63,6 +63,29 @@ impl Code {
     pub fn of(number: u32) -> Option<Code> {
         Code::ALL.into_iter().find(|code| code.number() == number)
     }
+
+    /// What the code means, in the words of docs/CODES.md.
+    pub const fn words(self) -> &'static str {
+        match self as u32 {
+            1 => "the program is empty, longer than 24 blocks or not whole blocks of 512 bytes",
+            2 => "the check sum of this block is not that of its bytes",
+            3 => "this block has not its own number, or not the count of all blocks",
+            4 => "this record by itself is wrong: its kind, type, constant, channel, a field that must be zero, or the end of the records",
+            5 => "the nodes do not make one tree of the right sorts",
+            6 => "the binder of this variable does not hold here, or the target of this case is no branch of the nearest group",
+            7 => "the types at this node do not agree",
+            8 => "the definition of this let needs its own value of the same step",
+            9 => "the state is not one that this program can have, or has not its length",
+            10 => "the records are not whole records of 40 bytes, or more than 4,096",
+            11 => "the room for values is not 8 bytes for each record",
+            12 => "this record is not well-formed",
+            13 => "the time of this record is before the time of the state",
+            15 => "the state is that of another program",
+            25 => "no let needs its own value of the same step: there is nothing to explain",
+            26 => "the room for the chain is not 1,008 entries",
+            _ => "refused",
+        }
+    }
 }
 
 impl fmt::Display for Code {

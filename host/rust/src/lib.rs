@@ -39,6 +39,9 @@ pub use raw::{state_length, BLOCK, BLOCKS, LONGEST_STATE, NODES, RECORD, RECORDS
 
 use core::fmt;
 
+/// The version of the crate, which is the header's.
+pub const VERSION: &str = env!("CARGO_PKG_VERSION");
+
 /// What check says of an accepted program.
 #[derive(Clone, Copy, Debug, PartialEq, Eq)]
 pub struct Checked {
@@ -81,7 +84,7 @@ pub struct Refusal {
 
 impl fmt::Display for Refusal {
     fn fmt(&self, to: &mut fmt::Formatter) -> fmt::Result {
-        write!(to, "refused: {} at {}", self.code, self.place)
+        write!(to, "refused: {} at {}: {}", self.code, self.place, self.code.words())
     }
 }
 

@@ -158,5 +158,5 @@ fn a_refused_run_keeps_its_steps() {
 #[test]
 fn a_refusal_says_its_name() {
     let text = check(&[]).unwrap_err().to_string();
-    assert_eq!(text, "refused: code 1 (ProgramLength) at 0");
+    assert_eq!(text, "refused: code 1 (ProgramLength) at 0: the program is empty, longer than 24 blocks or not whole blocks of 512 bytes");
 }

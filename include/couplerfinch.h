@@ -45,7 +45,7 @@ extern "C" {
 #define COUPLERFINCH_STATE(cells) (4u + 8u * (size_t)(cells))
 #define COUPLERFINCH_LONGEST_STATE COUPLERFINCH_STATE(COUPLERFINCH_NODES)
 
-/* The codes; docs/CODES.md says what each means, where its place is and what to do. */
+/* The codes; docs/CODES.md says what each means, where its place is and what to do. (14 was one, and is not used again.) */
 #define COUPLERFINCH_DONE 0u
 #define COUPLERFINCH_PROGRAM_LENGTH 1u
 #define COUPLERFINCH_CHECK_SUM 2u

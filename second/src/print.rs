@@ -32,34 +32,51 @@ pub fn value_words(value: Value) -> String {
     }
 }
 
-/// Reads up to `most` bytes; an input that fails counts as ended.
-fn take(input: &mut impl Read, most: usize) -> Vec<u8> {
+/// Why a run could not be watched to its end.
+#[derive(Debug)]
+pub enum Broken {
+    /// A read failed, which is not the end of the input.
+    Input,
+    /// A write failed.
+    Output,
+}
+
+impl From<io::Error> for Broken {
+    fn from(_: io::Error) -> Broken {
+        Broken::Output
+    }
+}
+
+/// Reads up to `most` bytes, fewer where the input ends.
+fn take(input: &mut impl Read, most: usize) -> Result<Vec<u8>, Broken> {
     let mut bytes = Vec::new();
-    let _ = input.by_ref().take(most as u64).read_to_end(&mut bytes);
-    bytes
+    match input.by_ref().take(most as u64).read_to_end(&mut bytes) {
+        Ok(_) => Ok(bytes),
+        Err(_) => Err(Broken::Input),
+    }
 }
 
 /// Takes the blocks: as many as block 0 says, if 1 to 24, else just one.
-fn take_program(input: &mut impl Read) -> Vec<u8> {
-    let mut program = take(input, BLOCK);
+fn take_program(input: &mut impl Read) -> Result<Vec<u8>, Broken> {
+    let mut program = take(input, BLOCK)?;
     if program.len() == BLOCK {
         let count = number16(&program, 2) as usize;
         if (1..=MOST_BLOCKS).contains(&count) {
-            program.extend(take(input, (count - 1) * BLOCK));
+            program.extend(take(input, (count - 1) * BLOCK)?);
         }
     }
-    program
+    Ok(program)
 }
 
 /// The last line of a refused run or program.
-fn refused(output: &mut impl Write, refusal: Refusal) -> io::Result<()> {
+fn refused(output: &mut impl Write, refusal: Refusal) -> Result<(), Broken> {
     writeln!(output, "REFUSED {} {}", refusal.code, refusal.place)?;
-    output.flush()
+    Ok(output.flush()?)
 }
 
 /// Watches a run: checks, starts and steps record by record, printing each line when it is due.
-pub fn watch(mut input: impl Read, mut output: impl Write) -> io::Result<()> {
-    let program = match Program::read(&take_program(&mut input)) {
+pub fn watch(mut input: impl Read, mut output: impl Write) -> Result<(), Broken> {
+    let program = match Program::read(&take_program(&mut input)?) {
         Ok(program) => program,
         Err(refusal) => return refused(&mut output, refusal),
     };
@@ -69,7 +86,7 @@ pub fn watch(mut input: impl Read, mut output: impl Write) -> io::Result<()> {
     output.flush()?;
     let mut walk = Walk::new(&program, State::start(&program));
     loop {
-        let record = take(&mut input, RECORD);
+        let record = take(&mut input, RECORD)?;
         if record.is_empty() {
             break;
         }
@@ -86,7 +103,7 @@ pub fn watch(mut input: impl Read, mut output: impl Write) -> io::Result<()> {
         }
     }
     writeln!(output, "END {} {}", walk.done.steps, walk.done.work)?;
-    output.flush()
+    Ok(output.flush()?)
 }
 
 /// The time of a record.

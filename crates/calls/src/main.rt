@@ -105,7 +105,11 @@ fn serve(
     let mut turns = u64::MAX;
     while turns > 0 {
         let t = turn(
-            Place { at: at, end: end },
+            Place {
+                at: at,
+                end: end,
+                failed: false,
+            },
             full,
             input,
             program,

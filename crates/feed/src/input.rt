@@ -2,13 +2,47 @@
 ghost use Prim.Native.Nat.{_+_, _≤_};
 ghost use mathlib.Core.Path.{_≡_};
 ghost use lib.ListN.{length, take};
-ghost use Rattle.io.specs.Counts.{Counts};
+ghost use lib.IntN.{pos};
+ghost use lib.Signed.{ltZ};
+ghost use Rattle.io.specs.Counts.{Counts, clamped};
 use crate::Filled;
 use crate::Got;
 use crate::Line;
 use crate::Place;
 
-// What is unread, after one more read where nothing was. Nothing is unread at the end of the input.
+// The piece that a read answered: nothing of it is unread at the end of the input, or where the read failed, and only these two are told
+// apart by `failed`.
+fn piece(got: isize, buffer: &[u8]) -> Place
+    ensures { λ r. ⌜ (r .at ≡ 0) × (r .end ≡ clamped got (length (now (buffer .entry)))) ⌝ }
+    ensures { λ r. ⌜ r .end ≤ length (now (buffer .entry)) ⌝ }
+    ensures { λ r. ⌜ r .failed ≡ ltZ got (pos 0) ⌝ }
+{
+    let n = io::count(got, buffer);
+    Place {
+        at: 0,
+        end: n,
+        failed: got < 0,
+    }
+}
+
+// One read of standard input. A read that a signal interrupts before it has a byte answers nothing, and is tried again; no number of tries is
+// known to be enough, so they count down from one that no run uses up.
+fn taken(buffer: &mut [u8]) -> isize {
+    let mut tries = u64::MAX;
+    while tries > 0 {
+        let got = libc::read(libc::STDIN_FILENO, buffer);
+        if got >= 0 {
+            return got;
+        }
+        if os::errno() != libc::EINTR {
+            return got;
+        }
+        tries -= 1;
+    }
+    -1
+}
+
+// What is unread, after one more read where nothing was. Nothing is unread at the end of the input, or where a read failed.
 fn refilled(place: Place, buffer: &mut [u8]) -> Place
     ensures { λ r. ⌜ (r .at ≤ r .end) × (r .end ≤ length (now (buffer .exit))) ⌝ }
 {
@@ -17,9 +51,8 @@ fn refilled(place: Place, buffer: &mut [u8]) -> Place
             return place;
         }
     }
-    let got = libc::read(libc::STDIN_FILENO, buffer);
-    let n = io::count(got, buffer);
-    Place { at: 0, end: n }
+    let got = taken(buffer);
+    piece(got, buffer)
 }
 
 // The smaller of two.
@@ -49,7 +82,14 @@ fn fill_all(place: Place, buffer: &mut [u8], room: &mut [u8]) -> Got
     let mut end = place.end;
     let mut done = 0;
     while done < room.len() {
-        let here = refilled(Place { at: at, end: end }, buffer);
+        let here = refilled(
+            Place {
+                at: at,
+                end: end,
+                failed: false,
+            },
+            buffer,
+        );
         let n = moved(here.at, here.end, buffer, room, done);
         if n == 0 {
             return Got {
@@ -62,7 +102,11 @@ fn fill_all(place: Place, buffer: &mut [u8], room: &mut [u8]) -> Got
         done += n;
     }
     Got {
-        place: Place { at: at, end: end },
+        place: Place {
+            at: at,
+            end: end,
+            failed: false,
+        },
         count: done,
     }
 }
@@ -121,7 +165,14 @@ pub fn header(place: Place, buffer: &mut [u8], text: &mut [u8]) -> Line
     let mut end = place.end;
     let mut n = 0;
     while n < text.len() {
-        let here = refilled(Place { at: at, end: end }, buffer);
+        let here = refilled(
+            Place {
+                at: at,
+                end: end,
+                failed: false,
+            },
+            buffer,
+        );
         let from = here.at;
         if from == here.end {
             return Line {
@@ -136,13 +187,21 @@ pub fn header(place: Place, buffer: &mut [u8], text: &mut [u8]) -> Line
         end = here.end;
         if byte == b'\n' {
             return Line {
-                place: Place { at: at, end: end },
+                place: Place {
+                    at: at,
+                    end: end,
+                    failed: false,
+                },
                 length: n,
             };
         }
     }
     Line {
-        place: Place { at: at, end: end },
+        place: Place {
+            at: at,
+            end: end,
+            failed: false,
+        },
         length: n,
     }
 }

@@ -9,11 +9,14 @@ pub use input::header;
 pub use output::append;
 pub use output::flush;
 pub use output::rested;
+pub use output::write;
 
-// What is unread of the piece of input in the buffer: its bytes from `at` up to `end`.
+// What is unread of the piece of input in the buffer: its bytes from `at` up to `end`; and whether the last read failed, so that nothing is
+// known of what follows. A failed read is not the end of the input.
 pub struct Place {
     pub at: usize,
     pub end: usize,
+    pub failed: bool,
 }
 
 // A line that was read: its length, and what is unread after it.
@@ -22,13 +25,13 @@ pub struct Line {
     pub length: usize,
 }
 
-// A room that was filled, whole unless the input ended, and what is unread after it.
+// A room that was filled, whole unless the input ended or a read failed, and what is unread after it.
 pub struct Filled {
     pub place: Place,
     pub whole: bool,
 }
 
-// How many bytes were read, fewer than asked for where the input ended, and what is unread after them.
+// How many bytes were read, fewer than asked for where the input ended or a read failed, and what is unread after them.
 pub struct Got {
     pub place: Place,
     pub count: usize,

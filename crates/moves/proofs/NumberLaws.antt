@@ -1,7 +1,7 @@
 -- The number of an update's outcome: the outcome by its size, its value's 8 bytes, and so much more counted.
 -- Assumes nothing.
-use mathlib.Core.Path.{_≡_, refl, sym}
-use mathlib.Core.Bool.{Bool, true, false}
+use mathlib.Core.Path.{_≡_, refl, sym, _∙_}
+use mathlib.Core.Bool.{Bool, true, false, true≢false}
 use Prim.Native.Nat.{ℕ, _+_, _*_, _/_, _%_, _<_, _≤_}
 use native.Mathlib.Omega.{arith}
 use lib.Dec.{eqb, ltb}
@@ -9,12 +9,15 @@ use borrow.Author.Tests.{leb-true, eqb-true, eqb-false, ne-eqb, ltb-true, ltb-fa
 use Rattle.rules.specs.Bytes.{Bytes, if_then_else_}
 use Rattle.rules.specs.Values.{isPlain, packed, unpacked, typeIn, presentIn, wordIn}
 use Rattle.rules.specs.Work.{Updated, Next, Jump, Halted, moved, stays, leave, nothing, oneRule, afterᵘ, ruleᵘ, _plus_}
+use Rattle.rules.specs.declared.Value.{Value}
+use Rattle.rules.specs.declared.Value.the-variants.{Plain}
 use Rattle.rules.specs.declared.Tally.{Tally}
 use Rattle.rules.specs.declared.Moved.{Moved}
 use Rattle.rules.specs.declared.Moved.the-variants.{Stay}
 use Rattle.rules.proofs.Static.{and-both}
 use Rattle.outcomes.specs.Outcome.{IsValue}
-use Rattle.outcomes.proofs.Numbers.{plain-in, exact-plain, exact-present}
+use Rattle.outcomes.proofs.Numbers.{sortOf, plain-in, plain-known, other-known, exact-plain, exact-present}
+use Rattle.outcomes.proofs.Combining.{plain-most}
 use Rattle.current.specs.Current.{shortly}
 use Rattle.moves.specs.Outcomes.{workOf, calmOf, countIn, targetIn, jumpValue, movedIn}
 use Rattle.moves.specs.declared.Calm.the-variants.{Still, Broken}
@@ -185,11 +188,19 @@ module _ (v : ℕ) (e : IsValue v) (h : isPlain (typeIn v) ≡ true) where
   unfolding packed wordIn
   plain-parts = rw (plain-in v h, plain-type .1) at e
 
-  pub number-jumps : (s w : ℕ) → s < 1024 → w < 1048576 → (st : Bytes)
-      → moved (movedIn (w + 1048576 * (v % 4) + (4194304 * s + 4294967296 * (v / 4294967296)))) st ≡ Jump s (unpacked v) st (record { work = w })
-  unfolding moved
-  number-jumps s w l g st =
-      let t : ℕ = v % 4 in
-      let q : ℕ = v / 4294967296 in
-      let k : t < 4 = omega arith in
-      rw (moved-jumps (number w t s q g k l) (omega (arith, plain-type .0)), value-part w t s q g k l, plain-parts, target-part w t s q g k l, count-part w t s q g k l)
+  pub number-jumps : {t x i q : ℕ} → unpacked v ≡ Plain t x → i ≡ t → q ≡ x → (s w : ℕ) → s < 1024 → w < 1048576 → (st : Bytes)
+      → moved (movedIn (w + 1048576 * i + (4194304 * s + 4294967296 * q))) st ≡ Jump s (unpacked v) st (record { work = w })
+  unfolding moved wordIn
+  number-jumps {t} {x} {i} {q} d f n s w l g st =
+      let known = plain-known v d in
+      let i-is : i ≡ v % 4 = f ∙ known .0 ∙ plain-type .1 in
+      let q-is : q ≡ v / 4294967296 = n ∙ known .1 in
+      let k : i < 4 = omega arith in
+      rw (moved-jumps (number w i s q g k l) (omega (arith, plain-type .0)), value-part w i s q g k l, target-part w i s q g k l, count-part w i s q g k l, i-is, q-is, plain-parts)
+
+  pub no-jump : {u : Value} → unpacked v ≡ u → (sortOf u ≡ 0 → ⊥) → ⊥
+  no-jump d n = true≢false (sym h ∙ other-known v d n)
+
+-- The type of a plain value is at most 3.
+pub plain-small : (v : ℕ) {t x : ℕ} → unpacked v ≡ Plain t x → t < 4
+plain-small v d = let known = plain-known v d in omega (arith, known .0, plain-most (typeIn v) (known .2))

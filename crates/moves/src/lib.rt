@@ -14,6 +14,11 @@ ghost use Rattle.moves.specs.Lent.{Celled};
 use cells::number_of;
 use cells::set_cell;
 use rules::Tally;
+use rules::Value;
+use values::pack;
+use values::unpack;
+use values::wide;
+use values::wide_word;
 
 // Whether an update stays, with what it has counted; a jump that leaves it breaks it as being stuck does.
 pub enum Calm {
@@ -80,7 +85,7 @@ pub fn stayed(u: Tally, w: Tally) -> u64
 }
 
 // A node number as a 64-bit number.
-fn wide(x: usize) -> u64
+fn number(x: usize) -> u64
     ensures { λ r. ⌜ r ≡ x ⌝ }
 {
     x as u64
@@ -90,7 +95,7 @@ fn wide(x: usize) -> u64
 fn short(target: usize) -> u64
     ensures { λ r. ⌜ (r ≡ shortly target) × (r < 1024) ⌝ }
 {
-    if target < 1023 { wide(target) } else { 1023 }
+    if target < 1023 { number(target) } else { 1023 }
 }
 
 // A jump to a target with a plain value of 8 bytes, after so much was counted.
@@ -98,8 +103,14 @@ pub fn jump(target: usize, v: u64, u: Tally) -> u64
     requires { ⌜ IsValue v × (isPlain (typeIn v) ≡ true) × (u .work < 1048576) ⌝ }
     ensures { λ s. ⌜ ((st : Bytes) → moved (movedIn s) st ≡ Jump (shortly target) (unpacked v) st u) ⌝ }
 {
-    let high = 4194304 * short(target) + 4294967296 * (v / 4294967296);
-    u.work + 1048576 * (v % 4) + high
+    match unpack(v) {
+        Value::Plain(t, w) => {
+            let high = 4194304 * short(target) + 4294967296 * wide_word(w);
+            u.work + 1048576 * wide(t) + high
+        }
+        Value::Absent(_) => 0,
+        Value::Present(_, _) => 0,
+    }
 }
 
 // What an update has counted.
@@ -120,7 +131,9 @@ pub fn target_in(r: u64) -> usize
 pub fn value_in(r: u64) -> u64
     ensures { λ v. ⌜ (v ≡ jumpValue r) × IsValue v ⌝ }
 {
-    r / 1048576 % 4 + 256 + 4294967296 * (r / 4294967296)
+    let t = (r / 1048576 % 4) as u8;
+    let word = (r / 4294967296) as u32;
+    pack(Value::Plain(t, word))
 }
 
 // The value of 8 bytes stored in the cell of node i.
@@ -136,5 +149,5 @@ pub fn hold_branch(index: &[u16], st: &mut [u8], i: usize, which: usize, v: u64)
     requires { ⌜ Celled (now index) (length (now st)) i × (which < 65536) × IsValue v ⌝ }
     ensures { λ _. ⌜ now (st .exit) ≡ holdBranch (now (st .entry)) (getD (now (index .entry)) i 0) which (unpacked v) ⌝ }
 {
-    set_cell(st, number_of(index, i), v + 65536 * wide(which));
+    set_cell(st, number_of(index, i), v + 65536 * number(which));
 }

@@ -2,11 +2,11 @@
 -- Assumes nothing.
 use mathlib.Core.Path.{_≡_, refl, ap, sym, _∙_}
 use mathlib.Core.Bool.{Bool, true, false}
-use Prim.Native.Nat.{ℕ, _+_, _-_, _*_, _<_, _≤_}
+use Prim.Native.Nat.{ℕ, _+_, _-_, _<_, _≤_}
 use native.Mathlib.Omega.{arith}
 use lib.Dec.{eqb}
-use borrow.Author.Tests.{leb-true, le-leb, lt-leb, eqb-true, eqb-false, eq-eqb, ne-eqb}
-use Rattle.rules.specs.Bytes.{if_then_else_}
+use borrow.Author.Tests.{leb-true, le-leb, lt-leb, eqb-true, eq-eqb, ne-eqb}
+use Rattle.rules.specs.Bytes.{if_then_else_, _and_}
 use Rattle.rules.specs.Values.{boolT, maybeOf, isPlain, isMaybe, valueFrom, packed, unpacked, typeIn, presentIn, middleIn, wordIn}
 use Rattle.rules.specs.Words.{quotientOf}
 use Rattle.rules.specs.Operations.{truth, isTrue, operandType, numberOf, truthOf, meaning}
@@ -17,18 +17,17 @@ use Rattle.rules.specs.declared.Value.the-variants.{Plain, Absent, Present}
 use Rattle.rules.specs.declared.Tally.{Tally}
 use Rattle.rules.specs.declared.Word.{Word}
 use Rattle.rules.specs.declared.Word.the-variants.{Is, Not}
-use Rattle.rules.specs.declared.Opened.the-variants.{Here, Gone, Amiss}
 use Rattle.rules.specs.declared.Evaluated.{Evaluated}
 use Rattle.rules.specs.declared.Evaluated.the-variants.{Done, Stuck}
 use Rattle.rules.proofs.Static.{and-both}
-use Rattle.rules.proofs.Round.{plain-yes, plain-no}
+use Rattle.rules.proofs.Round.{plain-no}
 use Rattle.outcomes.specs.Combine.{workOf, wordBy, armBy, armOf, partsBy, partsOf}
-use Rattle.outcomes.specs.Outcome.{outcomeIn, IsOutcome, IsProper}
+use Rattle.outcomes.specs.Outcome.{outcomeIn, IsProper}
 use Rattle.outcomes.specs.declared.Arm.the-variants.{Go, Neither}
 use Rattle.outcomes.specs.declared.Event.the-variants.{Occurs, Quiet}
 use Rattle.outcomes.specs.declared.Parts.the-variants.{Maybe, Wrong}
-use Rattle.outcomes.proofs.Numbers.{plain-in, absent-in, present-in, proper-plain, proper-present, type-small}
-use Rattle.outcomes.proofs.Counted.{Gives, gives-stuck, outcome-done, outcome-stuck, outcome-exact, outcome-gives, work-is}
+use Rattle.outcomes.proofs.Numbers.{plain-in, proper-present}
+use Rattle.outcomes.proofs.Counted.{Gives, gives-stuck, outcome-done, outcome-stuck, work-is}
 
 pub plain-most : (t : ℕ) → isPlain t ≡ true → t ≤ 3
 unfolding isPlain
@@ -38,7 +37,7 @@ plain-least : (t : ℕ) → isPlain t ≡ true → 1 ≤ t
 unfolding isPlain
 plain-least t e = leb-true 1 t (and-both _ _ e .0)
 
-maybe-least : (t : ℕ) → isMaybe t ≡ true → 5 ≤ t
+pub maybe-least : (t : ℕ) → isMaybe t ≡ true → 5 ≤ t
 unfolding isMaybe
 maybe-least t e = leb-true 5 t (and-both _ _ e .0)
 
@@ -47,83 +46,57 @@ pub plain-some : (m : ℕ) → isPlain (typeIn m) ≡ true → m ≡ 0 → ⊥
 unfolding typeIn
 plain-some m e z = omega (arith, plain-least (typeIn m) e)
 
--- The word of an outcome, by its type.
-pub word-yes : (t m : ℕ) {w : ℕ} → isPlain t ≡ true → typeIn m ≡ t → w ≡ wordIn m → Is w ≡ wordBy t (outcomeIn m)
-unfolding wordBy plainWord
-word-yes t m p e g =
-    let q : isPlain (typeIn m) ≡ true = rw e p in
-    rw (outcome-done m (plain-some m q), plain-in m q, eq-eqb _ _ e, g)
+-- The word of an outcome, by its value: stuck has none, and its number reads as absent.
+nothing-in : unpacked 0 ≡ Absent 0
+unfolding unpacked valueFrom typeIn presentIn wordIn isPlain _and_
+nothing-in = refl
 
-pub word-no : (t m : ℕ) → (typeIn m ≡ t → ⊥) → Not ≡ wordBy t (outcomeIn m)
-unfolding wordBy plainWord outcomeIn unpacked valueFrom
-word-no t m n = go (eqb m 0) (isPlain (typeIn m)) (eqb (presentIn m) 0)
+word-of : (t m : ℕ) → plainWord t (unpacked m) ≡ wordBy t (outcomeIn m)
+unfolding wordBy plainWord outcomeIn
+word-of t m = go (eqb m 0) refl
   where
-    go : (z p q : Bool)
-        → Not
-        ≡ wordBy t
-        (if z then Stuck
-        else Done
-        (if p then Plain (typeIn m) (wordIn m) else if q then Absent (typeIn m) else Present (typeIn m) (wordIn m))
-        (record { work = middleIn m }))
-    go true p q = refl
-    go false true q = simp (ne-eqb _ _ n)
-    go false false true = refl
-    go false false false = refl
+    go : (b : Bool) → eqb m 0 ≡ b → plainWord t (unpacked m) ≡ wordBy t (if b then Stuck else Done (unpacked m) (record { work = middleIn m }))
+    go true e = ap (λ (n : ℕ). plainWord t (unpacked n)) (eqb-true m 0 e) ∙ ap (plainWord t) nothing-in
+    go false e = refl
 
--- An outcome that has a word of a plain type has that type, and its present byte is 1.
-words-apart : {a : ℕ} → Not ≡ Is a → ⊥
-words-apart e = let z : _≡_ {A = ℕ} 0 1 = cc in omega arith
+module _ (t m : ℕ) {v : Value} (d : v ≡ unpacked m) where
+  pub word-yes : {u w : ℕ} → v ≡ Plain u w → u ≡ t → Is w ≡ wordBy t (outcomeIn m)
+  unfolding plainWord
+  word-yes e f = rw (← word-of t m, ← d, e, eq-eqb _ _ f)
 
-word-type : (t m : ℕ) {x : Word} {a : ℕ} → x ≡ wordBy t (outcomeIn m) → x ≡ Is a → typeIn m ≡ t
-word-type t m f h = go (eqb (typeIn m) t) refl
-  where
-    go : (b : Bool) → eqb (typeIn m) t ≡ b → typeIn m ≡ t
-    go true e = eqb-true _ _ e
-    go false e = absurd (words-apart (word-no t m (eqb-false _ _ e) ∙ sym f ∙ h))
+  pub word-no : {u w : ℕ} → v ≡ Plain u w → (u ≡ t → ⊥) → Not ≡ wordBy t (outcomeIn m)
+  unfolding plainWord
+  word-no e n = rw (← word-of t m, ← d, e, ne-eqb _ _ n)
 
-present-one : (t w k : ℕ) → t < 256 → k < 65536 → presentIn ((t + 256 + 4294967296 * w) + 65536 * k) ≡ 1
-unfolding presentIn
-present-one t w k h g = omega arith
+  pub word-absent : {u : ℕ} → v ≡ Absent u → Not ≡ wordBy t (outcomeIn m)
+  unfolding plainWord
+  word-absent e = rw (← word-of t m, ← d, e)
 
-middle-small : (m : ℕ) → middleIn m < 65536
-unfolding middleIn
-middle-small m = omega arith
+  pub word-present : {u w : ℕ} → v ≡ Present u w → Not ≡ wordBy t (outcomeIn m)
+  unfolding plainWord
+  word-present e = rw (← word-of t m, ← d, e)
 
-plain-present : (m : ℕ) → isPlain (typeIn m) ≡ true → IsOutcome m → presentIn m ≡ 1
-unfolding packed
-plain-present m p o =
-    let e : (typeIn m + 256 + 4294967296 * wordIn m) + 65536 * middleIn m ≡ m
-    = sym (ap (λ v. packed v + 65536 * middleIn m) (plain-in m p)) ∙ outcome-exact m (plain-some m p) o in
-    sym (ap presentIn e) ∙ present-one (typeIn m) (wordIn m) (middleIn m) (type-small m) (middle-small m)
-
--- The number of a plain value with what was counted.
-plain-gives : (t w k : ℕ) {m : ℕ} → isPlain t ≡ true → 0 < k → k < 65536 → m ≡ (t + 256 + 4294967296 * w) + 65536 * k
-    → Gives m (Done (Plain t w) (record { work = k }))
-unfolding packed
-plain-gives t w k p l g e = rw e (outcome-gives (Plain t w) k refl (proper-plain t (omega (arith, plain-most t p)) w p) l g)
-
--- The low half of a result is below 2 to the 32nd, and the word of a truth value at most 1.
-pub half-small : (r s : ℕ) {h : ℕ} → workOf (outcomeIn r) + workOf (outcomeIn s) < 65535
-    → h ≡ typeIn r + 256 * presentIn r + 65536 * (middleIn r + middleIn s + 1) → h < 4294967296
-unfolding typeIn presentIn
-half-small r s l d = omega (arith, work-is r, work-is s)
-
-pub truth-small : {b z : Bool} {w : ℕ} → z ≡ b → w ≡ (if z then 1 else 0) → w ≤ 1
-truth-small {z = z} q = go z
-  where
-    go : (c : Bool) {w : ℕ} → w ≡ (if c then 1 else 0) → w ≤ 1
-    go true e = omega arith
-    go false e = omega arith
-
-pub meaning-divide : (k a b : ℕ) → k ≡ 21 → meaning k a b ≡ quotientOf a b
+-- What an operation means, by its kind.
+pub means-number : (k x y : ℕ) {n : ℕ} → k ≤ 20 → n ≡ numberOf k x y → Plain 3 n ≡ meaning k x y
 unfolding meaning
-meaning-divide k a b z = simp (lt-leb k 20 (omega arith), eq-eqb k 21 z)
+means-number k x y h e = rw e (simp (le-leb k 20 h))
 
-meaning-test : (k a b : ℕ) {z : Bool} {w : ℕ} → 20 < k → (k ≡ 21 → ⊥) → z ≡ truthOf k a b → w ≡ (if z then 1 else 0)
-    → meaning k a b ≡ Plain boolT w
+pub means-quotient : (k x y : ℕ) → k ≡ 21 → quotientOf x y ≡ meaning k x y
+unfolding meaning
+means-quotient k x y e = simp (lt-leb k 20 (omega arith), eq-eqb k 21 e)
+
+pub means-truth : (k x y : ℕ) (b : Bool) → 20 < k → (k ≡ 21 → ⊥) → b ≡ truthOf k x y → Plain 2 (if b then 1 else 0) ≡ meaning k x y
 unfolding meaning truth
-meaning-test k a b l n q v =
-    simp (lt-leb k 20 l, ne-eqb k 21 n) (ap (Plain boolT) (sym (v ∙ ap (λ c. if c then 1 else 0) q)))
+means-truth k x y b h n e = simp (lt-leb k 20 h, ne-eqb k 21 n) (ap (λ (t : Bool). Plain 2 (if t then 1 else 0)) e)
+
+-- The type that an operation takes.
+pub takes-ints : (k : ℕ) → k ≤ 23 → operandType k ≡ 3
+unfolding operandType
+takes-ints k h = simp (le-leb k 23 h)
+
+pub takes-bools : (k : ℕ) → 23 < k → operandType k ≡ 2
+unfolding operandType
+takes-bools k h = simp (lt-leb k 23 h)
 
 -- A combinator of one outcome or two, by their words and what they counted.
 abbrev counted : ℕ → Tally
@@ -165,40 +138,6 @@ module _ (k r s : ℕ) {t : ℕ} {x y : Word} (e : t ≡ operandType k) (f : x �
   operated-done {i = i} {j = j} h l q u w d =
       let n : i + j + 1 ≡ 1 + ((workOf (outcomeIn r) + workOf (outcomeIn s)) + 0) = omega (arith, work-is r, work-is s) in
       (d .0 ∙ rw (operated-by k (outcomeIn r) (outcomeIn s), ← e, ← f, h, ← g, l, q, n), d .1)
-
-  -- a result that is plain, made from the low half of the left operand's number: what was counted, and the type exchanged
-  module _ {a b h : ℕ} (i : x ≡ Is a) (j : y ≡ Is b) (o : IsOutcome r) (l : workOf (outcomeIn r) + workOf (outcomeIn s) < 65535)
-      (p : isPlain t ≡ true) (d : h ≡ typeIn r + 256 * presentIn r + 65536 * (middleIn r + middleIn s + 1)) where
-    operated-plain : {m u w : ℕ} → meaning k a b ≡ Plain u w → isPlain u ≡ true → m + t ≡ (h + u) + 4294967296 * w
-        → Gives m (rule (operated k (outcomeIn r) (outcomeIn s)))
-    operated-plain {m} {u} {w} q n v =
-        let z : typeIn r ≡ t = word-type t r f i in
-        let c : presentIn r ≡ 1 = plain-present r (rw z p) o in
-        let m-is : m ≡ (u + 256 + 4294967296 * w) + 65536 * (middleIn r + middleIn s + 1) = omega arith in
-        let count = middleIn r + middleIn s + 1 in
-        operated-done i j (sym q) refl refl (plain-gives u w count n (omega arith) (omega (arith, work-is r, work-is s)) m-is)
-
-    pub operated-number : {n w : ℕ} → k ≤ 20 → n ≡ numberOf k a b → w ≡ n
-        → Gives (h + 4294967296 * w) (rule (operated k (outcomeIn r) (outcomeIn s)))
-    unfolding meaning operandType
-    operated-number {n} {w} g q v =
-        let t-is : t ≡ 3 = e ∙ simp (le-leb k 23 (omega arith)) in
-        let number-is : meaning k a b ≡ Plain 3 w = simp (le-leb k 20 g) (ap (Plain 3) (sym (v ∙ q))) in
-        operated-plain number-is (plain-yes 3 (omega arith) (omega arith)) (omega arith)
-
-    pub operated-compare : {z : Bool} {w : ℕ} → 20 < k → (k ≡ 21 → ⊥) → k ≤ 23 → z ≡ truthOf k a b → w ≡ (if z then 1 else 0)
-        → Gives ((h - 1) + 4294967296 * w) (rule (operated k (outcomeIn r) (outcomeIn s)))
-    unfolding operandType
-    operated-compare g n u q v =
-        let t-is : t ≡ 3 = e ∙ simp (le-leb k 23 u) in
-        operated-plain (meaning-test k a b g n q v) (plain-yes 2 (omega arith) (omega arith)) (omega arith)
-
-    pub operated-test : {z : Bool} {w : ℕ} → 23 < k → z ≡ truthOf k a b → w ≡ (if z then 1 else 0)
-        → Gives (h + 4294967296 * w) (rule (operated k (outcomeIn r) (outcomeIn s)))
-    unfolding operandType
-    operated-test u q v =
-        let t-is : t ≡ 2 = e ∙ simp (lt-leb k 23 u) in
-        operated-plain (meaning-test k a b (omega arith) (λ z. omega arith) q v) (plain-yes 2 (omega arith) (omega arith)) (omega arith)
 
 module _ (r : ℕ) {x : Word} (f : x ≡ wordBy boolT (outcomeIn r)) where
   pub negated-none : x ≡ Not → Gives 0 (rule (negated (outcomeIn r)))
@@ -265,28 +204,30 @@ lifted-proper t w p =
     let g : 1 ≤ t = plain-least t p in
     proper-present (t + 4) (omega arith) w (plain-no (t + 4) (omega arith))
 
--- The parts of a maybe, by its type and present byte.
+-- The parts of a maybe, by its value.
 module _ (r : ℕ) where
   pub parts-stuck : r ≡ 0 → Wrong ≡ partsOf (outcomeIn r)
   unfolding partsOf
   parts-stuck z = rw (z, outcome-stuck)
 
-  pub parts-plain : isPlain (typeIn r) ≡ true → Wrong ≡ partsOf (outcomeIn r)
-  unfolding partsOf partsBy opened
-  parts-plain p = rw (outcome-done r (plain-some r p), plain-in r p)
+  module _ (n : r ≡ 0 → ⊥) {v : Value} (d : v ≡ unpacked r) {i : ℕ} (u : i ≡ middleIn r) where
+    parts-by : partsBy (opened v) (counted i) ≡ partsOf (outcomeIn r)
+    unfolding partsOf
+    parts-by = rw (outcome-done r n, d, u)
 
-  module _ (n : r ≡ 0 → ⊥) (p : isPlain (typeIn r) ≡ false) where
-    pub parts-quiet : {i : ℕ} → i ≡ middleIn r → presentIn r ≡ 0 → Maybe Quiet (counted i) ≡ partsOf (outcomeIn r)
-    unfolding partsOf partsBy opened
-    parts-quiet u z = rw (outcome-done r n, absent-in r p z, u)
+    pub parts-plain : {t w : ℕ} → v ≡ Plain t w → Wrong ≡ partsOf (outcomeIn r)
+    unfolding partsBy opened
+    parts-plain e = ap (λ (x : Value). partsBy (opened x) (counted i)) (sym e) ∙ parts-by
 
-    pub parts-occurs : {i m : ℕ} → i ≡ middleIn r → (presentIn r ≡ 0 → ⊥) → isMaybe (typeIn r) ≡ true
-        → m ≡ typeIn r + 256 + 4294967296 * wordIn r → Maybe (Occurs (m - 4)) (counted i) ≡ partsOf (outcomeIn r)
-    unfolding partsOf partsBy opened packed
-    parts-occurs {i} {m} u z b f =
-        let c : m - 4 ≡ (typeIn r - 4) + 256 + 4294967296 * wordIn r = omega (arith, maybe-least (typeIn r) b) in
-        rw (outcome-done r n, present-in r p z, b, u, c)
+    pub parts-quiet : {t : ℕ} → v ≡ Absent t → Maybe Quiet (counted i) ≡ partsOf (outcomeIn r)
+    unfolding partsBy opened
+    parts-quiet e = ap (λ (x : Value). partsBy (opened x) (counted i)) (sym e) ∙ parts-by
 
-    pub parts-other : (presentIn r ≡ 0 → ⊥) → isMaybe (typeIn r) ≡ false → Wrong ≡ partsOf (outcomeIn r)
-    unfolding partsOf partsBy opened
-    parts-other z b = rw (outcome-done r n, present-in r p z, b)
+    pub parts-occurs : {t w m : ℕ} → v ≡ Present t w → isMaybe t ≡ true → m ≡ packed (Plain (t - 4) w)
+        → Maybe (Occurs m) (counted i) ≡ partsOf (outcomeIn r)
+    unfolding partsBy opened
+    parts-occurs e b f = rw (← parts-by, e, b, f)
+
+    pub parts-other : {t w : ℕ} → v ≡ Present t w → isMaybe t ≡ false → Wrong ≡ partsOf (outcomeIn r)
+    unfolding partsBy opened
+    parts-other e b = rw (← parts-by, e, b)

@@ -63,6 +63,10 @@ pub gives-stuck : {e : Evaluated} → e ≡ Stuck → Gives 0 e
 unfolding outcomeIn outcomeOf
 gives-stuck h = (sym h, refl)
 
+-- the same value under another name
+pub gives-same : {m : ℕ} {v u : Value} {w : Tally} → Gives m (Done v w) → v ≡ u → Gives m (Done u w)
+gives-same {w = w} g e = (g .0 ∙ ap (λ (x : Value). Done x w) e, g .1)
+
 -- more counted, of a number whose value is exact
 module _ (m k : ℕ) (h : middleIn m + k < 65536) (g : m + 65536 * k ≡ 0 → ⊥) where
   more-done : outcomeIn (m + 65536 * k) ≡ Done (unpacked m) (record { work = middleIn m + k })

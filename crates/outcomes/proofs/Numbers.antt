@@ -15,10 +15,6 @@ use Rattle.rules.specs.declared.Value.the-variants.{Plain, Absent, Present}
 use Rattle.rules.proofs.Round.{plain-yes, plain-no}
 use Rattle.outcomes.specs.Outcome.{IsValue, IsProper}
 
--- A test of a number that was read.
-pub test-of : (f : ℕ → Bool) {t u : ℕ} {p b : Bool} → t ≡ u → p ≡ f t → p ≡ b → f u ≡ b
-test-of f e g h = cc
-
 -- A type with present byte 1 and a word, and a type alone, read back.
 full-back : (t w : ℕ) → t < 256 → unpacked (t + 256 + 4294967296 * w) ≡ valueFrom t 1 w
 unfolding unpacked typeIn presentIn wordIn
@@ -73,6 +69,12 @@ pub type-small : (m : ℕ) → typeIn m < 256
 unfolding typeIn
 type-small m = omega arith
 
+-- Which constructor made a value.
+abbrev pub sortOf : Value → ℕ
+sortOf (Plain t w) = 0
+sortOf (Absent t) = 1
+sortOf (Present t w) = 2
+
 -- The value in a number, by its type and present byte.
 module _ (m : ℕ) where
   pub plain-in : isPlain (typeIn m) ≡ true → unpacked m ≡ Plain (typeIn m) (wordIn m)
@@ -87,15 +89,34 @@ module _ (m : ℕ) where
   unfolding unpacked valueFrom
   present-in e n = simp (e, ne-eqb (presentIn m) 0 n)
 
+-- The same from the value: what its constructor says of the type and the present byte.
+module _ (m : ℕ) where
+  pub plain-known : {t w : ℕ} → unpacked m ≡ Plain t w → (t ≡ typeIn m) × (w ≡ wordIn m) × (isPlain (typeIn m) ≡ true)
+  unfolding unpacked valueFrom
+  plain-known {t} {w} e = go (isPlain (typeIn m)) (eqb (presentIn m) 0) refl e
+    where
+      go : (p q : Bool) → isPlain (typeIn m) ≡ p
+          → (if p then Plain (typeIn m) (wordIn m) else if q then Absent (typeIn m) else Present (typeIn m) (wordIn m)) ≡ Plain t w
+          → (t ≡ typeIn m) × (w ≡ wordIn m) × (isPlain (typeIn m) ≡ true)
+      go true q f e = (cc, cc, f)
+      go false true f e = absurd (let z : _≡_ {A = ℕ} _ 0 = ap sortOf e in omega arith)
+      go false false f e = absurd (let z : _≡_ {A = ℕ} _ 0 = ap sortOf e in omega arith)
+
+  pub other-known : {v : Value} → unpacked m ≡ v → (sortOf v ≡ 0 → ⊥) → isPlain (typeIn m) ≡ false
+  unfolding unpacked valueFrom
+  other-known {v} e n = go (isPlain (typeIn m)) (eqb (presentIn m) 0) refl e
+    where
+      go : (p q : Bool) → isPlain (typeIn m) ≡ p
+          → (if p then Plain (typeIn m) (wordIn m) else if q then Absent (typeIn m) else Present (typeIn m) (wordIn m)) ≡ v
+          → isPlain (typeIn m) ≡ false
+      go true q f e = absurd (n (sym (ap sortOf e)))
+      go false q f e = f
+
 -- the 8 bytes of it
 module _ (m : ℕ) {r : ℕ} where
   pub exact-plain : isPlain (typeIn m) ≡ true → r ≡ typeIn m + 256 + 4294967296 * wordIn m → r ≡ packed (unpacked m)
   unfolding packed
   exact-plain p e = rw (plain-in m p) e
-
-  pub exact-absent : isPlain (typeIn m) ≡ false → presentIn m ≡ 0 → r ≡ typeIn m → r ≡ packed (unpacked m)
-  unfolding packed
-  exact-absent p z e = rw (absent-in m p z) e
 
   pub exact-present : isPlain (typeIn m) ≡ false → (presentIn m ≡ 0 → ⊥) → r ≡ typeIn m + 256 + 4294967296 * wordIn m
       → r ≡ packed (unpacked m)

@@ -1,10 +1,8 @@
 // The combinators of evaluation on outcomes that are one number each: the rules' small functions once, none of them recursive.
 ghost use mathlib.Core.Path.{_≡_};
-ghost use mathlib.Core.Bool.{true};
 ghost use Prim.Native.Nat.{_+_, _*_, _<_};
-ghost use Rattle.rules.specs.Bytes.{if_then_else_};
-ghost use Rattle.rules.specs.Values.{isPlain, valueFrom, packed, unpacked, typeIn, presentIn, middleIn, wordIn};
-ghost use Rattle.rules.specs.Operations.{operandType};
+ghost use Rattle.rules.specs.Values.{boolT, intT, valueFrom, packed, unpacked, middleIn};
+ghost use Rattle.rules.specs.Operations.{operandType, meaning};
 ghost use Rattle.rules.specs.Work.{give, after as afterOf, rule};
 ghost use Rattle.rules.specs.Evaluate.{look as lookOf, operated as operatedOf, negated as negatedOf, lifted as liftedOf};
 ghost use Rattle.rules.specs.declared.Evaluated.the-variants.{Done};
@@ -17,9 +15,12 @@ use rules::Tally;
 use rules::Value;
 use rules::Word;
 use values::is_maybe;
-use values::is_plain;
 use values::pack;
 use values::pack_from;
+use values::present_in;
+use values::type_in;
+use values::unpack;
+use values::word_in;
 use words::divide;
 use words::number;
 use words::test;
@@ -48,27 +49,6 @@ pub enum Shown {
     Stuck,
 }
 
-// The type byte.
-fn type_in(m: u64) -> u8
-    ensures { λ r. ⌜ r ≡ typeIn m ⌝ }
-{
-    (m % 256) as u8
-}
-
-// The present byte.
-fn present_in(m: u64) -> u64
-    ensures { λ r. ⌜ r ≡ presentIn m ⌝ }
-{
-    m / 256 % 256
-}
-
-// The word.
-fn word_in(m: u64) -> u32
-    ensures { λ r. ⌜ r ≡ wordIn m ⌝ }
-{
-    (m / 4294967296) as u32
-}
-
 // What was counted.
 pub fn work_in(m: u64) -> u64
     ensures { λ r. ⌜ r ≡ middleIn m ⌝ }
@@ -83,24 +63,11 @@ fn value_in(m: u64) -> u64
     m % 65536 + 4294967296 * (m / 4294967296)
 }
 
-// The type and the word, with the present byte 1.
-fn full_in(m: u64) -> u64
-    ensures { λ r. ⌜ r ≡ typeIn m + 256 + 4294967296 * wordIn m ⌝ }
-{
-    m % 256 + 256 + 4294967296 * (m / 4294967296)
-}
-
 // The 8 bytes of the value that a cell's content stands for.
 pub fn exactly(m: u64) -> u64
     ensures { λ r. ⌜ r ≡ packed (unpacked m) ⌝ }
 {
-    if is_plain(type_in(m)) {
-        return full_in(m);
-    }
-    if present_in(m) == 0 {
-        return m % 256;
-    }
-    full_in(m)
+    pack_from(type_in(m), present_in(m), word_in(m))
 }
 
 // A value with what was counted.
@@ -178,71 +145,76 @@ pub fn variable(env: &[u64; 1008], n: usize) -> u64
     looked(env, n)
 }
 
-// The word of an outcome that is a plain value of type t. (Stuck has type 0.)
+// The word of an outcome that is a plain value of type t. (Stuck reads as absent.)
 fn plain_word(t: u8, m: u64) -> Word
-    requires { ⌜ isPlain t ≡ true ⌝ }
     ensures { λ r. ⌜ r ≡ wordBy t (outcomeIn m) ⌝ }
 {
-    if type_in(m) == t {
-        Word::Is(word_in(m))
-    } else {
-        Word::Not
+    match unpack(m) {
+        Value::Plain(u, w) => {
+            if u == t {
+                return Word::Is(w);
+            }
+            Word::Not
+        }
+        Value::Absent(_) => Word::Not,
+        Value::Present(_, _) => Word::Not,
     }
 }
 
-// The type that an operation takes: int up to kind 23, then bool.
-fn operand_type(k: u8) -> u8
-    ensures { λ r. ⌜ (r ≡ operandType k) × (isPlain r ≡ true) ⌝ }
+// What an operation gives on the words of its operands, with what was counted.
+fn result(k: u8, x: u32, y: u32, work: u64) -> u64
+    requires { ⌜ (0 < work) × (work < 65536) ⌝ }
+    ensures { λ r. ⌜ (outcomeIn r ≡ Done (meaning k x y) (record { work = work })) × IsOutcome r ⌝ }
 {
-    if k <= 23 { INT } else { BOOL }
+    if k <= 20 {
+        return outcome(Value::Plain(INT, number(k, x, y)), work);
+    }
+    if k == 21 {
+        return outcome(divide(x, y), work);
+    }
+    if test(k, x, y) {
+        return outcome(Value::Plain(BOOL, 1), work);
+    }
+    outcome(Value::Plain(BOOL, 0), work)
 }
 
-// A word as a 64-bit number.
-fn wide(x: u32) -> u64
-    ensures { λ r. ⌜ (r ≡ x) × (r < 4294967296) ⌝ }
+// An operation that takes ints, on two outcomes, by one rule.
+fn on_ints(k: u8, r: u64, s: u64) -> u64
+    requires { ⌜ (operandType k ≡ intT) × (workOf (outcomeIn r) + workOf (outcomeIn s) < 65535) ⌝ }
+    ensures { λ e. ⌜ (outcomeIn e ≡ rule (operatedOf k (outcomeIn r) (outcomeIn s))) × IsOutcome e ⌝ }
 {
-    x as u64
+    let Word::Is(x) = plain_word(INT, r) else {
+        return 0;
+    };
+    let Word::Is(y) = plain_word(INT, s) else {
+        return 0;
+    };
+    result(k, x, y, work_in(r) + work_in(s) + 1)
 }
 
-// The word of a truth value.
-fn truth(x: bool) -> u64
-    ensures { λ r. ⌜ r ≡ (if x then 1 else 0) ⌝ }
+// An operation that takes bools, on two outcomes, by one rule.
+fn on_bools(k: u8, r: u64, s: u64) -> u64
+    requires { ⌜ (operandType k ≡ boolT) × (workOf (outcomeIn r) + workOf (outcomeIn s) < 65535) ⌝ }
+    ensures { λ e. ⌜ (outcomeIn e ≡ rule (operatedOf k (outcomeIn r) (outcomeIn s))) × IsOutcome e ⌝ }
 {
-    if x { 1 } else { 0 }
+    let Word::Is(x) = plain_word(BOOL, r) else {
+        return 0;
+    };
+    let Word::Is(y) = plain_word(BOOL, s) else {
+        return 0;
+    };
+    result(k, x, y, work_in(r) + work_in(s) + 1)
 }
 
-// The low half of an operation's result that has its operands' type: that type and the present byte as one operand has them, and both
-// counts and one more.
-fn low_half(r: u64, s: u64) -> u64
-    requires { ⌜ middleIn r + middleIn s < 65535 ⌝ }
-    ensures { λ h. ⌜ h ≡ typeIn r + 256 * presentIn r + 65536 * (middleIn r + middleIn s + 1) ⌝ }
-{
-    r % 4294967296 + 65536 * (work_in(s) + 1)
-}
-
-// An operation on two outcomes, by one rule. (The type of a comparison of ints, bool, is one below theirs.)
+// An operation on two outcomes, by one rule: up to kind 23 it takes ints, then bools.
 pub fn operated(k: u8, r: u64, s: u64) -> u64
     requires { ⌜ IsOutcome r × (workOf (outcomeIn r) + workOf (outcomeIn s) < 65535) ⌝ }
     ensures { λ e. ⌜ (outcomeIn e ≡ rule (operatedOf k (outcomeIn r) (outcomeIn s))) × IsOutcome e ⌝ }
 {
-    let t = operand_type(k);
-    let Word::Is(x) = plain_word(t, r) else {
-        return 0;
-    };
-    let Word::Is(y) = plain_word(t, s) else {
-        return 0;
-    };
-    if k <= 20 {
-        return low_half(r, s) + 4294967296 * wide(number(k, x, y));
-    }
-    if k == 21 {
-        return outcome(divide(x, y), work_in(r) + work_in(s) + 1);
-    }
-    let w = truth(test(k, x, y));
     if k <= 23 {
-        return low_half(r, s) - 1 + 4294967296 * w;
+        return on_ints(k, r, s);
     }
-    low_half(r, s) + 4294967296 * w
+    on_bools(k, r, s)
 }
 
 // Not of an outcome, by one rule.
@@ -265,11 +237,11 @@ pub fn lifted(r: u64) -> u64
     requires { ⌜ workOf (outcomeIn r) < 65535 ⌝ }
     ensures { λ s. ⌜ (outcomeIn s ≡ rule (liftedOf (outcomeIn r))) × IsOutcome s ⌝ }
 {
-    let t = type_in(r);
-    if is_plain(t) {
-        return outcome(Value::Present(t + MAYBE, word_in(r)), work_in(r) + 1);
+    match unpack(r) {
+        Value::Plain(t, w) => outcome(Value::Present(t + MAYBE, w), work_in(r) + 1),
+        Value::Absent(_) => 0,
+        Value::Present(_, _) => 0,
     }
-    0
 }
 
 // The arm, yes or no, that the outcome of a test chooses.
@@ -290,21 +262,21 @@ pub fn chosen(r: u64, yes: usize, no: usize) -> Arm
 pub fn apart(r: u64) -> Parts
     ensures { λ q. ⌜ q ≡ partsOf (outcomeIn r) ⌝ }
 {
-    let t = type_in(r);
     if r == 0 {
         return Parts::Wrong;
     }
-    if is_plain(t) {
-        return Parts::Wrong;
-    }
     let count = Tally { work: work_in(r) };
-    if present_in(r) == 0 {
-        return Parts::Maybe(Event::Quiet, count);
+    match unpack(r) {
+        Value::Plain(_, _) => Parts::Wrong,
+        Value::Absent(_) => Parts::Maybe(Event::Quiet, count),
+        Value::Present(t, w) => {
+            if is_maybe(t) {
+                let inner = pack(Value::Plain(t - MAYBE, w));
+                return Parts::Maybe(Event::Occurs(inner), count);
+            }
+            Parts::Wrong
+        }
     }
-    if is_maybe(t) {
-        return Parts::Maybe(Event::Occurs(full_in(r) - 4), count);
-    }
-    Parts::Wrong
 }
 
 // An outcome taken apart.

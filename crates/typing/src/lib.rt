@@ -19,10 +19,19 @@ use places::NOWHERE;
 use places::place;
 use places::sooner;
 use places::wrong_unless;
+use rules::BOOL;
+use rules::INT;
+use rules::MAYBE;
+use rules::NO_NEXT;
 use rules::Place;
 use table::declared;
 use table::node;
+use values::MAYBE_INT;
 use values::is_plain;
+use values::type_in;
+
+// What the next of a list's last node is.
+const LAST: usize = NO_NEXT as usize;
 
 // The type of the root, and the smallest wrong place.
 pub struct Typed {
@@ -35,13 +44,6 @@ fn typed_at(t: u8, at: u32) -> u64
     ensures { λ r. ⌜ (typeIn r ≡ t) × (placeBelow r ≡ placeIn at) ⌝ }
 {
     (t as u64) + 256 * (at as u64)
-}
-
-// Its type.
-fn type_in(m: u64) -> u8
-    ensures { λ r. ⌜ r ≡ typeIn m ⌝ }
-{
-    (m % 256) as u8
 }
 
 // Its place, as a number.
@@ -78,35 +80,35 @@ fn wide(t: u8) -> u32
 fn is_maybe(x: u8, t: u8) -> bool
     ensures { λ r. ⌜ r ≡ eqb x (maybeOf t) ⌝ }
 {
-    wide(x) == wide(t) + 4
+    wide(x) == wide(t) + wide(MAYBE)
 }
 
 fn just_type(t: u8) -> u8
     ensures { λ r. ⌜ r ≡ justType t ⌝ }
 {
-    if is_plain(t) { t + 4 } else { t }
+    if is_plain(t) { t + MAYBE } else { t }
 }
 
 fn operand_type(k: u8) -> u8
     ensures { λ r. ⌜ r ≡ operandType k ⌝ }
 {
-    if k <= 23 { 3 } else { 2 }
+    if k <= 23 { INT } else { BOOL }
 }
 
 fn result_type(k: u8) -> u8
     ensures { λ r. ⌜ r ≡ resultType k ⌝ }
 {
     if k <= 20 {
-        3
+        INT
     } else {
-        if k == 21 { 7 } else { 2 }
+        if k == 21 { MAYBE_INT } else { BOOL }
     }
 }
 
 fn channel_type(c: usize) -> u8
     ensures { λ r. ⌜ r ≡ channelType c ⌝ }
 {
-    if c < 4 { 3 } else { 7 }
+    if c < 4 { INT } else { MAYBE_INT }
 }
 
 // A node whose own rule holds or not, over two places below it.
@@ -134,16 +136,16 @@ fn negation(i: usize, x: u64) -> u64
     requires { ⌜ i < 1008 ⌝ }
     ensures { λ r. ⌜ (typeIn r ≡ boolT) × (placeBelow r ≡ soonerOf (wrongUnless (eqb (typeIn x) boolT) i) (placeBelow x)) ⌝ }
 {
-    let here = wrong_unless(type_in(x) == 2, i);
+    let here = wrong_unless(type_in(x) == BOOL, i);
     let x_at = place_in(x);
-    typed_at(2, sooner(here, x_at))
+    typed_at(BOOL, sooner(here, x_at))
 }
 
 fn choice(i: usize, test: u64, x: u64, y: u64) -> u64
     requires { ⌜ i < 1008 ⌝ }
     ensures { λ r. ⌜ (typeIn r ≡ typeIn x) × (placeBelow r ≡ soonerOf (wrongUnless (eqb (typeIn test) boolT and eqb (typeIn x) (typeIn y)) i) (soonerOf (placeBelow test) (soonerOf (placeBelow x) (placeBelow y)))) ⌝ }
 {
-    let right = both(type_in(test) == 2, type_in(x) == type_in(y));
+    let right = both(type_in(test) == BOOL, type_in(x) == type_in(y));
     let x_at = place_in(x);
     let y_at = place_in(y);
     let arms = sooner(x_at, y_at);
@@ -288,7 +290,7 @@ pub fn type_s(p: &&[u8], i: usize) -> u64
             let s_at = place_in(s);
             typed_at(type_in(s), sooner(s_at, cases))
         }
-        _ => typed_at(3, NOWHERE),
+        _ => typed_at(INT, NOWHERE),
     }
 }
 
@@ -300,7 +302,7 @@ pub fn type_b(p: &&[u8], j: usize, t: u8) -> u64
     let n = node(*p, j);
     let body = type_s(p, n.a);
     let body_at = place_in(body);
-    if n.b == 65535 {
+    if n.b == LAST {
         return bodies(both(type_in(body) == t, true), sooner(body_at, NOWHERE));
     }
     let rest = type_b(p, n.b, t);
@@ -320,7 +322,7 @@ pub fn type_c(p: &&[u8], j: usize) -> u32
     let event = type_s(p, n.a);
     let right = is_maybe(type_in(event), declared(*p, n.c));
     let event_at = place_in(event);
-    if n.b == 65535 {
+    if n.b == LAST {
         return under(right, j, event_at, NOWHERE);
     }
     let rest = type_c(p, n.b);

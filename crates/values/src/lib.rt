@@ -1,15 +1,21 @@
-// Values as one number, and counts.
+// Values as one number: made by their constructors and packed, and unpacked.
 ghost use mathlib.Core.Path.{_≡_};
 ghost use Prim.Native.Nat.{_+_, _*_, _<_};
-ghost use Rattle.rules.specs.Values.{isPlain, isMaybe, valueFits, valueFrom, packed, unpacked};
-ghost use Rattle.rules.specs.Work.{_plus_};
+ghost use Rattle.rules.specs.Values.{isPlain, isMaybe, valueFits, valueFrom, packed, unpacked, typeIn, presentIn, wordIn};
 use kinds::both;
 use kinds::either;
+use rules::BOOL;
 use rules::INT;
 use rules::MAYBE;
-use rules::Tally;
 use rules::UNIT;
 use rules::Value;
+
+// Maybe unit, maybe bool, maybe int.
+pub const MAYBE_UNIT: u8 = MAYBE + UNIT;
+
+pub const MAYBE_BOOL: u8 = MAYBE + BOOL;
+
+pub const MAYBE_INT: u8 = MAYBE + INT;
 
 // Types 1-3.
 pub fn is_plain(t: u8) -> bool
@@ -22,7 +28,7 @@ pub fn is_plain(t: u8) -> bool
 pub fn is_maybe(t: u8) -> bool
     ensures { λ r. ⌜ r ≡ isMaybe t ⌝ }
 {
-    both(MAYBE + UNIT <= t, t <= MAYBE + INT)
+    both(MAYBE_UNIT <= t, t <= MAYBE_INT)
 }
 
 // A present byte and a word are those of a value of type t.
@@ -31,20 +37,20 @@ pub fn value_fits(t: u8, present: u64, word: u64) -> bool
 {
     let there = either(present == 1, both(present == 0, is_maybe(t)));
     let absent = either(word == 0, present == 1);
-    let unit = either(word == 0, !either(t == 1, t == 5));
-    let truth = either(word <= 1, !either(t == 2, t == 6));
+    let unit = either(word == 0, !either(t == UNIT, t == MAYBE_UNIT));
+    let truth = either(word <= 1, !either(t == BOOL, t == MAYBE_BOOL));
     both(both(both(there, absent), unit), truth)
 }
 
 // A byte as a 64-bit number.
-fn wide(x: u8) -> u64
+pub fn wide(x: u8) -> u64
     ensures { λ r. ⌜ (r ≡ x) × (r < 256) ⌝ }
 {
     x as u64
 }
 
 // A word as a 64-bit number.
-fn wide_word(x: u32) -> u64
+pub fn wide_word(x: u32) -> u64
     ensures { λ r. ⌜ (r ≡ x) × (r < 4294967296) ⌝ }
 {
     x as u64
@@ -74,42 +80,43 @@ pub fn value_from(t: u8, present: usize, word: u32) -> Value
     Value::Present(t, word)
 }
 
-// A plain or present value as one number.
-fn full(t: u8, word: u32) -> u64
-    ensures { λ r. ⌜ r ≡ t + 256 + 4294967296 * word ⌝ }
-{
-    wide(t) + 256 + 4294967296 * wide_word(word)
-}
-
 // The value that a type, a present byte and a word stand for, as one number.
 pub fn pack_from(t: u8, present: usize, word: u32) -> u64
     ensures { λ r. ⌜ r ≡ packed (valueFrom t present word) ⌝ }
 {
     if is_plain(t) {
-        return full(t, word);
+        return pack(Value::Plain(t, word));
     }
     if present == 0 {
-        return wide(t);
+        return pack(Value::Absent(t));
     }
-    full(t, word)
+    pack(Value::Present(t, word))
+}
+
+// The type byte of a number of 8 bytes.
+pub fn type_in(m: u64) -> u8
+    ensures { λ r. ⌜ r ≡ typeIn m ⌝ }
+{
+    (m % 256) as u8
+}
+
+// The present byte.
+pub fn present_in(m: u64) -> usize
+    ensures { λ r. ⌜ r ≡ presentIn m ⌝ }
+{
+    (m / 256 % 256) as usize
+}
+
+// The word.
+pub fn word_in(m: u64) -> u32
+    ensures { λ r. ⌜ r ≡ wordIn m ⌝ }
+{
+    (m / 4294967296) as u32
 }
 
 // The value of 8 bytes.
 pub fn unpack(m: u64) -> Value
     ensures { λ r. ⌜ r ≡ unpacked m ⌝ }
 {
-    let t = (m % 256) as u8;
-    let present = (m / 256 % 256) as usize;
-    let word = (m / 4294967296) as u32;
-    value_from(t, present, word)
-}
-
-// Two counts together.
-pub fn plus(u: Tally, v: Tally) -> Tally
-    requires { ⌜ u .work + v .work < 18446744073709551616 ⌝ }
-    ensures { λ r. ⌜ r ≡ (u plus v) ⌝ }
-{
-    Tally {
-        work: u.work + v.work,
-    }
+    value_from(type_in(m), present_in(m), word_in(m))
 }

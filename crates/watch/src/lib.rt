@@ -1,4 +1,4 @@
-// The three public calls. Each answers for every byte string that it is handed: none has a requires. (`begin` is for a program that was accepted.)
+// The three public calls. Each answers for every byte string that it is handed: none has a requires.
 ghost use mathlib.Core.Path.{_≡_};
 ghost use Prim.Native.Nat.{_-_};
 ghost use Rattle.rules.specs.Layout.{nodes, cells as cellsOf};
@@ -11,12 +11,11 @@ ghost use Rattle.rules.specs.Accepted.{Accepted};
 ghost use Rattle.rules.specs.Calls.{checkCall, startCall, runCall, runOutcome};
 ghost use Rattle.cells.specs.Indexed.{Indexed};
 ghost use Rattle.steps.specs.Going.{Leaves};
-ghost use Rattle.watch.specs.Begun.{Begun, startRest};
+ghost use Rattle.starting.specs.Begun.{startRest};
 ghost use Rattle.watch.specs.Lent.{lentRest, runFits};
 use answers::otherwise;
 use answers::refuse_if;
 use bound::bound_of;
-use cells::cell_at;
 use cells::count_cells;
 use cells::index_cells;
 use rules::Checked;
@@ -24,7 +23,7 @@ use rules::Ran;
 use rules::Refusal;
 use rules::Started;
 use rules::Verdict;
-use state::fill_start;
+use starting::begin;
 use steps::run_records;
 use verdict::judge;
 use well::well_formed;
@@ -63,20 +62,6 @@ pub fn check(program: &[u8]) -> Checked
         Verdict::Refuse(r) => refused(r),
         Verdict::Fine => accept(program, found.count, found.ty),
     }
-}
-
-// The start of an accepted program, for a caller that makes its steps one by one: the table of its cells and the start state, if the room for it
-// is of the right length.
-pub fn begin(p: &[u8], index: &mut [u16; 2016], st: &mut [u8], count: usize) -> Started
-    requires { ⌜ Accepted (now p) × (count ≡ nodes (now p)) ⌝ }
-    ensures { λ r. ⌜ Begun (now (p .entry)) (now (index .exit)) (now (st .entry)) (now (st .exit)) r ⌝ }
-{
-    let held = index_cells(p, index, count);
-    if st.len() != cell_at(held) {
-        return Started::Refused(Refusal::StateFault);
-    }
-    fill_start(p, index, st, count);
-    Started::Ready
 }
 
 // The start state of an accepted program, if the room for it is of the right length.

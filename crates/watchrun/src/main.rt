@@ -1,106 +1,76 @@
-// Standard input: blocks, then records. The program is checked and started once, and each record costs its step. Prints a line for the program, one for each step as soon as it is done, and a last line.
+// Standard input: blocks, then records. The program is checked and started once, and each record costs its step. Here is reading, writing and
+// calling; how much is read, and what each line is, crate printing answers.
 mod say;
 
+ghost use mathlib.Core.Bool.{true, false};
 ghost use mathlib.Core.Path.{_≡_};
-ghost use Prim.Native.Nat.{_≤_};
-ghost use Rattle.rules.specs.Layout.{nodes};
+ghost use Prim.Native.Nat.{_+_, _≤_};
+ghost use lib.ListN.{length};
+ghost use Rattle.rules.specs.Layout.{nodes, cells as cellsOf};
 ghost use Rattle.rules.specs.Accepted.{Accepted};
 ghost use Rattle.steps.specs.Going.{Going};
+ghost use Rattle.printing.specs.Turns.{Under};
 use feed::Got;
 use feed::Place;
 use rules::Checked;
-use rules::Ran;
-use rules::Refusal;
 use rules::Started;
-use steps::run_records;
+use starting::MOST_STATE;
 
 const BLOCK: usize = 512;
 
-const RECORD: usize = 40;
-
-const MOST_RECORDS: u32 = 4096;
-
-// How many blocks block 0 says, if 1 to 24, else just one.
-fn block_count(program: &[u8]) -> usize
-    ensures { λ r. ⌜ (1 ≤ r) × (r ≤ 24) ⌝ }
-{
-    if program.len() < 4 {
-        return 1;
+// Before the first read.
+fn nothing_read() -> Place {
+    Place {
+        at: 0,
+        end: 0,
+        failed: false,
     }
-    let n = table::u16_at(program, 2);
-    if n < 1 {
-        return 1;
-    }
-    if n > 24 {
-        return 1;
-    }
-    n
 }
 
-// Reads the blocks. A part block, or too few, is the check's to refuse.
-fn take_program(input: &mut [u8], program: &mut [u8]) -> Got {
-    let head = feed::gather(Place { at: 0, end: 0 }, input, program, 0, BLOCK);
-    if head.count < BLOCK {
+// Reads block 0, and the blocks that are left after it. A part block, or too few, is the check's to refuse.
+fn take_program(input: &mut [u8], program: &mut [u8]) -> Got
+    requires { ⌜ 512 ≤ length (now program) ⌝ }
+{
+    let head = feed::gather(nothing_read(), input, program, 0, BLOCK);
+    let after = head.place;
+    if after.failed {
         return head;
     }
-    let more = (block_count(program) - 1) * BLOCK;
-    let after = head.place;
-    let tail = feed::gather(after, input, program, BLOCK, more);
+    let left = printing::blocks_left(program, head.count);
+    let tail = feed::gather(after, input, program, BLOCK, left);
     let last = tail.place;
     Got {
         place: last,
-        count: BLOCK + tail.count,
+        count: head.count + tail.count,
     }
 }
 
-// The place of a refused record is the number of steps printed.
-fn placed(r: Refusal, steps: u32) -> Refusal {
-    match r {
-        Refusal::InputFault(_) => Refusal::InputFault(steps),
-        Refusal::TimeBack(_) => Refusal::TimeBack(steps),
-        other => other,
-    }
-}
-
-// After a record: what is unread, the work so far, and whether to go on.
-struct After {
+// After a turn: what is unread, the steps done and their work, and whether there is more to do.
+struct Next {
     at: usize,
     end: usize,
+    steps: u32,
     total: u32,
     more: bool,
 }
 
 // Nothing more is to be read or printed.
-fn stop() -> After {
-    After {
+fn stop() -> Next
+    ensures { λ r. ⌜ r .more ≡ false ⌝ }
+{
+    Next {
         at: 0,
         end: 0,
+        steps: 0,
         total: 0,
         more: false,
     }
 }
 
-// A refusal is the last line.
-fn stop_refused(r: Refusal) -> After {
-    say::refused(r);
-    stop()
-}
-
-// A step that is done: its line, and its work to the total. (4,096 steps don't take that past 4,294,967,295: `run-total` in crate promises.)
-fn finished(after: Place, record: &[u8; 40], value: &[u8; 8], work: u32, total: u32) -> After {
-    say::step(record, value, work);
-    After {
-        at: after.at,
-        end: after.end,
-        total: std::num::wrapping_add_u32(total, work),
-        more: true,
-    }
-}
-
-// Takes one record: a run of one step.
+// One turn: reads what is wanted for it, and writes its line. A read or a write that fails ends the run.
 fn step(
     place: Place,
-    done: u32,
+    steps: u32,
     total: u32,
     program: &[u8],
     index: &[u16; 2016],
@@ -108,39 +78,44 @@ fn step(
     env: &mut [u64; 1008],
     input: &mut [u8],
     count: usize,
-) -> After
-    requires { ⌜ Going (now program) (now index) (now state) (now env) count ⌝ }
-    ensures { λ _. ⌜ Going (now (program .entry)) (now (index .entry)) (now (state .exit)) (now (env .exit)) count ⌝ }
+) -> Next
+    requires { ⌜ Under (now program) (now index) (now state) (now env) count steps total ⌝ }
+    ensures { λ r. ⌜ (r .more ≡ true → Under (now (program .entry)) (now (index .entry)) (now (state .exit)) (now (env .exit)) count (r .steps) (r .total)) × (r .more ≡ true → r .steps ≡ steps + 1) ⌝ }
 {
-    let mut record = [0u8; 40];
-    let got = feed::gather(place, input, &mut record, 0, RECORD);
-    if got.count == 0 {
-        say::ended(done, total);
+    let mut rec = [0u8; 40];
+    let got = feed::gather(place, input, &mut rec, 0, printing::wanted(steps));
+    let after = got.place;
+    if after.failed {
+        say::unread();
         return stop();
     }
-    if got.count < RECORD {
-        return stop_refused(Refusal::RecordsLength);
+    let mut line = [0u8; 64];
+    let t = printing::turn(
+        program,
+        index,
+        &rec,
+        got.count,
+        state,
+        env,
+        count,
+        steps,
+        total,
+        &mut line,
+    );
+    let n = t.length;
+    if !say::put(&line[..n]) {
+        return stop();
     }
-    let after = got.place;
-    let mut value = [0u8; 8];
-    match run_records(program, index, &record, state, env, &mut value, count) {
-        Ran::Finished(_, work) => finished(after, &record, &value, work, total),
-        Ran::Refused(r, _) => stop_refused(placed(r, done)),
+    Next {
+        at: after.at,
+        end: after.end,
+        steps: t.steps,
+        total: t.total,
+        more: t.more,
     }
 }
 
-// After 4,096 records there must be no more.
-fn no_more(place: Place, done: u32, total: u32, input: &mut [u8]) {
-    let mut one = [0u8; 1];
-    let got = feed::gather(place, input, &mut one, 0, 1);
-    if got.count == 0 {
-        say::ended(done, total);
-        return;
-    }
-    say::refused(Refusal::RecordsLength);
-}
-
-// Takes one record after another, at most 4,096.
+// One turn after the other, while there is more to do.
 fn steps(
     place: Place,
     program: &[u8],
@@ -156,27 +131,20 @@ fn steps(
     let mut end = place.end;
     let mut done: u32 = 0;
     let mut total: u32 = 0;
-    while done < MOST_RECORDS {
-        let t = step(
-            Place { at: at, end: end },
-            done,
-            total,
-            program,
-            index,
-            state,
-            env,
-            input,
-            count,
-        );
-        if !t.more {
-            return;
-        }
+    let mut more = true;
+    while more {
+        let here = Place {
+            at: at,
+            end: end,
+            failed: false,
+        };
+        let t = step(here, done, total, program, index, state, env, input, count);
         at = t.at;
         end = t.end;
+        done = t.steps;
         total = t.total;
-        done += 1;
+        more = t.more;
     }
-    no_more(Place { at: at, end: end }, done, total, input);
 }
 
 // Starts an accepted program, and steps it: the table of its cells and the room for its variables are made once.
@@ -184,46 +152,49 @@ fn started(place: Place, program: &[u8], state: &mut [u8], input: &mut [u8], cou
     requires { ⌜ Accepted (now program) × (count ≡ nodes (now program)) ⌝ }
 {
     let mut index: [u16; 2016] = [0; 2016];
-    let ready = watch::begin(program, &mut index, state, count);
+    let ready = starting::begin(program, &mut index, state, count);
     match ready {
         Started::Ready => {
             let mut env: [u64; 1008] = [0; 1008];
             steps(place, program, &index, state, &mut env, input, count);
         }
-        Started::Refused(r) => say::refused(r),
+        Started::Refused(_) => {}
     }
 }
 
-// A program of so many cells runs in a state of 4 bytes and 8 for each. (No program has more than 1,008: the tests are for the proof.)
+// A program of so many cells runs in a state of that length.
 fn accepted(
     place: Place,
-    held: u32,
+    held: usize,
     program: &[u8],
     state: &mut [u8],
     input: &mut [u8],
     count: usize,
 )
-    requires { ⌜ Accepted (now program) × (count ≡ nodes (now program)) ⌝ }
+    requires { ⌜ Accepted (now program) × (count ≡ nodes (now program)) × (held ≡ cellsOf (now program)) × (length (now state) ≡ 8068) ⌝ }
 {
-    if held > 1008 {
-        return;
-    }
-    let n = 4 + 8 * held as usize;
-    if n > state.len() {
-        return;
-    }
+    let n = cells::cell_at(held);
     started(place, program, &mut state[..n], input, count);
 }
 
-// Checks what was read; prints the first line, or the refusal as the only one.
-fn watched(place: Place, program: &[u8], state: &mut [u8], input: &mut [u8]) {
+// Checks what was read, prints the first line or the only one, and runs what is accepted.
+fn watched(place: Place, program: &[u8], state: &mut [u8], input: &mut [u8])
+    requires { ⌜ length (now state) ≡ 8068 ⌝ }
+{
     let found = watch::check(program);
+    if !say::opening(found) {
+        return;
+    }
     match found {
-        Checked::Accepted(n, held, bound, ty) => {
-            say::first(n, held, bound, ty);
-            accepted(place, held, program, state, input, n as usize);
-        }
-        Checked::Refused(r) => say::refused(r),
+        Checked::Accepted(n, held, _, _) => accepted(
+            place,
+            held as usize,
+            program,
+            state,
+            input,
+            n as usize,
+        ),
+        Checked::Refused(_) => {}
     }
 }
 
@@ -231,9 +202,17 @@ fn watched(place: Place, program: &[u8], state: &mut [u8], input: &mut [u8]) {
 fn main() {
     let mut input = io::buffer();
     let mut program = [0u8; 12288];
-    let mut state = [0u8; 8068];
+    let mut state = [0u8; MOST_STATE];
     let got = take_program(&mut input, &mut program);
     let place = got.place;
-    let n = got.count;
-    watched(place, feed::first(&program, n), &mut state, &mut input);
+    if place.failed {
+        say::unread();
+        return;
+    }
+    watched(
+        place,
+        feed::first(&program, got.count),
+        &mut state,
+        &mut input,
+    );
 }

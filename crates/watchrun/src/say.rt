@@ -1,32 +1,30 @@
 // Writes each line as soon as it is made.
-use rules::Refusal;
+use rules::Checked;
 
-// The first line of an accepted program.
-pub fn first(n: u32, held: u32, bound: u32, ty: u8) {
-    let mut line = [0u8; 64];
-    let k = lines::first_line(n, held, bound, ty, &mut line);
-    io::write_all(libc::STDOUT_FILENO, &line[..k]);
+// Writes a line and answers whether it was written, or says on standard error that it is lost. No line may follow one that was not written: a run
+// with a gap would read as a whole one.
+pub fn put(line: &[u8]) -> bool {
+    let is_written = feed::write(line);
+    if !is_written {
+        io::write_all(
+            libc::STDERR_FILENO,
+            b"watchrun: standard output failed; lines are lost\n",
+        );
+    }
+    is_written
 }
 
-// The line of a step: the record's time, the value of its 8 bytes, the work.
-pub fn step(record: &[u8; 40], value: &[u8; 8], work: u32) {
-    let mut line = [0u8; 64];
-    let time = table::u32_at(record, 0);
-    let v = values::unpack(cells::u64_at(value, 0));
-    let k = lines::step_line(time, v, work, &mut line);
-    io::write_all(libc::STDOUT_FILENO, &line[..k]);
+// Says that a read failed: what was printed is not the whole run.
+pub fn unread() {
+    io::write_all(
+        libc::STDERR_FILENO,
+        b"watchrun: standard input failed; this is not its end\n",
+    );
 }
 
-// The last line of a run that ends with its input.
-pub fn ended(steps: u32, work: u32) {
+// The first line of what check found, or the only one.
+pub fn opening(found: Checked) -> bool {
     let mut line = [0u8; 64];
-    let k = lines::end_line(steps, work, &mut line);
-    io::write_all(libc::STDOUT_FILENO, &line[..k]);
-}
-
-// The last line of a refusal.
-pub fn refused(r: Refusal) {
-    let mut line = [0u8; 64];
-    let k = lines::refused_line(r, &mut line);
-    io::write_all(libc::STDOUT_FILENO, &line[..k]);
+    let k = printing::opening(found, &mut line);
+    put(&line[..k])
 }

@@ -10,8 +10,8 @@ number-of-requires : tie.Need-number-of-requires
 number-of-requires c κs = search needs
 
 -- src/lib.rt:139:51
-wide-requires : tie.Need-wide-requires
-wide-requires c κs = search needs
+number-requires : tie.Need-number-requires
+number-requires c κs = search needs
 
 -- src/lib.rt:139:43
 mul-set-cell : tie.Need-mul-set-cell
@@ -21,7 +21,7 @@ mul-set-cell c = search needs
 add-set-cell : tie.Need-add-set-cell
 add-set-cell c =
     let from = c .before .before .before .before .before in
-    omega (arith, c .wide .ensures, value-fits (from .args .v) (from .args .which) (from .pre .2) (from .pre .1) (omega arith))
+    omega (arith, c .number .ensures, value-fits (from .args .v) (from .args .which) (from .pre .2) (from .pre .1) (omega arith))
 
 -- src/lib.rt:139:5
 set-cell-requires : tie.Need-set-cell-requires
@@ -36,14 +36,14 @@ returns : tie.Need-returns
 unfolding holdBranch
 returns c =
     let from = c .before .before .before .before .before .before .before .before in
-    rw (c .before .before .set-cell .ensures, c .before .before .before .before .number-of .ensures, c .before .before .before .wide .ensures, from .pre .2)
+    rw (c .before .before .set-cell .ensures, c .before .before .before .before .number-of .ensures, c .before .before .before .number .ensures, from .pre .2)
 
 pub hold-branch-spec : {M : Type 1} → statement M
 hold-branch-spec =
     tie.close
     (tie.spec
     number-of-requires
-    wide-requires
+    number-requires
     mul-set-cell
     add-set-cell
     set-cell-requires

@@ -1,6 +1,4 @@
 use Rattle.outcomes.proofs.Combining.{arm-neither, arm-first, arm-second}
-use Rattle.rules.proofs.Round.{plain-yes}
-use native.Mathlib.Omega.{arith}
 use borrow.Author.Needs.{needs}
 use Rattle.outcomes.proofs.chosen.Statement.{statement}
 use Rattle.outcomes.proofs.chosen.Tie as tie
@@ -11,7 +9,7 @@ use Rattle.outcomes.proofs.work_in.Reads as work-in-reads
 
 -- src/lib.rt:223:23
 plain-word-requires : tie.Need-plain-word-requires
-plain-word-requires c κs = plain-yes 2 (omega arith) (omega arith)
+plain-word-requires c κs = search needs
 
 -- src/lib.rt:223:18
 enum-known-w : tie.Need-enum-known-w

@@ -1,64 +1,31 @@
-use Rattle.outcomes.proofs.Numbers.{test-of, exact-plain, exact-absent, exact-present}
-use Rattle.rules.specs.Values.{isPlain, typeIn}
-use mathlib.Core.Path.{sym, _∙_}
+use Rattle.rules.specs.Values.{unpacked}
 use borrow.Author.Needs.{needs}
 use Rattle.outcomes.proofs.exactly.Statement.{statement}
 use Rattle.outcomes.proofs.exactly.Tie as tie
 use Rattle.outcomes.proofs.exactly.Reads as reads
 use Rattle.outcomes.proofs.exactly.Lts as lts
-use Rattle.outcomes.proofs.full_in.Reads as full-in-reads
-use Rattle.outcomes.proofs.present_in.Reads as present-in-reads
-use Rattle.outcomes.proofs.type_in.Reads as type-in-reads
-use Rattle.values.proofs.is_plain.Reads as is-plain-reads
+use Rattle.values.proofs.pack_from.Reads as pack-from-reads
+use Rattle.values.proofs.present_in.Reads as present-in-reads
+use Rattle.values.proofs.type_in.Reads as type-in-reads
+use Rattle.values.proofs.word_in.Reads as word-in-reads
 
--- src/lib.rt:93:17
 type-in-requires : tie.Need-type-in-requires
 type-in-requires c κs = search needs
 
--- src/lib.rt:93:8
-is-plain-requires : tie.Need-is-plain-requires
-is-plain-requires c κs = search needs
-
--- src/lib.rt:94:9
-full-in-requires : tie.Need-full-in-requires
-full-in-requires c κs = search needs
-
--- src/lib.rt:94:9
-returns : tie.Need-returns
-returns c =
-    let from = c .before .before .before .before in
-    exact-plain (from .args .m) (test-of isPlain (c .before .before .before .type-in .ensures) (c .before .before .is-plain .ensures) (c .before .if1 .taken)) (c .full-in .ensures)
-
--- src/lib.rt:96:8
 present-in-requires : tie.Need-present-in-requires
 present-in-requires c κs = search needs
 
--- src/lib.rt:97:9
-returns-2 : tie.Need-returns-2
-unfolding typeIn
-returns-2 c =
-    let from = c .before .before .before .before .before in
-    exact-absent (from .args .m) (test-of isPlain (c .before .before .before .before .type-in .ensures) (c .before .before .before .is-plain .ensures) (c .before .before .if1 .left)) (sym (c .before .present-in .ensures) ∙ c .if2 .taken) (search needs)
+word-in-requires : tie.Need-word-in-requires
+word-in-requires c κs = search needs
 
--- src/lib.rt:99:5
-full-in-requires-2 : tie.Need-full-in-requires-2
-full-in-requires-2 c κs = search needs
+pack-from-requires : tie.Need-pack-from-requires
+pack-from-requires c κs = search needs
 
--- src/lib.rt:90:1
-returns-3 : tie.Need-returns-3
-returns-3 c =
-    let from = c .before .before .before .before .before .before in
-    exact-present (from .args .m) (test-of isPlain (c .before .before .before .before .before .type-in .ensures) (c .before .before .before .before .is-plain .ensures) (c .before .before .before .if1 .left)) (λ z. c .before .if2 .left (c .before .before .present-in .ensures ∙ z)) (c .full-in2 .ensures)
+returns : tie.Need-returns
+unfolding unpacked
+returns c =
+    rw (← c .before .before .before .type-in .ensures, ← c .before .before .present-in .ensures, ← c .before .word-in .ensures) (c .pack-from .ensures)
 
 pub exactly-spec : {M : Type 1} → statement M
 exactly-spec =
-    tie.close
-    (tie.spec
-    type-in-requires
-    is-plain-requires
-    full-in-requires
-    returns
-    present-in-requires
-    returns-2
-    full-in-requires-2
-    returns-3)
+    tie.close (tie.spec type-in-requires present-in-requires word-in-requires pack-from-requires returns)

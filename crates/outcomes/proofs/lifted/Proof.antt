@@ -1,74 +1,74 @@
 use Rattle.outcomes.proofs.Combining.{plain-most, lifted-no, lifted-yes, lifted-proper}
-use Rattle.outcomes.proofs.Numbers.{test-of}
+use Rattle.outcomes.proofs.Numbers.{plain-known, other-known}
 use Rattle.outcomes.proofs.Counted.{work-is}
+use mathlib.Core.Path.{sym, ap, _∙_}
 use Rattle.rules.specs.Values.{isPlain}
-use mathlib.Core.Path.{sym, _∙_}
 use native.Mathlib.Omega.{arith}
 use borrow.Author.Needs.{needs}
 use Rattle.outcomes.proofs.lifted.Statement.{statement}
 use Rattle.outcomes.proofs.lifted.Tie as tie
 use Rattle.outcomes.proofs.lifted.Reads as reads
 use Rattle.outcomes.proofs.lifted.Lts as lts
-use Rattle.outcomes.proofs.outcome.Reads as outcome-reads
-use Rattle.outcomes.proofs.type_in.Reads as type-in-reads
-use Rattle.outcomes.proofs.word_in.Reads as word-in-reads
-use Rattle.outcomes.proofs.work_in.Reads as work-in-reads
-use Rattle.values.proofs.is_plain.Reads as is-plain-reads
 
--- src/lib.rt:212:9
-type-in-requires : tie.Need-type-in-requires
-type-in-requires c κs = search needs
+unpack-requires : tie.Need-unpack-requires
+unpack-requires c κs = search needs
 
--- src/lib.rt:213:8
-is-plain-requires : tie.Need-is-plain-requires
-is-plain-requires c κs = search needs
+enum-known-t : tie.Need-enum-known-t
+enum-known-t c = search needs
 
--- src/lib.rt:214:39
-add-t4 : tie.Need-add-t4
-add-t4 c = omega (arith, plain-most _ (sym (c .before .is-plain .ensures) ∙ c .if1 .taken))
+add-t6 : tie.Need-add-t6
+add-t6 c =
+    let known = plain-known (c .before .before .before .before .args .r) (sym (c .before .before .before .unpack .ensures) ∙ c .before .t .given .1) in
+    omega (arith, known .0, plain-most _ (known .2))
 
--- src/lib.rt:214:50
-word-in-requires : tie.Need-word-in-requires
-word-in-requires c κs = search needs
-
--- src/lib.rt:214:63
 work-in-requires : tie.Need-work-in-requires
 work-in-requires c κs = search needs
 
--- src/lib.rt:214:63
 add-outcome : tie.Need-add-outcome
 add-outcome c =
     let from = c .before .before .before .before .before in
     omega (arith, from .pre, work-is (from .args .r), c .work-in .ensures)
 
--- src/lib.rt:214:9
 outcome-requires : tie.Need-outcome-requires
 outcome-requires c κs =
     let from = c .before .before .before .before .before in
-    (lifted-proper _ _ (sym (c .before .before .before .is-plain .ensures) ∙ c .before .before .if1 .taken), omega arith, omega (arith, from .pre, work-is (from .args .r), c .work-in .ensures))
+    let known = plain-known (from .args .r) (sym (c .before .before .before .before .unpack .ensures) ∙ c .before .before .t .given .1) in
+    (lifted-proper _ _ (ap isPlain (known .0) ∙ known .2), omega arith, omega (arith, from .pre, work-is (from .args .r), c .work-in .ensures))
 
--- src/lib.rt:214:9
+enum-told : tie.Need-enum-told
+enum-told c = search needs
+
+enum-told-2 : tie.Need-enum-told-2
+enum-told-2 c = search needs
+
 returns : tie.Need-returns
 returns c =
     let from = c .before .before .before .before .before .before in
-    lifted-yes (from .args .r) (c .before .before .before .before .before .type-in .ensures) (sym (c .before .before .before .before .is-plain .ensures) ∙ c .before .before .before .if1 .taken) (c .before .before .word-in .ensures) (c .before .work-in .ensures) (c .outcome .ensures)
+    let known = plain-known (from .args .r) (sym (c .before .before .before .before .before .unpack .ensures) ∙ c .before .before .before .t .given .1) in
+    lifted-yes (from .args .r) (known .0) (ap isPlain (known .0) ∙ known .2) (known .1) (c .before .work-in .ensures) (c .outcome .ensures)
 
--- src/lib.rt:208:1
 returns-2 : tie.Need-returns-2
 returns-2 c =
     let from = c .before .before .before in
-    lifted-no (from .args .r) (test-of isPlain (c .before .before .type-in .ensures) (c .before .is-plain .ensures) (c .if1 .left))
+    lifted-no (from .args .r) (other-known (from .args .r) (sym (c .before .before .unpack .ensures) ∙ c .enum-told .given .1) (λ z. omega arith))
+
+returns-3 : tie.Need-returns-3
+returns-3 c =
+    let from = c .before .before .before in
+    lifted-no (from .args .r) (other-known (from .args .r) (sym (c .before .before .unpack .ensures) ∙ c .enum-told2 .given .1) (λ z. omega arith))
 
 pub lifted-spec : {M : Type 1} → statement M
 lifted-spec =
     tie.close
     (tie.spec
-    type-in-requires
-    is-plain-requires
-    add-t4
-    word-in-requires
+    unpack-requires
+    enum-known-t
+    add-t6
     work-in-requires
     add-outcome
     outcome-requires
+    enum-told
+    enum-told-2
     returns
-    returns-2)
+    returns-2
+    returns-3)

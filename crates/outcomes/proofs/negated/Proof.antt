@@ -1,7 +1,6 @@
 use Rattle.outcomes.proofs.Combining.{negated-none, negated-false, negated-true}
 use Rattle.outcomes.proofs.Numbers.{proper-bool}
 use Rattle.outcomes.proofs.Counted.{work-is}
-use Rattle.rules.proofs.Round.{plain-yes}
 use native.Mathlib.Omega.{arith}
 use borrow.Author.Needs.{needs}
 use Rattle.outcomes.proofs.negated.Statement.{statement}
@@ -14,7 +13,7 @@ use Rattle.outcomes.proofs.work_in.Reads as work-in-reads
 
 -- src/lib.rt:197:23
 plain-word-requires : tie.Need-plain-word-requires
-plain-word-requires c κs = plain-yes 2 (omega arith) (omega arith)
+plain-word-requires c κs = search needs
 
 -- src/lib.rt:197:18
 enum-known-w : tie.Need-enum-known-w

@@ -30,7 +30,7 @@ use Rattle.typing.proofs.switching.Reads as switching-reads
 use Rattle.typing.proofs.type_e.Reads as type-e-reads
 use Rattle.typing.proofs.place_in.Reads as place-in-reads
 use Rattle.typing.proofs.same_in.Reads as same-in-reads
-use Rattle.typing.proofs.type_in.Reads as type-in-reads
+use Rattle.values.proofs.type_in.Reads as type-in-reads
 use Rattle.typing.proofs.typed_at.Reads as typed-at-reads
 use Rattle.typing.proofs.under.Reads as under-reads
 use Rattle.places.proofs.NumberLaws.{no-place}

@@ -14,14 +14,16 @@ wide-requires c κs = search needs
 wide-requires-2 : tie.Need-wide-requires-2
 wide-requires-2 c κs = search needs
 
--- src/lib.rt:73:16
+wide-requires-3 : tie.Need-wide-requires-3
+wide-requires-3 c κs = search needs
+
 add-result : tie.Need-add-result
 add-result c = search needs
 
 -- src/lib.rt:70:1
 returns : tie.Need-returns
 unfolding maybeOf
-returns c = rw (c .before .wide .ensures .0, c .wide2 .ensures .0)
+returns c = rw (c .before .before .wide .ensures .0, c .before .wide2 .ensures .0, c .wide3 .ensures .0)
 
 pub is-maybe-spec : {M : Type 1} → statement M
-is-maybe-spec = tie.close (tie.spec wide-requires wide-requires-2 add-result returns)
+is-maybe-spec = tie.close (tie.spec wide-requires wide-requires-2 wide-requires-3 add-result returns)

@@ -10,7 +10,7 @@ use Rattle.typing.proofs.type_root.Reads as reads
 use Rattle.typing.proofs.type_root.Lts as lts
 use Rattle.places.proofs.place.Reads as place-reads
 use Rattle.typing.proofs.place_in.Reads as place-in-reads
-use Rattle.typing.proofs.type_in.Reads as type-in-reads
+use Rattle.values.proofs.type_in.Reads as type-in-reads
 use Rattle.typing.proofs.type_s.Reads as type-s-reads
 
 -- src/lib.rt:360:16

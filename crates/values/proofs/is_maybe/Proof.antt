@@ -6,14 +6,6 @@ use Rattle.values.proofs.is_maybe.Reads as reads
 use Rattle.values.proofs.is_maybe.Lts as lts
 use Rattle.kinds.proofs.both.Reads as both-reads
 
--- src/lib.rt:56:10
-add-both : tie.Need-add-both
-add-both c = search needs
-
--- src/lib.rt:56:34
-add-both-2 : tie.Need-add-both-2
-add-both-2 c = search needs
-
 -- src/lib.rt:56:5
 both-requires : tie.Need-both-requires
 both-requires c κs = search needs
@@ -24,4 +16,4 @@ unfolding isMaybe
 returns c = c .both .ensures
 
 pub is-maybe-spec : {M : Type 1} → statement M
-is-maybe-spec = tie.close (tie.spec add-both add-both-2 both-requires returns)
+is-maybe-spec = tie.close (tie.spec both-requires returns)

@@ -1,5 +1,5 @@
 -- `watch::accept` meets its contract. The cells and the bound are those of an accepted program.
-use Rattle.watch.proofs.Calling.{counted, all-cells}
+use Rattle.starting.proofs.StartLaws.{counted, all-cells}
 use Rattle.cells.proofs.Numbered.{cells-most}
 use native.Mathlib.Omega.{arith}
 use borrow.Author.Needs.{needs}

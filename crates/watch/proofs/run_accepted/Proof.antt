@@ -1,4 +1,5 @@
-use Rattle.watch.proofs.Calling.{counted, all-cells, lent-fine, fits-most, run-lent, run-fits as run-goes}
+use Rattle.starting.proofs.StartLaws.{counted, all-cells}
+use Rattle.watch.proofs.Calling.{lent-fine, fits-most, run-lent, run-fits as run-goes}
 use Rattle.rules.proofs.Rooted.{root-of}
 use Rattle.rules.specs.Evaluate.{unbound}
 use Rattle.watch.specs.Lent.{lentRest}

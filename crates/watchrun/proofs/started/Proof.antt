@@ -6,8 +6,7 @@ use Rattle.watchrun.proofs.started.Statement.{statement}
 use Rattle.watchrun.proofs.started.Tie as tie
 use Rattle.watchrun.proofs.started.Reads as reads
 use Rattle.watchrun.proofs.started.Lts as lts
-use Rattle.watch.proofs.begin.Reads as begin-reads
-use Rattle.watchrun.proofs.say.refused.Reads as refused-reads
+use Rattle.starting.proofs.begin.Reads as begin-reads
 use Rattle.watchrun.proofs.steps.Reads as steps-reads
 
 begin-requires : tie.Need-begin-requires
@@ -19,16 +18,12 @@ enum-told c = search needs
 steps-requires : tie.Need-steps-requires
 unfolding unbound
 steps-requires c κs =
-    let told = c .before .before .before .before in
-    let begun = told .before .before .before .before .begin .ensures in
-    let pre = told .before .before .before .before .before .before .before .before .before .before .pre in
-    record { accepted = pre .0; indexed = begun .indexed; counted = pre .1; well = begun .well (told .enum-told .given .1); blank = refl }
+    let begun = c .before .before .before .before .before .before .before .before .begin .ensures in
+    let pre = c .before .before .before .before .before .before .before .before .before .before .before .before .before .before .pre in
+    record { accepted = pre .0; indexed = begun .indexed; counted = pre .1; well = begun .well (c .before .before .before .before .enum-told .given .1); blank = refl }
 
-enum-known-ready : tie.Need-enum-known-ready
-enum-known-ready c = search needs
-
-refused-requires : tie.Need-refused-requires
-refused-requires c κs = search needs
+enum-told-2 : tie.Need-enum-told-2
+enum-told-2 c = search needs
 
 same-length : tie.Need-same-length
 same-length c = search needs
@@ -52,8 +47,7 @@ started-spec =
     begin-requires
     enum-told
     steps-requires
-    enum-known-ready
-    refused-requires
+    enum-told-2
     same-length
     same-length-2
     returns

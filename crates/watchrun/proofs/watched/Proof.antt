@@ -8,32 +8,33 @@ use Rattle.watchrun.proofs.watched.Reads as reads
 use Rattle.watchrun.proofs.watched.Lts as lts
 use Rattle.watch.proofs.check.Reads as check-reads
 use Rattle.watchrun.proofs.accepted.Reads as accepted-reads
-use Rattle.watchrun.proofs.say.first.Reads as first-reads
-use Rattle.watchrun.proofs.say.refused.Reads as refused-reads
+use Rattle.watchrun.proofs.say.opening.Reads as opening-reads
 
 check-requires : tie.Need-check-requires
 check-requires c κs = search needs
 
+opening-requires : tie.Need-opening-requires
+opening-requires c κs = search needs
+
+returns : tie.Need-returns
+returns c = search needs
+
 enum-known-found : tie.Need-enum-known-found
 enum-known-found c = search needs
-
-first-requires : tie.Need-first-requires
-first-requires c κs = search needs
 
 cast-accepted : tie.Need-cast-accepted
 cast-accepted c = search needs
 
+cast-accepted-2 : tie.Need-cast-accepted-2
+cast-accepted-2 c = search needs
+
 accepted-requires : tie.Need-accepted-requires
 accepted-requires c κs =
-    let known = c .before .before .before .before in
-    let a = answered _ _ _ _ _ (sym (known .before .before .check .ensures) ∙ known .found .given .1) in
-    (a .accepts, a .count-is)
+    let a = answered _ _ _ _ _ (sym (c .before .before .before .before .before .before .before .check .ensures) ∙ c .before .before .before .found .given .1) in
+    (a .accepts, a .count-is, a .cells-is, c .before .before .before .before .before .before .before .before .before .before .before .pre)
 
-enum-known-found-2 : tie.Need-enum-known-found-2
-enum-known-found-2 c = search needs
-
-refused-requires : tie.Need-refused-requires
-refused-requires c κs = search needs
+enum-told : tie.Need-enum-told
+enum-told c = search needs
 
 same-length : tie.Need-same-length
 same-length c = search needs
@@ -41,24 +42,25 @@ same-length c = search needs
 same-length-2 : tie.Need-same-length-2
 same-length-2 c = search needs
 
-returns : tie.Need-returns
-returns c = search needs
-
 returns-2 : tie.Need-returns-2
 returns-2 c = search needs
+
+returns-3 : tie.Need-returns-3
+returns-3 c = search needs
 
 pub watched-spec : {M : Type 1} → statement M
 watched-spec =
     tie.close
     (tie.spec
     check-requires
+    opening-requires
+    returns
     enum-known-found
-    first-requires
     cast-accepted
+    cast-accepted-2
     accepted-requires
-    enum-known-found-2
-    refused-requires
+    enum-told
     same-length
     same-length-2
-    returns
-    returns-2)
+    returns-2
+    returns-3)

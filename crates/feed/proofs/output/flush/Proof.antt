@@ -4,11 +4,11 @@ use Rattle.feed.proofs.CountLaws.{counts}
 use Rattle.feed.proofs.output.flush.Statement.{statement}
 use Rattle.feed.proofs.output.flush.Tie as tie
 
-slice-aggregate-write-all : tie.Need-slice-aggregate-write-all
-slice-aggregate-write-all c = let a = c .before .before .before .args in counts (a .full) (a .out .now) (c .before .if1 .taken) .1
+slice-aggregate-write : tie.Need-slice-aggregate-write
+slice-aggregate-write c = let a = c .before .before .before .args in counts (a .full) (a .out .now) (c .before .if1 .taken) .1
 
-write-all-requires : tie.Need-write-all-requires
-write-all-requires c κs = search needs
+write-requires : tie.Need-write-requires
+write-requires c κs = search needs
 
 returns : tie.Need-returns
 returns c = search needs
@@ -17,4 +17,4 @@ returns-2 : tie.Need-returns-2
 returns-2 c = search needs
 
 pub flush-spec : {M : Type 1} → statement M
-flush-spec = tie.close (tie.spec slice-aggregate-write-all write-all-requires returns returns-2)
+flush-spec = tie.close (tie.spec slice-aggregate-write write-requires returns returns-2)

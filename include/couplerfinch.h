@@ -1,12 +1,12 @@
-/* The three calls of Couplerfinch for C: check, start and run.
+/* The four calls of Couplerfinch for C: check, start, run and explain.
  *
  * Every call ends and answers, whatever bytes and lengths it is handed; none has a precondition on the content. It writes the answer
  * to the room that is lent for it, and answers the code too: 0 where the call went through, or the first code that the rules
- * give. A refused check or start writes nothing else; a refused run keeps the whole steps done before the refused record, so a run
- * of one record that is refused changes nothing.
+ * give. A refused check, start or explain writes nothing else; a refused run keeps the whole steps done before the refused record, so a
+ * run of one record that is refused changes nothing.
  *
  * What C can't say, and the caller owes: a pointer is not NULL, even where its length is 0, and points to as many bytes as its
- * length says; no room that is written overlaps another. No call allocates, keeps a pointer or has memory of its own; each needs
+ * length says (explain's room: to as many 16-bit numbers as its entries say); no room that is written overlaps another. No call allocates, keeps a pointer or has memory of its own; each needs
  * at most 512 KiB of stack.
  */
 #ifndef COUPLERFINCH_H
@@ -41,11 +41,15 @@ extern "C" {
 #define COUPLERFINCH_VALUE 8u
 #define COUPLERFINCH_RECORDS 4096u
 
+/* An entry of explain's room behind the chain. */
+#define COUPLERFINCH_NO_ENTRY 65535u
+
 /* The length of a state of so many cells, and of the longest one. */
 #define COUPLERFINCH_STATE(cells) (4u + 8u * (size_t)(cells))
 #define COUPLERFINCH_LONGEST_STATE COUPLERFINCH_STATE(COUPLERFINCH_NODES)
 
-/* The codes; docs/CODES.md says what each means, where its place is and what to do. (14 was one, and is not used again.) */
+/* The codes; docs/CODES.md says what each means, where its place is and what to do. (14 was one, and is not used again.) Explain alone gives
+ * 25, no let to explain, and 26, a room that has not COUPLERFINCH_NODES entries. */
 #define COUPLERFINCH_DONE 0u
 #define COUPLERFINCH_PROGRAM_LENGTH 1u
 #define COUPLERFINCH_CHECK_SUM 2u
@@ -60,17 +64,23 @@ extern "C" {
 #define COUPLERFINCH_OUTPUT_LENGTH 11u
 #define COUPLERFINCH_INPUT_FAULT 12u
 #define COUPLERFINCH_TIME_BACK 13u
+#define COUPLERFINCH_NO_LET 25u
+#define COUPLERFINCH_ROOM_LENGTH 26u
 
-/* An answer: eight numbers, those that its call does not give are 0. */
+/* An answer: twelve numbers, those that its call does not give are 0. */
 typedef struct couplerfinch_answer {
-    uint32_t code;  /* 0, or the first code that the rules give */
-    uint32_t place; /* of a refusal: the block (2, 3), record (4), node (5-8) or input record (12, 13) */
-    uint32_t steps; /* run: whole steps done, of a refusal too */
-    uint32_t work;  /* run: rules used by the steps done, of a refusal too */
-    uint32_t nodes; /* check: how many nodes the program has */
-    uint32_t cells; /* check: how many cells its state has */
-    uint32_t bound; /* check: the most rules that a step uses */
-    uint32_t type;  /* check: the type of the value of a step */
+    uint32_t code;    /* 0, or the first code that the rules give */
+    uint32_t place;   /* of a refusal: the block (2, 3), record (4), node (5-8) or input record (12, 13) */
+    uint32_t steps;   /* run: whole steps done, of a refusal too */
+    uint32_t work;    /* run: rules used by the steps done, of a refusal too */
+    uint32_t nodes;   /* check: how many nodes the program has */
+    uint32_t cells;   /* check: how many cells its state has */
+    uint32_t bound;   /* check: the most rules that a step uses */
+    uint32_t type;    /* check: the type of the value of a step */
+    uint32_t wrapped; /* no call gives it yet */
+    uint32_t length;  /* no call gives it yet */
+    uint32_t entries; /* explain: how many entries the chain has */
+    uint32_t node;    /* explain: the let */
 } couplerfinch_answer;
 
 /* Checks a program: its first code and smallest place, or its nodes, cells, bound and type. */
@@ -84,6 +94,12 @@ uint32_t couplerfinch_start(const uint8_t *program, size_t program_length, uint8
  * once. A list of records may be cut anywhere and its parts run one after the other: the same values, state and summed work. */
 uint32_t couplerfinch_run(const uint8_t *program, size_t program_length, uint8_t *state, size_t state_length, const uint8_t *records,
                           size_t records_length, uint8_t *output, size_t output_length, couplerfinch_answer *answer);
+
+/* Explains why a program is not ready, where the check refuses it by code 8: the let that the code names, and in the room, which has
+ * COUPLERFINCH_NODES entries, the chain from the let's definition down to the use of its own variable, each node a child of the one
+ * before, the first by field order; the entries behind it are COUPLERFINCH_NO_ENTRY. Codes 1-7 as the check, then 25, then 26. */
+uint32_t couplerfinch_explain(const uint8_t *program, size_t program_length, uint16_t *room, size_t room_entries,
+                              couplerfinch_answer *answer);
 
 #ifdef __cplusplus
 }

@@ -1,4 +1,4 @@
-/* Answers requests to the three calls through the library, as the second program's `calls` does (second/README.md): one request on
+/* Answers requests to the four calls through the library, as the second program's `calls` does (second/README.md): one request on
  * standard input, or a stream of them with the word `serve`.
  *
  * Every room that a call is lent is exactly as long as the request says and stands between guard bytes. A call that writes outside
@@ -16,13 +16,13 @@
 #define LINE 200         /* the most bytes that a request's line may have */
 #define GUARD 64         /* guard bytes on each side of a room */
 #define GUARD_BYTE 0xA5
-#define ROOMS 4          /* program, state, records, output */
+#define ROOMS 4          /* program, state or entries, records, output */
 #define CHUNK (1u << 16) /* how much memory a length is trusted with before its bytes are there */
 
-enum call { CHECK, START, RUN };
+enum call { CHECK, START, RUN, CHAIN };
 
-static const char *const names[] = {"check", "start", "run"};
-static const size_t wanted[] = {1, 2, 4};
+static const char *const names[] = {"check", "start", "run", "chain"};
+static const size_t wanted[] = {1, 2, 4, 2};
 
 /* Bytes lent to a call: `bytes` points behind the first guard. */
 struct room {
@@ -146,7 +146,7 @@ static bool number(struct word word, uint64_t *value)
 
 static bool call_named(struct word word, enum call *call)
 {
-    for (int i = CHECK; i <= RUN; i++) {
+    for (int i = CHECK; i <= CHAIN; i++) {
         if (strlen(names[i]) == word.length && memcmp(names[i], word.at, word.length) == 0) {
             *call = (enum call)i;
             return true;
@@ -155,7 +155,7 @@ static bool call_named(struct word word, enum call *call)
     return false;
 }
 
-/* The call and the lengths of a line, if it is a request's. */
+/* The call and the lengths of a line, if it is a request's. Entries are two bytes each. */
 static bool parse(const unsigned char *line, size_t length, struct request *request, uint64_t *lengths)
 {
     const unsigned char *end = line + length;
@@ -167,7 +167,7 @@ static bool parse(const unsigned char *line, size_t length, struct request *requ
             return false;
         request->count++;
     }
-    return request->count == wanted[request->call];
+    return request->count == wanted[request->call] && !(request->call == CHAIN && lengths[1] % 2 != 0);
 }
 
 /* Reads a request; false where the input is none. */
@@ -199,23 +199,34 @@ static uint32_t call(const struct request *request, couplerfinch_answer *answer)
         return couplerfinch_check(r[0].bytes, r[0].length, answer);
     case START:
         return couplerfinch_start(r[0].bytes, r[0].length, r[1].bytes, r[1].length, answer);
+    case CHAIN:
+        return couplerfinch_explain(r[0].bytes, r[0].length, (uint16_t *)(void *)r[1].bytes, r[1].length / 2, answer);
     default:
         return couplerfinch_run(r[0].bytes, r[0].length, r[1].bytes, r[1].length, r[2].bytes, r[2].length, r[3].bytes, r[3].length,
                                 answer);
     }
 }
 
+/* Whether a call may give a code. */
+static bool may_give(enum call of, uint32_t code)
+{
+    static const uint32_t last[] = {COUPLERFINCH_NOT_READY, COUPLERFINCH_STATE_FAULT, COUPLERFINCH_TIME_BACK, COUPLERFINCH_TYPE_FAULT};
+    return code <= last[of] || (of == CHAIN && (code == COUPLERFINCH_NO_LET || code == COUPLERFINCH_ROOM_LENGTH));
+}
+
 /* Holds what the header says of an answer: the code is answered too, and numbers that the call does not give are 0. */
 static void hold_answer(enum call of, uint32_t code, const couplerfinch_answer *a)
 {
-    bool checked = of == CHECK && code == 0, ran = of == RUN;
-    if (code != a->code || code > COUPLERFINCH_TIME_BACK)
-        fail("the code answered is not that of the answer");
+    bool checked = of == CHECK && code == 0, ran = of == RUN, explained = of == CHAIN && code == 0;
+    if (code != a->code || !may_give(of, code))
+        fail("the code answered is not that of the answer, or not the call's");
     if ((a->place != 0 && code == 0) || (!ran && (a->steps != 0 || a->work != 0)))
         fail("a place, steps or work where there is none");
     if (!checked && (a->nodes != 0 || a->cells != 0 || a->bound != 0 || a->type != 0))
         fail("nodes, cells, bound or type where there is none");
-    if (code >= COUPLERFINCH_INPUT_FAULT && a->steps != a->place)
+    if ((!explained && (a->entries != 0 || a->node != 0)) || a->wrapped != 0 || a->length != 0)
+        fail("wrapped, length, entries or a node where there is none");
+    if (ran && code >= COUPLERFINCH_INPUT_FAULT && a->steps != a->place)
         fail("a record refused is not the one after the steps done");
 }
 
@@ -274,6 +285,8 @@ static void print_answer(const struct request *request, const couplerfinch_answe
         printf("OK %" PRIu32 " %" PRIu32 " %" PRIu32 " %" PRIu32 "\n", a->nodes, a->cells, a->bound, a->type);
     else if (request->call == START)
         printf("OK\n");
+    else if (request->call == CHAIN)
+        printf("OK %" PRIu32 " %" PRIu32 "\n", a->node, a->entries);
     else
         printf("OK %" PRIu32 " %" PRIu32 "\n", a->steps, a->work);
     for (size_t i = 1; i < request->count; i += 2)

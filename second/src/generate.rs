@@ -1,6 +1,7 @@
 //! Seeded streams of requests, and files for watchrun.
 
 use crate::calls;
+use crate::chain;
 use crate::damage;
 use crate::format;
 use crate::grow;
@@ -9,6 +10,7 @@ use crate::random::Random;
 use crate::record::{FLAGS, MOST_RECORDS, RECORD};
 use crate::request::Request;
 use crate::state::{CELL, HEADER, LATEST};
+use crate::tangle;
 use crate::wild;
 
 /// A program as nodes and as a file.
@@ -42,6 +44,19 @@ pub fn accepted(random: &mut Random, count: usize) -> Sample {
 pub fn hasty(random: &mut Random, count: usize) -> Sample {
     let percent = random.one(&[3, 10, 40]);
     let nodes = grow::grow(random, count, percent);
+    Sample { file: format::write(&nodes), nodes }
+}
+
+/// A program whose lets' own variables are used in their definitions, in places that count or not.
+pub fn tangled(random: &mut Random, count: usize) -> Sample {
+    let mut nodes = grow::grow(random, count, 0);
+    tangle::tangle(random, &mut nodes);
+    Sample { file: format::write(&nodes), nodes }
+}
+
+/// A program around one long chain.
+pub fn spine(random: &mut Random, count: usize) -> Sample {
+    let nodes = tangle::spine(random, count);
     Sample { file: format::write(&nodes), nodes }
 }
 
@@ -134,14 +149,38 @@ fn damaged(random: &mut Random, file: &mut Vec<u8>, nodes: &[Node]) {
     }
 }
 
-/// A request to any of the three calls; many a run has one record.
+/// A request to any of the four calls; many a run has one record.
 pub fn request(random: &mut Random) -> Request {
-    match random.weighted(&[25, 12, 28, 35]) {
+    match random.weighted(&[25, 12, 28, 35, 0]) {
         0 => check_request(random),
         1 => start_request(random),
         2 => run_request(random, true),
-        _ => run_request(random, false),
+        3 => run_request(random, false),
+        _ => chain_request(random),
     }
+}
+
+/// A chain request: programs that are not ready, most of them, some that are, wild and damaged ones; rooms
+/// of 1,008 entries and of others.
+pub fn chain_request(random: &mut Random) -> Request {
+    let count = size(random);
+    let (sample, percent) = match random.below(20) {
+        0..3 => (hasty(random, count.max(8)), 10),
+        3..10 => (tangled(random, count.max(8)), 10),
+        10..16 => (spine(random, count), 10),
+        16..18 => (wild(random), 20),
+        _ => (accepted(random, count), 25),
+    };
+    let mut program = sample.file;
+    if random.chance(percent) {
+        damaged(random, &mut program, &sample.nodes);
+    }
+    let entries = match random.chance(85) {
+        true => chain::ENTRIES,
+        false => random.one(&[0, 1, sample.nodes.len(), 504, 1007, 1009, 1010, 2016]),
+    };
+    let room = (0..2 * entries).map(|_| random.draw() as u8).collect();
+    Request::Chain { program, room }
 }
 
 /// A program for a call that needs more than the check; now and then damaged.

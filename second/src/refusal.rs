@@ -1,6 +1,6 @@
 //! Refusals: the code, its place, and the work of the steps done before it.
 
-/// The codes of the table in "Records and codes".
+/// The codes of the table in "Records and codes", and document 02's.
 pub const LENGTH: u32 = 1;
 pub const CHECK: u32 = 2;
 pub const NUMBERING: u32 = 3;
@@ -14,6 +14,8 @@ pub const RECORDS: u32 = 10;
 pub const OUTPUT: u32 = 11;
 pub const INPUT: u32 = 12;
 pub const BACKWARD: u32 = 13;
+pub const NO_LET: u32 = 25;
+pub const ROOM: u32 = 26;
 
 /// A refused call.
 #[derive(Clone, Copy, Debug, PartialEq, Eq)]

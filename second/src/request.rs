@@ -1,15 +1,32 @@
-//! Requests to the three calls as a stream of bytes, and their answers as text.
+//! Requests to the four calls as a stream of bytes, and their answers as text.
 
 use crate::calls::{self, Accepted, Done};
+use crate::chain::{self, Explained};
 use crate::refusal::Refusal;
+use std::collections::{BTreeMap, BTreeSet};
 use std::io::{self, BufRead, Read, Write};
 
 /// One request with all its lent memory.
 #[derive(Clone, Debug, PartialEq, Eq)]
 pub enum Request {
-    Check { program: Vec<u8> },
-    Start { program: Vec<u8>, state: Vec<u8> },
-    Run { program: Vec<u8>, state: Vec<u8>, records: Vec<u8>, output: Vec<u8> },
+    Check {
+        program: Vec<u8>,
+    },
+    Start {
+        program: Vec<u8>,
+        state: Vec<u8>,
+    },
+    Run {
+        program: Vec<u8>,
+        state: Vec<u8>,
+        records: Vec<u8>,
+        output: Vec<u8>,
+    },
+    /// The room's entries are two bytes each, little-endian.
+    Chain {
+        program: Vec<u8>,
+        room: Vec<u8>,
+    },
 }
 
 /// The answer to a request, with the lent memory after it.
@@ -18,6 +35,7 @@ pub enum Answer {
     Check(Result<Accepted, Refusal>),
     Start(Result<(), Refusal>, Vec<u8>),
     Steps(Result<Done, Refusal>, Vec<u8>, Vec<u8>),
+    Chain(Result<Explained, Refusal>, Vec<u8>),
 }
 
 impl Request {
@@ -35,15 +53,15 @@ impl Request {
         Request::from_rooms(name, rooms)
     }
 
-    /// The request of a name and its memory, in the order program, state, records, output.
+    /// The request of a name and its memory, in the order program, state or entries, records, output.
     fn from_rooms(name: &str, rooms: Vec<Vec<u8>>) -> Option<Request> {
         let wanted = match name {
             "check" => 1,
-            "start" => 2,
+            "start" | "chain" => 2,
             "run" => 4,
             _ => return None,
         };
-        if rooms.len() != wanted {
+        if rooms.len() != wanted || (name == "chain" && !rooms[1].len().is_multiple_of(2)) {
             return None;
         }
         let mut rooms = rooms.into_iter();
@@ -52,6 +70,7 @@ impl Request {
         Some(match name {
             "check" => Request::Check { program },
             "start" => Request::Start { program, state },
+            "chain" => Request::Chain { program, room: state },
             _ => Request::Run { program, state, records, output },
         })
     }
@@ -64,6 +83,7 @@ impl Request {
             Request::Run { program, state, records, output } => {
                 ("run", vec![program, state, records, output])
             }
+            Request::Chain { program, room } => ("chain", vec![program, room]),
         }
     }
 
@@ -90,6 +110,13 @@ impl Request {
                 let answer = calls::run(&program, &mut state, &records, &mut output);
                 Answer::Steps(answer, state, output)
             }
+            Request::Chain { program, room } => {
+                let pairs = room.chunks_exact(2);
+                let mut entries: Vec<u16> =
+                    pairs.map(|pair| u16::from_le_bytes([pair[0], pair[1]])).collect();
+                let answer = chain::explain(&program, &mut entries);
+                Answer::Chain(answer, entries.into_iter().flat_map(u16::to_le_bytes).collect())
+            }
         }
     }
 }
@@ -108,6 +135,7 @@ impl Answer {
             Answer::Check(answer) => answer.err(),
             Answer::Start(answer, _) => answer.err(),
             Answer::Steps(answer, _, _) => answer.err(),
+            Answer::Chain(answer, _) => answer.err(),
         };
         refusal.map_or(0, |refusal| refusal.code)
     }
@@ -127,6 +155,11 @@ impl Answer {
                 let done = |done: &Done| format!("OK {} {}\n", done.steps, done.work);
                 let first = answer.as_ref().map_or_else(refusal_line, done);
                 format!("{first}{}\n{}\n", hex(state), hex(output))
+            }
+            Answer::Chain(answer, room) => {
+                let found = |it: &Explained| format!("OK {} {}\n", it.node, it.entries);
+                let first = answer.as_ref().map_or_else(refusal_line, found);
+                format!("{first}{}\n", hex(room))
             }
         }
     }
@@ -164,29 +197,39 @@ pub fn tally(input: &mut impl BufRead) -> Tally {
     let mut tally = Tally::default();
     while let Some(request) = Request::read(input) {
         let (name, _) = request.parts();
-        let call = CALLS.iter().position(|&call| call == name).unwrap_or(0);
-        tally.counts[call][request.answer().code() as usize] += 1;
+        *tally.counts.entry((name, request.answer().code())).or_default() += 1;
     }
     tally
 }
 
-/// The three calls in the paper's order.
-pub const CALLS: [&str; 3] = ["check", "start", "run"];
+/// The calls in the papers' order.
+pub const CALLS: [&str; 4] = ["check", "start", "run", "chain"];
 
 /// Counts by call and code.
 #[derive(Clone, Debug, Default, PartialEq, Eq)]
 pub struct Tally {
-    pub counts: [[usize; 15]; 3],
+    pub counts: BTreeMap<(&'static str, u32), usize>,
 }
 
 impl Tally {
-    /// A table with a line for each call and a column for each code.
+    /// How often a call answered a code.
+    pub fn count(&self, call: &'static str, code: u32) -> usize {
+        self.counts.get(&(call, code)).copied().unwrap_or(0)
+    }
+
+    /// A table with a line for each call and a column for each code that was answered.
     pub fn text(&self) -> String {
-        let mut text = String::from("call       ok");
-        (1..15).for_each(|code| text += &format!("{code:>7}"));
-        for (call, counts) in CALLS.iter().zip(&self.counts) {
-            text += &format!("\n{call:<6}");
-            counts.iter().for_each(|count| text += &format!("{count:>7}"));
+        let codes: BTreeSet<u32> = self.counts.keys().map(|&(_, code)| code).collect();
+        let mut text = String::from("call ");
+        for &code in &codes {
+            text += &match code {
+                0 => format!("{:>7}", "ok"),
+                _ => format!("{code:>7}"),
+            };
+        }
+        for call in CALLS {
+            text += &format!("\n{call:<5}");
+            codes.iter().for_each(|&code| text += &format!("{:>7}", self.count(call, code)));
         }
         text + "\n"
     }

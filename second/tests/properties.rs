@@ -103,6 +103,7 @@ fn a_run_cut_anywhere_is_the_same() {
 fn keeps_memory(request: &Request, answer: &Answer) {
     match (request, answer) {
         (Request::Start { state, .. }, Answer::Start(Err(_), after)) => assert_eq!(state, after),
+        (Request::Chain { room, .. }, Answer::Chain(Err(_), after)) => assert_eq!(room, after),
         (
             Request::Run { program, state, records, output },
             Answer::Steps(Err(refusal), after, room),
@@ -123,18 +124,22 @@ fn keeps_memory(request: &Request, answer: &Answer) {
 #[test]
 fn refusals_leave_memory_and_every_code_comes_up() {
     let mut random = Random::new(5);
-    let mut seen = [[0usize; 15]; 3];
-    for _ in 0..8000 {
-        let request = generate::request(&mut random);
+    let mut seen = [[0usize; 27]; 4];
+    for number in 0..9000 {
+        let request = match number < 8000 {
+            true => generate::request(&mut random),
+            false => generate::chain_request(&mut random),
+        };
         let answer = request.clone().answer();
         keeps_memory(&request, &answer);
         let call = second::request::CALLS.iter().position(|&call| call == request.parts().0);
         seen[call.unwrap()][answer.code() as usize] += 1;
     }
     // Code 14 is gone.
-    for (counts, last) in seen.iter().zip([8, 9, 13]) {
+    for (call, (counts, last)) in seen.iter().zip([8, 9, 13, 7]).enumerate() {
         for (code, &count) in counts.iter().enumerate() {
-            assert_eq!(count >= 4, code <= last, "{seen:?}");
+            let own = code <= last || (call == 3 && code >= 25);
+            assert_eq!(if own { count >= 4 } else { count > 0 }, own, "{seen:?}");
         }
     }
 }

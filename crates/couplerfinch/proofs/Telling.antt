@@ -1,15 +1,39 @@
 -- What the numbers of an answer are, once it is known which answer it is. Assumes nothing.
 use Prim.Native.Nat.{ℕ}
-use mathlib.Core.Path.{_≡_, ap, _∙_}
-use mathlib.Core.List.{List}
+use mathlib.Core.Path.{_≡_, refl, sym, ap, _∙_}
+use mathlib.Core.Bool.{Bool, false}
+use mathlib.Core.List.{List, [], _∷_}
+use lib.Dec.{eqb}
+use Rattle.rules.specs.Bytes.{if_then_else_}
 use Rattle.rules.specs.Answers.{codeOf, placeOf}
 use Rattle.rules.specs.declared.Refusal.{Refusal}
-use Rattle.couplerfinch.specs.Room.{room}
+use Rattle.rules.specs.declared.Refusal.the-variants.{ProgramLength, CheckSum, BlockNumber, RecordFault, ShapeFault, ScopeFault, TypeFault, NotReady, StateFault, RecordsLength, OutputLength, InputFault, TimeBack}
+use Rattle.couplerfinch.specs.Room.{refusedRoom, laidOut}
 
 -- A call that writes an answer's numbers and answers its code does so for what that answer is known to be.
 pub told-as : {A : Type 0} {a b : A} {res : ℕ} {exit : List ℕ} (code : A → ℕ) (numbers : A → List ℕ) → a ≡ b → (res ≡ code a) × (exit ≡ numbers a) → (res ≡ code b) × (exit ≡ numbers b)
 told-as code numbers same (c, n) = (c ∙ ap code same, n ∙ ap numbers same)
 
--- The numbers of a refusal, from those that its code, place and steps were found to be.
-pub refused-room : {res code place steps done : ℕ} {exit : List ℕ} (r : Refusal) (work : ℕ) → code ≡ codeOf r → place ≡ placeOf r → steps ≡ done → (res ≡ code) × (exit ≡ room code place steps work 0 0 0 0) → (res ≡ codeOf r) × (exit ≡ room (codeOf r) (placeOf r) done work 0 0 0 0)
-refused-room {place = place} {steps = steps} r work c p s (n, e) = (n ∙ c, e ∙ ap (λ (x : ℕ). room x place steps work 0 0 0 0) c ∙ ap (λ (x : ℕ). room (codeOf r) x steps work 0 0 0 0) p ∙ ap (λ (x : ℕ). room (codeOf r) (placeOf r) x work 0 0 0 0) s)
+-- No refusal's code is 0.
+coded : (r : Refusal) → eqb (codeOf r) 0 ≡ false
+coded ProgramLength = refl
+coded (CheckSum j) = refl
+coded (BlockNumber j) = refl
+coded (RecordFault j) = refl
+coded (ShapeFault j) = refl
+coded (ScopeFault j) = refl
+coded (TypeFault j) = refl
+coded (NotReady j) = refl
+coded StateFault = refl
+coded RecordsLength = refl
+coded OutputLength = refl
+coded (InputFault j) = refl
+coded (TimeBack j) = refl
+
+-- The numbers of a refusal, from those that its code and place were found to be.
+pub refused-room : {res code place : ℕ} {exit : List ℕ} (r : Refusal) (work : ℕ) (done : List ℕ → List ℕ) → code ≡ codeOf r → place ≡ placeOf r
+    → (res ≡ code) × (exit ≡ refusedRoom (code ∷ place ∷ work ∷ []))
+    → (res ≡ codeOf r) × (exit ≡ laidOut done (codeOf r ∷ placeOf r ∷ work ∷ []))
+refused-room {place = place} r work done c p (n, e) =
+    let ns : List ℕ = codeOf r ∷ placeOf r ∷ work ∷ [] in
+    (n ∙ c, e ∙ ap (λ (x : ℕ). refusedRoom (x ∷ place ∷ work ∷ [])) c ∙ ap (λ (x : ℕ). refusedRoom (codeOf r ∷ x ∷ work ∷ [])) p ∙ sym (ap (λ (b : Bool). if b then done ns else refusedRoom ns) (coded r)))

@@ -34,11 +34,15 @@ pub enum Code {
     InputFault = raw::INPUT_FAULT,
     /// A record's time is before the state's; the place is how many steps were done before it.
     TimeBack = raw::TIME_BACK,
+    /// There is no let to explain: the program is accepted.
+    NoLet = raw::NO_LET,
+    /// The room of explain has not [`crate::NODES`] entries.
+    RoomLength = raw::ROOM_LENGTH,
 }
 
 impl Code {
     /// All codes, from 1 on.
-    pub const ALL: [Code; 13] = [
+    pub const ALL: [Code; 15] = [
         Code::ProgramLength,
         Code::CheckSum,
         Code::BlockNumber,
@@ -52,6 +56,8 @@ impl Code {
         Code::OutputLength,
         Code::InputFault,
         Code::TimeBack,
+        Code::NoLet,
+        Code::RoomLength,
     ];
 
     /// The code's number.
@@ -59,7 +65,7 @@ impl Code {
         self as u32
     }
 
-    /// The code of a number; none for 0, which is no refusal, and above 13.
+    /// The code of a number; none for 0, which is no refusal, and for numbers that no call gives.
     pub fn of(number: u32) -> Option<Code> {
         Code::ALL.into_iter().find(|code| code.number() == number)
     }

@@ -1,4 +1,4 @@
-//! The three calls of Couplerfinch for Rust: [`check`], [`start`] and [`run`].
+//! The four calls of Couplerfinch for Rust: [`check`], [`start`], [`run`] and [`explain`].
 //!
 //! They stand over the static library `libcouplerfinch.a`, whose answers are proved: every call ends
 //! and answers, whatever bytes and lengths it is handed. What a caller in C owes (a pointer to as
@@ -35,7 +35,9 @@ mod code;
 pub mod raw;
 
 pub use code::{Code, Type};
-pub use raw::{state_length, BLOCK, BLOCKS, LONGEST_STATE, NODES, RECORD, RECORDS, VALUE};
+pub use raw::{
+    state_length, BLOCK, BLOCKS, LONGEST_STATE, NODES, NO_ENTRY, RECORD, RECORDS, VALUE,
+};
 
 use core::fmt;
 
@@ -69,6 +71,15 @@ pub struct Ran {
     pub steps: u32,
     /// How many rules they used.
     pub work: u32,
+}
+
+/// What explain says of a program that is not ready.
+#[derive(Clone, Copy, Debug, PartialEq, Eq)]
+pub struct Explained {
+    /// The let that [`Code::NotReady`] names.
+    pub node: u32,
+    /// How many entries its chain has.
+    pub entries: u32,
 }
 
 /// A refused call.
@@ -139,6 +150,22 @@ pub fn run(
         }
     })?;
     Ok(ran(&answer))
+}
+
+/// Explains why a program is not ready, where [`check`] refuses it by [`Code::NotReady`]. The room has
+/// [`NODES`] entries and gets the chain: from the let's definition down to the use of its own variable,
+/// each node a child of the one before, the first by field order; the entries behind it are
+/// [`NO_ENTRY`]. A refusal leaves the room as it was.
+pub fn explain(program: &[u8], room: &mut [u16]) -> Result<Explained, Refusal> {
+    let answer = answered(|answer| {
+        let (entries, count) = (room.as_mut_ptr(), room.len());
+        // Safety: as for `check`; the room is lent alone.
+        unsafe {
+            raw::couplerfinch_explain(program.as_ptr(), program.len(), entries, count, answer)
+        }
+    })?;
+    let raw::Answer { node, entries, .. } = answer;
+    Ok(Explained { node, entries })
 }
 
 /// Makes a call with room for its answer, which is a refusal where its code is not 0.

@@ -8,6 +8,8 @@ pub const RECORD: usize = 40;
 pub const VALUE: usize = 8;
 pub const RECORDS: usize = 4096;
 
+pub const NO_ENTRY: u16 = 65535;
+
 /// The length of a state of so many cells.
 pub const fn state_length(cells: usize) -> usize {
     4 + 8 * cells
@@ -28,6 +30,8 @@ pub const RECORDS_LENGTH: u32 = 10;
 pub const OUTPUT_LENGTH: u32 = 11;
 pub const INPUT_FAULT: u32 = 12;
 pub const TIME_BACK: u32 = 13;
+pub const NO_LET: u32 = 25;
+pub const ROOM_LENGTH: u32 = 26;
 
 /// An answer as the calls write it: numbers that a call does not give are 0.
 #[repr(C)]
@@ -41,6 +45,10 @@ pub struct Answer {
     pub cells: u32,
     pub bound: u32,
     pub r#type: u32,
+    pub wrapped: u32,
+    pub length: u32,
+    pub entries: u32,
+    pub node: u32,
 }
 
 extern "C" {
@@ -65,6 +73,13 @@ extern "C" {
         records_length: usize,
         output: *mut u8,
         output_length: usize,
+        answer: *mut Answer,
+    ) -> u32;
+    pub fn couplerfinch_explain(
+        program: *const u8,
+        program_length: usize,
+        room: *mut u16,
+        room_entries: usize,
         answer: *mut Answer,
     ) -> u32;
 }

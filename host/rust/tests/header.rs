@@ -56,6 +56,7 @@ fn declared_in_c(text: &str) -> String {
         "size_t" => "usize",
         "uint8_t *" => "*mut u8",
         "const uint8_t *" => "*const u8",
+        "uint16_t *" => "*mut u16",
         "couplerfinch_answer *" => "*mut Answer",
         _ => panic!("no type for {kind}"),
     };
@@ -149,14 +150,14 @@ const SILENT: [&str; 4] = [
 #[test]
 fn declarations_are_the_headers() {
     let (one, other) = (header(HEADER), rust(RAW));
-    assert_eq!((one.numbers.len(), one.fields.len(), one.functions.len()), (22, 8, 3));
+    assert_eq!((one.numbers.len(), one.fields.len(), one.functions.len()), (25, 12, 4));
     assert_eq!(one, other);
     assert!(RAW.contains("#[repr(C)]\n#[derive"), "C's layout");
 }
 
 #[test]
 fn the_answer_is_laid_out_as_in_c() {
-    assert_eq!((size_of::<raw::Answer>(), align_of::<raw::Answer>()), (32, 4));
+    assert_eq!((size_of::<raw::Answer>(), align_of::<raw::Answer>()), (48, 4));
     assert_eq!(raw::LONGEST_STATE, 8068);
 }
 
@@ -177,7 +178,7 @@ fn codes_have_the_headers_names() {
         .map(|(name, number)| format!("{} = {number}", camel(name)))
         .collect();
     assert_eq!(named.as_slice(), wanted);
-    assert_eq!((Code::of(0), Code::of(14)), (None, None));
+    assert_eq!([0, 14, 24, 27].map(Code::of), [None; 4]);
     assert_eq!(Code::of(8), Some(Code::NotReady));
 }
 
@@ -189,7 +190,7 @@ fn types_are_the_papers() {
 }
 
 /// An edit of either file that the comparison must see.
-const EDITS: [(bool, &str, &str); 14] = [
+const EDITS: [(bool, &str, &str); 16] = [
     (true, "TIME_BACK 13u", "TIME_BACK 14u"),
     (true, "COUPLERFINCH_BLOCK 512u", "COUPLERFINCH_BLOCKY 512u"),
     (true, "(4u + 8u * ", "(8u + 8u * "),
@@ -201,6 +202,8 @@ const EDITS: [(bool, &str, &str); 14] = [
         "const uint8_t *state, size_t state_length,\n",
     ),
     (true, "size_t records_length, ", ""),
+    (true, "uint16_t *room", "uint8_t *room"),
+    (false, "    pub entries: u32,\n    pub node: u32,", "    pub node: u32,\n    pub entries: u32,"),
     (false, "BLOCKS: usize = 24", "BLOCKS: usize = 42"),
     (false, "    pub cells: u32,\n    pub bound: u32,", "    pub bound: u32,\n    pub cells: u32,"),
     (

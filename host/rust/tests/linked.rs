@@ -1,8 +1,11 @@
-//! The three calls through the static library, on readings A, C and D of document 01 and on refusals.
+//! The four calls through the static library, on readings A, C and D of document 01 and on refusals.
 //! Where there is no archive for the target this file is empty.
 #![cfg(linked)]
 
-use couplerfinch::{check, run, start, Checked, Code, Ran, Refusal, Type, BLOCK, RECORD};
+use couplerfinch::{
+    check, explain, run, start, Checked, Code, Explained, Ran, Refusal, Type, BLOCK, NODES, NO_ENTRY,
+    RECORD,
+};
 
 /// A record of a table: kind, type, a, b, c and word.
 type Node = (u8, u8, u16, u16, u16, i32);
@@ -153,6 +156,27 @@ fn a_refused_run_keeps_its_steps() {
         assert_eq!(output.to_vec(), [int(0), [9; 8], [9; 8]].concat());
         assert_eq!(state, [5, 0, 0, 0, 3, 1, 0, 0, 1, 0, 0, 0]);
     }
+}
+
+#[test]
+fn reading_c_explained() {
+    let mut room = [9; NODES];
+    assert_eq!(explain(&block(&C), &mut room), Ok(Explained { node: 4, entries: 2 }));
+    assert_eq!((room[..2].to_vec(), &room[2..]), (vec![1, 0], &[NO_ENTRY; NODES - 2][..]));
+}
+
+#[test]
+fn explain_refused_writes_nothing() {
+    let mut room = [9; NODES + 1];
+    for entries in [0, 1, NODES - 1, NODES, NODES + 1] {
+        let lent = &mut room[..entries];
+        assert_eq!(explain(&block(&A), lent), Err(refusal(Code::NoLet, 0)));
+        assert_eq!(explain(&[0; BLOCK], lent), Err(refusal(Code::BlockNumber, 0)));
+        if entries != NODES {
+            assert_eq!(explain(&block(&C), lent), Err(refusal(Code::RoomLength, 0)));
+        }
+    }
+    assert_eq!(room, [9; NODES + 1]);
 }
 
 #[test]

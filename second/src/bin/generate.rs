@@ -5,8 +5,7 @@ use second::random::Random;
 use std::io::{self, stdout, BufWriter, Write};
 use std::path::Path;
 
-const USAGE: &str =
-    "generate requests SEED COUNT | checks SEED COUNT | long SEED COUNT | programs SEED COUNT DIR";
+const USAGE: &str = "generate requests|checks|long|chains SEED COUNT, or programs SEED COUNT DIR";
 
 fn main() {
     let words: Vec<String> = std::env::args().skip(1).collect();
@@ -19,6 +18,7 @@ fn main() {
         ("requests", _) => stream(seed, count, generate::request),
         ("checks", _) => stream(seed, count, generate::check_request),
         ("long", _) => stream(seed, count, generate::long_request),
+        ("chains", _) => stream(seed, count, generate::chain_request),
         ("programs", Some(folder)) => files(seed, count, Path::new(folder)),
         _ => Err(io::Error::other(USAGE)),
     };

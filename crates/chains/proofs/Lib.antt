@@ -1,0 +1,9 @@
+pub mod Holds
+pub mod ChainLaws
+pub mod Firsts
+pub mod Needed
+pub mod Named
+pub mod Exactly
+pub mod ByVerdict
+pub mod CallLaws
+pub mod ByCall

@@ -247,18 +247,21 @@ uint32_t fast_start(const uint8_t *program, size_t program_length, uint8_t *stat
     if (state_length != COUPLERFINCH_STATE(p.cells))
         return fast_refuse(answer, 9, 0);
     put32(state, NO_TIME);
+    put32(state + 4, checks_of(program, program_length));
     reset(p.code, p.held, cells, p.count - 1);
-    memcpy(state + 4, cells, 8 * p.cells);
+    memcpy(state + 8, cells, 8 * p.cells);
     return fast_refuse(answer, 0, 0);
 }
 
-/* Codes 9-11; it reads the cells too. */
-static uint32_t lent_fault(const struct program *p, uint64_t *cells, const uint8_t *state, size_t state_length,
+/* Codes 9, 15, 10 and 11; it reads the cells too. */
+static uint32_t lent_fault(const struct program *p, uint32_t checks, uint64_t *cells, const uint8_t *state, size_t state_length,
                            size_t records_length, size_t output_length)
 {
     if (state_length != COUPLERFINCH_STATE(p->cells))
         return 9;
-    memcpy(cells, state + 4, 8 * p->cells);
+    if (get32(state + 4) != checks)
+        return 15;
+    memcpy(cells, state + 8, 8 * p->cells);
     if ((get32(state) > LATEST && get32(state) != NO_TIME) || !well(p, cells, p->count - 1, 1))
         return 9;
     if (records_length % COUPLERFINCH_RECORD || records_length / COUPLERFINCH_RECORD > COUPLERFINCH_RECORDS)
@@ -293,7 +296,7 @@ uint32_t fast_run(const uint8_t *program, size_t program_length, uint8_t *state,
     uint64_t cells[COUPLERFINCH_NODES];
     if (fast_decode(&p, program, program_length, answer))
         return answer->code;
-    uint32_t code = lent_fault(&p, cells, state, state_length, records_length, output_length);
+    uint32_t code = lent_fault(&p, checks_of(program, program_length), cells, state, state_length, records_length, output_length);
     if (code)
         return fast_refuse(answer, code, 0);
     r.code = p.code;
@@ -303,7 +306,7 @@ uint32_t fast_run(const uint8_t *program, size_t program_length, uint8_t *state,
     uint32_t time = get32(state), done;
     code = records_run(&r, &p, &time, records, (uint32_t)(records_length / COUPLERFINCH_RECORD), output, &done);
     put32(state, time);
-    memcpy(state + 4, cells, 8 * p.cells);
+    memcpy(state + 8, cells, 8 * p.cells);
     *answer = (couplerfinch_answer){.code = code, .place = code ? done : 0, .steps = done, .work = r.work};
     return code;
 }

@@ -19,7 +19,7 @@ struct run {
     struct value bound[COUPLERFINCH_NODES];
 };
 
-static uint8_t *cell_of(const struct tree *t, uint8_t *state, unsigned i) { return state + 4 + 8 * t->cell[i]; }
+static uint8_t *cell_of(const struct tree *t, uint8_t *state, unsigned i) { return state + 8 + 8 * t->cell[i]; }
 
 static void put_value(uint8_t *at, struct value v, unsigned middle)
 {
@@ -265,15 +265,20 @@ uint32_t straight_start(const uint8_t *program, size_t program_length, uint8_t *
     if (state_length != COUPLERFINCH_STATE(t.cells))
         return straight_refuse(answer, 9, 0);
     put32(state, NO_TIME);
+    put32(state + 4, checks_of(program, program_length));
     reset(&t, state, t.count - 1);
     return straight_refuse(answer, 0, 0);
 }
 
-/* Codes 9-11. */
-static uint32_t lent_fault(const struct tree *t, uint8_t *state, size_t state_length, size_t records_length,
+/* Codes 9, 15, 10 and 11. */
+static uint32_t lent_fault(const struct tree *t, uint32_t checks, uint8_t *state, size_t state_length, size_t records_length,
                            size_t output_length)
 {
-    if (state_length != COUPLERFINCH_STATE(t->cells) || (get32(state) > LATEST && get32(state) != NO_TIME) ||
+    if (state_length != COUPLERFINCH_STATE(t->cells))
+        return 9;
+    if (get32(state + 4) != checks)
+        return 15;
+    if ((get32(state) > LATEST && get32(state) != NO_TIME) ||
         !well(t, state, t->count - 1, 1))
         return 9;
     if (records_length % COUPLERFINCH_RECORD || records_length / COUPLERFINCH_RECORD > COUPLERFINCH_RECORDS)
@@ -303,7 +308,7 @@ uint32_t straight_run(const uint8_t *program, size_t program_length, uint8_t *st
     struct run r;
     if (straight_read(&t, program, program_length, answer))
         return answer->code;
-    uint32_t code = lent_fault(&t, state, state_length, records_length, output_length);
+    uint32_t code = lent_fault(&t, checks_of(program, program_length), state, state_length, records_length, output_length);
     if (code)
         return straight_refuse(answer, code, 0);
     r.tree = &t;

@@ -61,6 +61,15 @@ static inline char child_sort(char field, unsigned x)
 
 static inline int has_cell(unsigned kind) { return kind == DELAY || kind == SWITCH || kind == GROUP; }
 
+/* The sum of the checks that stand in a program's blocks. */
+static inline uint32_t checks_of(const uint8_t *program, size_t length)
+{
+    uint32_t sum = 0;
+    for (size_t at = 0; at < length; at += COUPLERFINCH_BLOCK)
+        sum += get32(program + at + 508);
+    return sum;
+}
+
 /* The check of a block. */
 static inline uint32_t check_sum(const uint8_t *block)
 {

@@ -44,12 +44,14 @@ extern "C" {
 /* An entry of explain's room behind the chain. */
 #define COUPLERFINCH_NO_ENTRY 65535u
 
-/* The length of a state of so many cells, and of the longest one. */
-#define COUPLERFINCH_STATE(cells) (4u + 8u * (size_t)(cells))
+/* The length of a state of so many cells, and of the longest one. A state is the last time, the sum of its program's block checks, 4 bytes
+ * each, and the cells: by the sum a run knows its program's states (programs of equal sums are not told apart). */
+#define COUPLERFINCH_STATE(cells) (8u + 8u * (size_t)(cells))
 #define COUPLERFINCH_LONGEST_STATE COUPLERFINCH_STATE(COUPLERFINCH_NODES)
 
-/* The codes; docs/CODES.md says what each means, where its place is and what to do. (14 was one, and is not used again.) Explain alone gives
- * 25, no let to explain, and 26, a room that has not COUPLERFINCH_NODES entries. */
+/* The codes; docs/CODES.md says what each means, where its place is and what to do. A run tries a state by 9 for its length, then by 15 for a
+ * sum that is not the program's, then by 9 for the rest, before 10. (14 was a code, and is not used again.) Explain alone gives 25, no let to
+ * explain, and 26, a room that has not COUPLERFINCH_NODES entries. */
 #define COUPLERFINCH_DONE 0u
 #define COUPLERFINCH_PROGRAM_LENGTH 1u
 #define COUPLERFINCH_CHECK_SUM 2u
@@ -64,6 +66,7 @@ extern "C" {
 #define COUPLERFINCH_OUTPUT_LENGTH 11u
 #define COUPLERFINCH_INPUT_FAULT 12u
 #define COUPLERFINCH_TIME_BACK 13u
+#define COUPLERFINCH_OTHER_PROGRAM 15u
 #define COUPLERFINCH_NO_LET 25u
 #define COUPLERFINCH_ROOM_LENGTH 26u
 

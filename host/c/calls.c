@@ -211,7 +211,7 @@ static uint32_t call(const struct request *request, couplerfinch_answer *answer)
 static bool may_give(enum call of, uint32_t code)
 {
     static const uint32_t last[] = {COUPLERFINCH_NOT_READY, COUPLERFINCH_STATE_FAULT, COUPLERFINCH_TIME_BACK, COUPLERFINCH_TYPE_FAULT};
-    return code <= last[of] || (of == CHAIN && (code == COUPLERFINCH_NO_LET || code == COUPLERFINCH_ROOM_LENGTH));
+    return code <= last[of] || (of == RUN && code == COUPLERFINCH_OTHER_PROGRAM) || (of == CHAIN && (code == COUPLERFINCH_NO_LET || code == COUPLERFINCH_ROOM_LENGTH));
 }
 
 /* Holds what the header says of an answer: the code is answered too, and numbers that the call does not give are 0. */
@@ -226,7 +226,7 @@ static void hold_answer(enum call of, uint32_t code, const couplerfinch_answer *
         fail("nodes, cells, bound or type where there is none");
     if ((!explained && (a->entries != 0 || a->node != 0)) || a->wrapped != 0 || a->length != 0)
         fail("wrapped, length, entries or a node where there is none");
-    if (ran && code >= COUPLERFINCH_INPUT_FAULT && a->steps != a->place)
+    if ((code == COUPLERFINCH_INPUT_FAULT || code == COUPLERFINCH_TIME_BACK) && a->steps != a->place)
         fail("a record refused is not the one after the steps done");
 }
 

@@ -51,8 +51,8 @@ pub fn start(program: &[u8], state: &mut [u8]) -> Result<(), Refusal> {
     Ok(())
 }
 
-/// Runs a list of records: codes 1 to 11, then 12 and 13 for each record. The lent state is
-/// written once, with what the finished steps made of it.
+/// Runs a list of records: codes 1 to 8, 9 and 15, 10, 11, then 12 and 13 for each record. The lent
+/// state is written once, with what the finished steps made of it.
 pub fn run(
     program: &[u8],
     state: &mut [u8],
@@ -60,7 +60,7 @@ pub fn run(
     output: &mut [u8],
 ) -> Result<Done, Refusal> {
     let program = Program::read(program)?;
-    let read = State::read(&program, state).ok_or(Refusal::at(refusal::STATE, 0))?;
+    let read = State::read(&program, state).map_err(|code| Refusal::at(code, 0))?;
     if !records.len().is_multiple_of(RECORD) || records.len() > MOST_RECORDS * RECORD {
         return Err(Refusal::at(refusal::RECORDS, 0));
     }

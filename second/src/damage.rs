@@ -229,9 +229,15 @@ pub fn state(random: &mut Random, state: &mut Vec<u8>, nodes: &[Node]) {
 }
 
 fn time_or_length(random: &mut Random, state: &mut Vec<u8>) {
+    if random.chance(40) && state.len() >= HEADER {
+        let at = random.between(4, HEADER - 1);
+        state[at] = if random.chance(50) { state[at] ^ 1 } else { random.draw() as u8 };
+        return;
+    }
     if random.chance(50) || state.len() < HEADER {
         let length = state.len();
-        let to = [length + 1, length + 8, length.saturating_sub(1), length.saturating_sub(8), 0, 4];
+        let to =
+            [length + 1, length + 8, length.saturating_sub(1), length.saturating_sub(8), 0, 4, 8];
         return state.resize(random.one(&to), 0);
     }
     let time = random.one(&[0x8000_0000, 0xFFFF_FFFE, 0x7FFF_FFFF, 0xFFFF_FFFF, 0, 0x9000_0000u32]);

@@ -115,6 +115,11 @@ pub fn record_of(node: &Node) -> [u8; RECORD] {
     record
 }
 
+/// The sum of the checks that stand in a file's blocks.
+pub fn sum_of_checks(file: &[u8]) -> u32 {
+    file.chunks_exact(BLOCK).map(|block| number32(block, CHECK_AT)).fold(0, u32::wrapping_add)
+}
+
 /// Writes nodes into as many blocks as they need, with right numbers and checks.
 pub fn write(nodes: &[Node]) -> Vec<u8> {
     let count = nodes.len().div_ceil(RECORDS).max(1);

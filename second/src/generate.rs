@@ -9,7 +9,7 @@ use crate::kinds::{self, Node};
 use crate::random::Random;
 use crate::record::{FLAGS, MOST_RECORDS, RECORD};
 use crate::request::Request;
-use crate::state::{CELL, HEADER, LATEST};
+use crate::state::{self, CELL, HEADER, LATEST};
 use crate::tangle;
 use crate::wild;
 
@@ -201,7 +201,7 @@ fn start_request(random: &mut Random) -> Request {
     let (sample, program) = sample_for_call(random, 35);
     let mut length = state_length(&sample.nodes);
     if random.chance(20) {
-        length = random.one(&[0, 4, length + 1, length - 1, length + 8, length - 4]);
+        length = random.one(&[0, 4, 8, length + 1, length - 1, length + 8, length - 4]);
     }
     let state = (0..length).map(|_| random.draw() as u8).collect();
     Request::Start { program, state }
@@ -214,6 +214,10 @@ fn run_request(random: &mut Random, single: bool) -> Request {
     let from = if random.chance(5) { time.saturating_sub(1) } else { time };
     let mut records = records(random, count, from);
     let mut output = vec![random.draw() as u8; count * calls::OUTPUT];
+    // A program that is damaged and still accepted is not the state's own; half of them get its sum.
+    if random.chance(50) {
+        state::put_sum(&mut state, format::sum_of_checks(&program));
+    }
     if random.chance(25) {
         for _ in 0..random.one(&[1, 1, 2]) {
             damage::state(random, &mut state, &sample.nodes);

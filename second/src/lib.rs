@@ -1,7 +1,7 @@
 //! The independent second program: the four calls of documents 01 and 02, written from the paper alone.
 //!
 //! The modules follow the paper: `format` (codes 1-4), `shape` (5), `scope` (6), `types` (7),
-//! `ready` (8), `chain` (25, 26), `bound`, `state` (9), `record` (12), `evaluate`, `update` and `calls`. The tools
+//! `ready` (8), `chain` (25, 26), `bound`, `state` (9, 15), `record` (12), `evaluate`, `update` and `calls`. The tools
 //! around them are `assemble`, `generate`, `request` and `print`.
 
 pub mod assemble;

@@ -13,6 +13,8 @@ pub struct Program {
     pub homes: Homes,
     pub root_type: u8,
     pub bound: u64,
+    /// The sum of the checks of its blocks, by which its states know it.
+    pub checks: u32,
     /// The nodes that hold cells, in node order.
     pub cells: Vec<usize>,
     /// For each node the number of its cell, where it has one.
@@ -36,7 +38,8 @@ impl Program {
         }
         let root_type = types[tree.root()];
         let bound = bound::of(&tree);
-        Ok(Program { tree, homes, root_type, bound, cells, cell_at })
+        let checks = format::sum_of_checks(file);
+        Ok(Program { tree, homes, root_type, bound, checks, cells, cell_at })
     }
 
     pub fn node(&self, number: usize) -> Node {

@@ -14,6 +14,8 @@ pub const RECORDS: u32 = 10;
 pub const OUTPUT: u32 = 11;
 pub const INPUT: u32 = 12;
 pub const BACKWARD: u32 = 13;
+/// 14 was a code, and is not used again.
+pub const OTHER_PROGRAM: u32 = 15;
 pub const NO_LET: u32 = 25;
 pub const ROOM: u32 = 26;
 

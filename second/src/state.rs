@@ -1,12 +1,15 @@
-//! States: the last time and one cell for each delay, switch and group; code 9.
+//! States: the last time, the sum of the program's checks and one cell for each delay, switch and
+//! group; codes 9 and 15.
 
 use crate::format::{number16, number32};
 use crate::kinds::{self, Field};
 use crate::program::Program;
+use crate::refusal;
 use crate::value::Value;
 
-/// The bytes before the cells: the last time.
-pub const HEADER: usize = 4;
+/// The bytes before the cells: the last time, and the sum of the program's checks.
+pub const HEADER: usize = 8;
+const SUM_AT: usize = 4;
 pub const CELL: usize = 8;
 /// The time word of a state that has no last time.
 pub const NO_TIME: u32 = u32::MAX;
@@ -23,6 +26,7 @@ pub struct Cell {
 #[derive(Clone, Debug, PartialEq, Eq)]
 pub struct State {
     pub time: Option<u32>,
+    pub checks: u32,
     pub cells: Vec<Cell>,
 }
 
@@ -43,18 +47,32 @@ pub fn start_cell(program: &Program, number: usize) -> Cell {
     }
 }
 
+/// Writes the sum of a program's checks into a state's bytes.
+pub fn put_sum(bytes: &mut [u8], checks: u32) {
+    bytes[SUM_AT..HEADER].copy_from_slice(&checks.to_le_bytes());
+}
+
 impl State {
     /// The start state of a program.
     pub fn start(program: &Program) -> State {
         let cells = program.cells.iter().map(|&number| start_cell(program, number)).collect();
-        State { time: None, cells }
+        State { time: None, checks: program.checks, cells }
     }
 
-    /// Reads a state if it is well-formed for the program.
-    pub fn read(program: &Program, bytes: &[u8]) -> Option<State> {
+    /// Reads a state if it is well-formed for the program, or tells the code: 9 for the length, then
+    /// 15 for a wrong sum, then 9 for the rest.
+    pub fn read(program: &Program, bytes: &[u8]) -> Result<State, u32> {
         if bytes.len() != length(program) {
-            return None;
+            return Err(refusal::STATE);
         }
+        if number32(bytes, SUM_AT) != program.checks {
+            return Err(refusal::OTHER_PROGRAM);
+        }
+        State::rest(program, bytes).ok_or(refusal::STATE)
+    }
+
+    /// The time and the cells of a state of the right length and sum, if they are well-formed.
+    fn rest(program: &Program, bytes: &[u8]) -> Option<State> {
         let time = match number32(bytes, 0) {
             NO_TIME => None,
             time if time <= LATEST => Some(time),
@@ -63,13 +81,15 @@ impl State {
         let contents = bytes[HEADER..].chunks(CELL);
         let cells = program.cells.iter().zip(contents);
         let cells = cells.map(|(&number, content)| read_cell(program, number, content));
-        let state = State { time, cells: cells.collect::<Option<_>>()? };
+        let cells = cells.collect::<Option<_>>()?;
+        let state = State { time, checks: program.checks, cells };
         state.idle_parts_at_start(program).then_some(state)
     }
 
     /// Writes the state into its bytes, which have the right length.
     pub fn write(&self, bytes: &mut [u8]) {
-        bytes[..HEADER].copy_from_slice(&self.time.unwrap_or(NO_TIME).to_le_bytes());
+        bytes[..SUM_AT].copy_from_slice(&self.time.unwrap_or(NO_TIME).to_le_bytes());
+        put_sum(bytes, self.checks);
         for (cell, content) in self.cells.iter().zip(bytes[HEADER..].chunks_mut(CELL)) {
             content.copy_from_slice(&cell.value.bytes());
             content[2..4].copy_from_slice(&cell.branch.to_le_bytes());

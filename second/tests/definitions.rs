@@ -156,11 +156,11 @@ fn cell_valid(program: &Program, number: usize, bytes: &[u8]) -> bool {
 }
 
 fn well_formed(program: &Program, bytes: &[u8]) -> bool {
-    if bytes.len() != 4 + 8 * program.cells.len() {
+    if bytes.len() != 8 + 8 * program.cells.len() || bytes[4..8] != program.checks.to_le_bytes() {
         return false;
     }
     let time = u32::from_le_bytes(bytes[..4].try_into().unwrap());
-    let content = |cell: usize| &bytes[4 + 8 * cell..12 + 8 * cell];
+    let content = |cell: usize| &bytes[8 + 8 * cell..16 + 8 * cell];
     let valid = |(cell, &number): (usize, &usize)| cell_valid(program, number, content(cell));
     let parts_good = |(cell, &number): (usize, &usize)| {
         let bytes = content(cell);
@@ -193,7 +193,7 @@ fn well_formed_by_the_words() {
         }
         let program = Program::read(&sample.file).unwrap();
         let good = well_formed(&program, &bytes);
-        assert_eq!(State::read(&program, &bytes).is_some(), good);
+        assert_eq!(State::read(&program, &bytes).is_ok(), good);
         counts[usize::from(good)] += 1;
     }
     assert!(counts.iter().all(|&count| count > 400), "{counts:?}");

@@ -108,9 +108,10 @@ fn keeps_memory(request: &Request, answer: &Answer) {
             Request::Run { program, state, records, output },
             Answer::Steps(Err(refusal), after, room),
         ) => {
-            let steps = if refusal.code >= 12 { refusal.place as usize } else { 0 };
+            let in_records = matches!(refusal.code, 12 | 13);
+            let steps = if in_records { refusal.place as usize } else { 0 };
             let mut kept = (state.clone(), output.clone());
-            if refusal.code >= 12 {
+            if in_records {
                 let (records, room) = (&records[..steps * 40], &mut kept.1[..steps * 8]);
                 let done = run(program, &mut kept.0, records, room).unwrap();
                 assert_eq!((done.steps, done.work), (steps, refusal.work));
@@ -138,7 +139,7 @@ fn refusals_leave_memory_and_every_code_comes_up() {
     // Code 14 is gone.
     for (call, (counts, last)) in seen.iter().zip([8, 9, 13, 7]).enumerate() {
         for (code, &count) in counts.iter().enumerate() {
-            let own = code <= last || (call == 3 && code >= 25);
+            let own = code <= last || (call == 2 && code == 15) || (call == 3 && code >= 25);
             assert_eq!(if own { count >= 4 } else { count > 0 }, own, "{seen:?}");
         }
     }
@@ -187,7 +188,7 @@ fn switches_catch_and_untils_fire() {
             full += usize::from(work == bound);
         }
         let holders = sample.nodes.iter().filter(|node| kinds::has_cell(node.kind));
-        for (node, cell) in holders.zip(state[4..].chunks(8)) {
+        for (node, cell) in holders.zip(state[8..].chunks(8)) {
             if node.kind != kinds::DELAY {
                 let row = &mut counts[usize::from(node.kind == kinds::GROUP)];
                 row[0] += usize::from(cell != [0; 8]);

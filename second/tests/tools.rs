@@ -52,18 +52,25 @@ fn calls_answers_one_request() {
     };
     assert_eq!(ask("check 512", &[&program]), "OK 1 0 2 3\n");
     assert_eq!(ask("check 0", &[]), "REFUSED 1 0 0\n");
-    assert_eq!(ask("start 512 4", &[&program, &[1, 2, 3, 4]]), "OK\nffffffff\n");
+    let started = ask("start 512 8", &[&program, &[1, 2, 3, 4, 5, 6, 7, 8]]);
+    let sum = second::format::sum_of_checks(&program).to_le_bytes();
+    let sum_hex = second::request::hex(&sum);
+    assert_eq!(started, format!("OK\nffffffff{sum_hex}\n"));
+    let start = [[255; 4], sum].concat();
     assert_eq!(ask("start 512 0", &[&program]), "REFUSED 9 0 0\n\n");
     let record = assemble::records("258").expect("a record");
-    let one = ask("run 512 4 40 8", &[&program, &[255; 4], &record, &[9; 8]]);
-    assert_eq!(one, "OK 1 2\n02010000\n0301000002010000\n");
-    let run = ask("run 512 4 0 0", &[&program, &[255; 4]]);
-    assert_eq!(run, "OK 0 0\nffffffff\n\n");
-    let gone = ask("step 512 4 40 8", &[&program, &[255; 4], &record, &[9; 8]]);
+    let one = ask("run 512 8 40 8", &[&program, &start, &record, &[9; 8]]);
+    assert_eq!(one, format!("OK 1 2\n02010000{sum_hex}\n0301000002010000\n"));
+    let run = ask("run 512 8 0 0", &[&program, &start]);
+    assert_eq!(run, format!("OK 0 0\nffffffff{sum_hex}\n\n"));
+    let gone = ask("step 512 8 40 8", &[&program, &start, &record, &[9; 8]]);
     assert_eq!(gone, "NO REQUEST\n");
     let bad = [record.clone(), vec![255; 40]].concat();
-    let run = ask("run 512 4 80 16", &[&program, &[255; 4], &bad, &[9; 16]]);
-    assert_eq!(run, "REFUSED 12 1 2\n02010000\n03010000020100000909090909090909\n");
+    let run = ask("run 512 8 80 16", &[&program, &start, &bad, &[9; 16]]);
+    assert_eq!(
+        run,
+        format!("REFUSED 12 1 2\n02010000{sum_hex}\n03010000020100000909090909090909\n")
+    );
 }
 
 #[test]

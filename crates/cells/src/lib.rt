@@ -63,7 +63,7 @@ pub fn cell_at(k: usize) -> usize
     requires { ⌜ cellAt k < 18446744073709551616 ⌝ }
     ensures { λ r. ⌜ r ≡ cellAt k ⌝ }
 {
-    4 + 8 * k
+    8 + 8 * k
 }
 
 // The content of cell k.

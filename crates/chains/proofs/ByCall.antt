@@ -11,7 +11,7 @@ use Rattle.rules.specs.Answers.{codeOf}
 use Rattle.rules.specs.Calls.{programVerdict, checkAnswer, checkCall}
 use Rattle.rules.specs.declared.Place.the-variants.{At, Nowhere}
 use Rattle.rules.specs.declared.Refusal.{Refusal}
-use Rattle.rules.specs.declared.Refusal.the-variants.{ProgramLength, CheckSum, BlockNumber, RecordFault, ShapeFault, ScopeFault, TypeFault, NotReady, StateFault, RecordsLength, OutputLength, InputFault, TimeBack}
+use Rattle.rules.specs.declared.Refusal.the-variants.{ProgramLength, CheckSum, BlockNumber, RecordFault, ShapeFault, ScopeFault, TypeFault, NotReady, StateFault, RecordsLength, OutputLength, InputFault, TimeBack, OtherProgram}
 use Rattle.rules.specs.declared.Verdict.{Verdict}
 use Rattle.rules.specs.declared.Verdict.the-variants.{Fine, Refuse}
 use Rattle.rules.specs.declared.Checked.{Checked}
@@ -60,6 +60,7 @@ none-below RecordsLength h = refl
 none-below OutputLength h = refl
 none-below (InputFault j) h = refl
 none-below (TimeBack j) h = refl
+none-below OtherProgram h = refl
 
 -- A program that code 8 refuses at x.
 at-let : (p : Bytes) (room : List ℕ) (x : ℕ) → programVerdict p ≡ Refuse (NotReady x) → explainCall p room ≡ explainLet p room x

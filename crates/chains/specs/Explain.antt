@@ -11,7 +11,7 @@ use Rattle.rules.specs.Calls.{programVerdict}
 use Rattle.rules.specs.declared.Place.{Place}
 use Rattle.rules.specs.declared.Place.the-variants.{At, Nowhere}
 use Rattle.rules.specs.declared.Refusal.{Refusal}
-use Rattle.rules.specs.declared.Refusal.the-variants.{ProgramLength, CheckSum, BlockNumber, RecordFault, ShapeFault, ScopeFault, TypeFault, NotReady, StateFault, RecordsLength, OutputLength, InputFault, TimeBack}
+use Rattle.rules.specs.declared.Refusal.the-variants.{ProgramLength, CheckSum, BlockNumber, RecordFault, ShapeFault, ScopeFault, TypeFault, NotReady, StateFault, RecordsLength, OutputLength, InputFault, TimeBack, OtherProgram}
 use Rattle.rules.specs.declared.Verdict.{Verdict}
 use Rattle.rules.specs.declared.Verdict.the-variants.{Fine, Refuse}
 use Rattle.chains.specs.declared.Explained.{Explained}
@@ -38,6 +38,7 @@ letOf RecordsLength = Nowhere
 letOf OutputLength = Nowhere
 letOf (InputFault k) = Nowhere
 letOf (TimeBack k) = Nowhere
+letOf OtherProgram = Nowhere
 
 -- "Room entries after it are 65535."
 unfoldable pub filled : List ℕ → List ℕ

@@ -17,7 +17,7 @@ use Rattle.rules.specs.Size.{isCell, timesS}
 use Rattle.rules.specs.Update.{caught}
 use Rattle.rules.specs.declared.Value.{Value}
 use Rattle.rules.proofs.Static.{and-both}
-use Rattle.rules.proofs.Cells.{cell-other, time-stays, length-setCell}
+use Rattle.rules.proofs.Cells.{cell-other, time-stays, sum-stays, length-setCell}
 use Rattle.promises.specs.Small.{Small}
 use Rattle.promises.specs.Sits.{SitsS}
 use Rattle.promises.specs.Kept.{Kept}
@@ -39,6 +39,7 @@ set-kept st k m s = record {
   long = length-setCell st k m;
   bytes = small-setCell st k m s;
   moment = time-stays st k m;
+  stamp = sum-stays st k m;
   others = λ j e. cell-other st k j m (cell-another j k e);
 }
 

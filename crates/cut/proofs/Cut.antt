@@ -27,6 +27,7 @@ use Rattle.promises.specs.Seated.{Seated}
 use Rattle.promises.specs.Run.{RunEnds, AnswersRun}
 use Rattle.promises.proofs.FromTable.{seated}
 use Rattle.promises.proofs.Runs.{run-from, run-ends-well}
+use Rattle.promises.proofs.CallLaws.{state-fine, state-well}
 use Rattle.rooms.specs.Walk.{Walk, walk, inRoom}
 use Rattle.rooms.proofs.WalkLaws.{SameRecord, walk-agree, run-walk, not-finished, Whole, whole, short, write-front, write-all, drop-all}
 use Rattle.cut.specs.Parts.{countedOn, stepsIn, CutAt, SameParts}
@@ -54,7 +55,7 @@ lent-fine p st recs out e =
     let f = and-both _ _ (not-not _ (if-fine _ _ (c .0))) in
     record {
       accepts = accepted p (a .0);
-      well = not-not _ (if-fine _ _ (b .0));
+      well = state-well p st (b .0);
       even = eqb-true _ _ (f .0);
       few = leb-true _ _ (f .1);
       room = eqb-true _ _ (not-not _ (if-fine _ _ (c .1)));
@@ -63,7 +64,7 @@ lent-fine p st recs out e =
 pub fine-lent : (p st recs out : Bytes) → Lent p st recs out → lentVerdict p st recs out (fits recs) ≡ Fine
 unfolding lentVerdict fits _and_ _otherwise_ refuseIf
 fine-lent p st recs out l =
-    rw (fine-verdict p (l .accepts), l .well, eq-eqb _ _ (l .even), le-leb _ _ (l .few), eq-eqb _ _ (l .room))
+    rw (fine-verdict p (l .accepts), state-fine p st (l .well), eq-eqb _ _ (l .even), le-leb _ _ (l .few), eq-eqb _ _ (l .room))
 
 -- A run of what is lent as it should be is its walk, in its room.
 run-is : (p st recs out : Bytes) → Lent p st recs out

@@ -9,7 +9,7 @@ use Rattle.rules.specs.Layout.{inputLength}
 use Rattle.rules.specs.Answers.{placeOf}
 use Rattle.rules.specs.Calls.{RunOutcome}
 use Rattle.rules.specs.declared.Refusal.{Refusal}
-use Rattle.rules.specs.declared.Refusal.the-variants.{ProgramLength, CheckSum, BlockNumber, RecordFault, ShapeFault, ScopeFault, TypeFault, NotReady, StateFault, RecordsLength, OutputLength, InputFault, TimeBack}
+use Rattle.rules.specs.declared.Refusal.the-variants.{ProgramLength, CheckSum, BlockNumber, RecordFault, ShapeFault, ScopeFault, TypeFault, NotReady, StateFault, RecordsLength, OutputLength, InputFault, TimeBack, OtherProgram}
 use Rattle.rules.specs.declared.Ran.{Ran}
 use Rattle.rules.specs.declared.Ran.the-variants.{Finished}
 
@@ -28,6 +28,7 @@ later d RecordsLength = RecordsLength
 later d OutputLength = OutputLength
 later d (InputFault k) = InputFault (d + k)
 later d (TimeBack k) = TimeBack (d + k)
+later d OtherProgram = OtherProgram
 
 -- The second part's answer after a first part of so many steps and so much work: steps, places and work are summed.
 abbrev pub countedOn : ℕ → ℕ → Ran → Ran

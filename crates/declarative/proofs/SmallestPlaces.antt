@@ -20,7 +20,7 @@ use Rattle.rules.specs.Calls.{_otherwise_, refuseIf, refuseAt, programVerdict, 
 use Rattle.rules.specs.declared.Place.{Place}
 use Rattle.rules.specs.declared.Place.the-variants.{At, Nowhere}
 use Rattle.rules.specs.declared.Refusal.{Refusal}
-use Rattle.rules.specs.declared.Refusal.the-variants.{ProgramLength, CheckSum, BlockNumber, RecordFault, ShapeFault, ScopeFault, TypeFault, NotReady, StateFault, RecordsLength, OutputLength, InputFault, TimeBack}
+use Rattle.rules.specs.declared.Refusal.the-variants.{ProgramLength, CheckSum, BlockNumber, RecordFault, ShapeFault, ScopeFault, TypeFault, NotReady, StateFault, RecordsLength, OutputLength, InputFault, TimeBack, OtherProgram}
 use Rattle.rules.specs.declared.Verdict.{Verdict}
 use Rattle.rules.specs.declared.Verdict.the-variants.{Fine, Refuse}
 use Rattle.rules.specs.declared.Checked.{Checked}
@@ -191,6 +191,7 @@ told-verdict p (Refuse RecordsLength) f = absurd f
 told-verdict p (Refuse OutputLength) f = absurd f
 told-verdict p (Refuse (InputFault k)) f = absurd f
 told-verdict p (Refuse (TimeBack k)) f = absurd f
+told-verdict p (Refuse OtherProgram) f = absurd f
 
 -- Check's refusal says what is so.
 refusal-says : (p : Bytes) (r : Refusal) → checkCall p ≡ Checked.Refused r → SaysOf p r

@@ -10,7 +10,7 @@ use Rattle.rules.specs.declared.Checked.{Checked}
 use Rattle.rules.specs.declared.Started.{Started}
 use Rattle.rules.specs.declared.Ran.{Ran}
 use Rattle.rules.specs.declared.Refusal.{Refusal}
-use Rattle.rules.specs.declared.Refusal.the-variants.{ProgramLength, CheckSum, BlockNumber, RecordFault, ShapeFault, ScopeFault, TypeFault, NotReady, StateFault, RecordsLength, OutputLength, InputFault, TimeBack}
+use Rattle.rules.specs.declared.Refusal.the-variants.{ProgramLength, CheckSum, BlockNumber, RecordFault, ShapeFault, ScopeFault, TypeFault, NotReady, StateFault, RecordsLength, OutputLength, InputFault, TimeBack, OtherProgram}
 use Rattle.rules.specs.declared.Verdict.{Verdict}
 use Rattle.rules.specs.declared.Verdict.the-variants.{Fine, Refuse}
 use Rattle.declarative.specs.Formats.{WholeBlocks, SumRight, NumberRight, RecordRight, Formatted}
@@ -66,7 +66,7 @@ pub record FirstLet (p : Bytes) (n : ℕ) : Type 0 where
   pub typed : TypesRight p
   pub smallest : Smallest (LetRight p) (nodes p) n
 
--- What a refusal says of the program, by its code and place. (Codes 9-13 are not check's.)
+-- What a refusal says of the program, by its code and place. (Codes 9-13 and 15 are not check's.)
 abbrev pub SaysOf : Bytes → Refusal → Type 0
 SaysOf p ProgramLength = WholeBlocks p → ⊥
 SaysOf p (CheckSum j) = FirstSum p j
@@ -81,6 +81,7 @@ SaysOf p RecordsLength = ⊥
 SaysOf p OutputLength = ⊥
 SaysOf p (InputFault k) = ⊥
 SaysOf p (TimeBack k) = ⊥
+SaysOf p OtherProgram = ⊥
 
 -- A verdict that is fine says that every sentence over the table is met.
 abbrev pub Says : Bytes → Verdict → Type 0

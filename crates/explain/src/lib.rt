@@ -141,6 +141,7 @@ fn let_of(r: Refusal) -> Place
         Refusal::OutputLength => Place::Nowhere,
         Refusal::InputFault(_) => Place::Nowhere,
         Refusal::TimeBack(_) => Place::Nowhere,
+        Refusal::OtherProgram => Place::Nowhere,
     }
 }
 

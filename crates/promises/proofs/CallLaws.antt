@@ -15,18 +15,20 @@ use Rattle.rules.specs.Reset.{startState}
 use Rattle.rules.specs.WellFormed.{wellFormed}
 use Rattle.rules.specs.Bound.{bound}
 use Rattle.rules.specs.Accepted.{Accepted}
-use Rattle.rules.specs.Calls.{_otherwise_, refuseIf, lentVerdict, startOutcome, startCall, RunOutcome, runOutcome, runCall}
+use Rattle.rules.specs.Calls.{_otherwise_, refuseIf, stateVerdict, lentVerdict, startOutcome, startCall, RunOutcome, runOutcome, runCall}
 use Rattle.rules.specs.declared.Refusal.{Refusal}
 use Rattle.rules.specs.declared.Refusal.the-variants.{RecordsLength, OutputLength}
 use Rattle.rules.specs.declared.Verdict.{Verdict}
 use Rattle.rules.specs.declared.Verdict.the-variants.{Fine, Refuse}
 use Rattle.rules.specs.declared.Started.the-variants.{Ready}
 use Rattle.rules.proofs.Static.{and-both}
+use Rattle.rules.proofs.Kids.{not-not}
 use Rattle.rules.proofs.Verdicts.{both-fine, if-fine, fine-verdict}
 use Rattle.promises.specs.Small.{Small}
 use Rattle.promises.specs.Seated.{Seated}
 use Rattle.promises.specs.Run.{runVerdict, RunAnswers, lengths, ran, workIn}
 use Rattle.promises.specs.GoesOn.{State}
+use Rattle.promises.proofs.ValidLaws.{and-join}
 use Rattle.promises.proofs.Runs.{run-from, run-ends-well, total-fits}
 
 -- Start.
@@ -35,12 +37,27 @@ pub start-goes-on : (p st : Bytes) → Accepted p → length st ≡ stateLength 
 unfolding startCall startOutcome _otherwise_ refuseIf
 start-goes-on p st acc l = rw (fine-verdict p acc, eq-eqb (length st) (stateLength p) l)
 
+-- A state has no fault exactly if it is well-formed.
+pub state-fine : (p st : Bytes) → wellFormed p st ≡ true → stateVerdict p st ≡ Fine
+unfolding stateVerdict wellFormed _otherwise_ refuseIf
+state-fine p st e =
+    let a = and-both _ _ e in
+    let b = and-both _ _ (a .0) in
+    rw (b .0, b .1, a .1)
+
+pub state-well : (p st : Bytes) → stateVerdict p st ≡ Fine → wellFormed p st ≡ true
+unfolding stateVerdict wellFormed
+state-well p st e =
+    let a = both-fine _ _ e in
+    let b = both-fine _ _ (a .1) in
+    and-join _ _ (and-join _ _ (not-not _ (if-fine _ _ (a .0))) (not-not _ (if-fine _ _ (b .0)))) (not-not _ (if-fine _ _ (b .1)))
+
 -- What a run is lent.
 lent : (p st recs out : Bytes) (fit : Bool) → Accepted p → wellFormed p st ≡ true
     → lentVerdict p st recs out fit
     ≡ (refuseIf (not fit) RecordsLength otherwise refuseIf (not (eqb (length out) (8 * (length recs / inputLength)))) OutputLength)
 unfolding lentVerdict _otherwise_ refuseIf
-lent p st recs out fit acc well = rw (fine-verdict p acc, well)
+lent p st recs out fit acc well = rw (fine-verdict p acc, state-fine p st well)
 
 -- A verdict that is fine, or refuses with one of the codes from 10 to most.
 data Lent (most : ℕ) : Verdict → Type 0 where

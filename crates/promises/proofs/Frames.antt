@@ -30,7 +30,7 @@ cell-another k j e h =
 
 -- Keeping: nothing changed; one change after another; more cells than changed.
 pub kept-self : (own : ℕ → ℕ) (st : Bytes) → Small st → Kept own st st
-kept-self own st h = record { long = refl; bytes = h; moment = refl; others = λ k e. refl }
+kept-self own st h = record { long = refl; bytes = h; moment = refl; stamp = refl; others = λ k e. refl }
 
 -- One change after another.
 pub kept-then : {f g own : ℕ → ℕ} {st st₁ st₂ : Bytes} → ((k : ℕ) → own k ≡ 0 → f k ≡ 0) → ((k : ℕ) → own k ≡ 0 → g k ≡ 0)
@@ -39,12 +39,13 @@ kept-then hf hg a b = record {
   long = b .long ∙ a .long;
   bytes = b .bytes;
   moment = b .moment ∙ a .moment;
+  stamp = b .stamp ∙ a .stamp;
   others = λ k e. b .others k (hg k e) ∙ a .others k (hf k e);
 }
 
 -- A change of fewer cells.
 pub kept-more : {f own : ℕ → ℕ} {st st₁ : Bytes} → ((k : ℕ) → own k ≡ 0 → f k ≡ 0) → Kept f st st₁ → Kept own st st₁
-kept-more hf a = record { long = a .long; bytes = a .bytes; moment = a .moment; others = λ k e. a .others k (hf k e) }
+kept-more hf a = record { long = a .long; bytes = a .bytes; moment = a .moment; stamp = a .stamp; others = λ k e. a .others k (hf k e) }
 
 -- Parts that share no cell.
 abbrev pub Apart : (ℕ → ℕ) → (ℕ → ℕ) → Type 0

@@ -27,6 +27,7 @@ use Rattle.promises.specs.Small.{Small}
 use Rattle.promises.specs.Valid.{Valid}
 use Rattle.promises.specs.Sits.{Binds, BindsPlain, Numbered, SitsE, SitsS, SitsB, SitsC}
 use Rattle.promises.specs.Seated.{Seated}
+use Rattle.promises.proofs.Checks.{checks-most}
 use Rattle.promises.proofs.SmallLaws.{u32-small}
 use Rattle.promises.proofs.ValidLaws.{type-is, from-valid}
 
@@ -166,5 +167,6 @@ from-table p s a = sits-at p s (a .formed) (suc (nodes p - 1)) (nodes p - 1) (om
 pub seated : (p : Bytes) → Small p → Accepted p → Seated p
 seated p s a = record {
   sits = from-table p s a;
+  stamp-small = checks-most p s (a .formed);
   once = cells-once p (a .formed .length-right) (a .shape-right) (some-node p (a .formed));
 }

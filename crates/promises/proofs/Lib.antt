@@ -1,5 +1,6 @@
 pub mod SmallLaws
 pub mod ValidLaws
+pub mod Checks
 pub mod FromTable
 pub mod SoundE
 pub mod SoundS

@@ -5,7 +5,7 @@ use Prim.Native.Nat.{ℕ, _+_, _<_, _≤_}
 use native.Mathlib.Omega.{arith}
 use lib.ListN.{length}
 use Rattle.rules.specs.Bytes.{Bytes, byteAt, u16At, u32At, bytesOf, writeAt}
-use Rattle.rules.specs.Layout.{cell, cellAt, lastTime, setTime}
+use Rattle.rules.specs.Layout.{cell, cellAt, lastTime, setTime, sumIn}
 use Rattle.rules.proofs.Cells.{length-writeAt, beyond-writeAt, in-writeAt, u64-same}
 
 -- A time is four bytes.
@@ -26,6 +26,14 @@ time-same st t l h =
     = λ j g. ap (byteAt (writeAt st 0 (bytesOf 4 t))) (let z : j ≡ 0 + j = omega arith in z)
     ∙ in-writeAt (bytesOf 4 t) st 0 j (omega (arith, four t)) (omega (arith, four t)) in
     omega (arith, e 0 (omega arith), e 1 (omega arith), e 2 (omega arith), e 3 (omega arith), u32-bytes t h)
+
+-- So does the sum of the program's checks.
+pub sum-after : (st : Bytes) (t : ℕ) → sumIn (setTime st t) ≡ sumIn st
+unfolding sumIn setTime u32At u16At
+sum-after st t =
+    let e : (j : ℕ) → 4 ≤ j → byteAt (writeAt st 0 (bytesOf 4 t)) j ≡ byteAt st j
+    = λ j g. beyond-writeAt (bytesOf 4 t) st 0 j (omega (arith, four t)) in
+    omega (arith, e 4 (omega arith), e 5 (omega arith), e 6 (omega arith), e 7 (omega arith))
 
 -- Every cell stands behind the time.
 after-time : (k a t : ℕ) → 0 + length (bytesOf 4 t) ≤ cellAt k + a

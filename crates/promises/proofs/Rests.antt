@@ -16,7 +16,7 @@ use Rattle.rules.specs.WellFormed.{contentFits, wellS, wellC}
 use Rattle.rules.specs.Size.{isCell, timesS, timesB, timesC}
 use Rattle.rules.specs.declared.Value.{Value}
 use Rattle.rules.proofs.Static.{and-both}
-use Rattle.rules.proofs.Cells.{cell-same, cell-other, time-stays, length-setCell}
+use Rattle.rules.proofs.Cells.{cell-same, cell-other, time-stays, sum-stays, length-setCell}
 use Rattle.promises.specs.Small.{Small}
 use Rattle.promises.specs.Valid.{Valid}
 use Rattle.promises.specs.Sits.{SitsS, SitsB, SitsC}
@@ -66,6 +66,7 @@ cell-set st k m cells h s l g = record {
     long = length-setCell st k m;
     bytes = small-setCell st k m s;
     moment = time-stays st k m;
+    stamp = sum-stays st k m;
     others = λ j e. cell-other st k j m (cell-another j k e);
   };
   holds = eq-eqb _ m (cell-same st k m (omega (arith, inside k cells h)) g);

@@ -91,13 +91,13 @@ small-zeros zero = small-nil
 small-zeros (suc n) = small-cons 0 _ (omega arith) (small-zeros n)
 
 -- Bytes without the first of them.
-small-drop : (n : ℕ) (s : Bytes) → Small s → Small (drop n s)
+pub small-drop : (n : ℕ) (s : Bytes) → Small s → Small (drop n s)
 small-drop zero s h = h
 small-drop (suc n) [] h = h
 small-drop (suc n) (b ∷ s) h = small-drop n s (small-tail b s h)
 
 -- The first of bytes.
-small-take : (n : ℕ) (s : Bytes) → Small s → Small (take n s)
+pub small-take : (n : ℕ) (s : Bytes) → Small s → Small (take n s)
 small-take zero s h = small-nil
 small-take (suc n) [] h = small-nil
 small-take (suc n) (b ∷ s) h = small-cons b _ (small-head b s h) (small-take n s (small-tail b s h))

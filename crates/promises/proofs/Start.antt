@@ -3,12 +3,12 @@
 use mathlib.Core.Path.{_≡_, refl, _∙_}
 use mathlib.Core.List.{_++_}
 use mathlib.Core.Bool.{true}
-use Prim.Native.Nat.{ℕ, _*_}
+use Prim.Native.Nat.{ℕ, _*_, _≤_}
 use native.Mathlib.Omega.{arith}
 use lib.ListN.{length, replicate, length-replicate}
 use borrow.Author.Tests.{eq-eqb}
 use Rattle.rules.specs.Bytes.{Bytes, byteAt, u16At, u32At, bytesOf}
-use Rattle.rules.specs.Layout.{mostNodes, cells, typeAt, cellAt, stateLength, lastTime, noTime, startHeader}
+use Rattle.rules.specs.Layout.{mostNodes, cells, typeAt, cellAt, stateLength, checksOf, lastTime, sumIn, noTime, startHeader}
 use Rattle.rules.specs.Tree.{root}
 use Rattle.rules.specs.Reset.{startState}
 use Rattle.rules.specs.WellFormed.{wellFormed}
@@ -33,10 +33,15 @@ blank-time : (p : Bytes) → lastTime (blank p) ≡ noTime
 unfolding blank startHeader bytesOf lastTime u32At u16At byteAt
 blank-time p = refl
 
+-- It has the sum of the program's checks.
+blank-sum : (p : Bytes) → checksOf p ≤ 791230320 → sumIn (blank p) ≡ checksOf p
+unfolding blank startHeader bytesOf sumIn u32At u16At byteAt
+blank-sum p h = omega arith
+
 -- It is bytes.
 blank-small : (p : Bytes) → Small (blank p)
 unfolding blank startHeader
-blank-small p = small-append _ _ (small-bytes 4 noTime) (small-zeros (8 * cells p))
+blank-small p = small-append _ _ (small-append _ _ (small-bytes 4 noTime) (small-bytes 4 (checksOf p))) (small-zeros (8 * cells p))
 
 pub record StartMade (p : Bytes) : Type 0 where
   pub well : wellFormed p (startState p) ≡ true
@@ -50,6 +55,7 @@ start-made p seat =
     record {
       well = parts-well p (startState p) (record {
         long = a .kept .long ∙ blank-length p;
+        stamped = a .kept .stamp ∙ blank-sum p (seat .stamp-small);
         moment = or-left _ _ (eq-eqb _ _ (a .kept .moment ∙ blank-time p));
         parts = rests-well (root p) mostNodes (cells p) (typeAt p) (startState p) (seat .sits) (a .holds);
       });

@@ -10,14 +10,14 @@ use lib.Dec.{eqb, leb}
 use lib.ListN.{length, replicate, length-replicate}
 use borrow.Author.Tests.{eqb-true, eq-eqb, le-leb}
 use Rattle.rules.specs.Bytes.{Bytes, byteAt, _or_}
-use Rattle.rules.specs.Layout.{mostNodes, cells, typeAt, cellAt, stateLength, lastTime, noTime, setTime, timeIn}
+use Rattle.rules.specs.Layout.{mostNodes, cells, typeAt, cellAt, stateLength, checksOf, lastTime, sumIn, noTime, setTime, timeIn}
 use Rattle.rules.specs.Work.{_plus_, Updated, Next}
 use Rattle.rules.specs.Tree.{root}
 use Rattle.rules.specs.Scope.{unmarked, isMarked, isOffered, scopeFault}
 use Rattle.rules.specs.Typing.{typeS, typeFault}
 use Rattle.rules.specs.Values.{typeOf}
 use Rattle.rules.specs.Ready.{readyFault}
-use Rattle.rules.specs.WellFormed.{wellS, wellFormed, lastMoment}
+use Rattle.rules.specs.WellFormed.{wellS, longAsCells, knowsProgram, restWell, wellFormed, lastMoment}
 use Rattle.rules.specs.Bound.{bound, boundS, boundU}
 use Rattle.rules.specs.Evaluate.{Env, unbound}
 use Rattle.rules.specs.Update.{Made, updS, updated, evaluated, stepOf}
@@ -40,7 +40,7 @@ use Rattle.promises.proofs.SoundS.{soundS}
 use Rattle.promises.proofs.Frames.{well-agree}
 use Rattle.promises.proofs.Goes.{Goes, next, jump}
 use Rattle.promises.proofs.UpdateS.{update-goes}
-use Rattle.promises.proofs.Moment.{time-same, cell-stays, length-setTime}
+use Rattle.promises.proofs.Moment.{time-same, sum-after, cell-stays, length-setTime}
 
 -- Where nothing is in scope everything in scope is bound.
 none-there : (n b : ℕ) → byteAt (replicate n 0) b ≡ 0
@@ -80,21 +80,24 @@ ended (jump o v e k) = absurd (not-both o)
 -- The parts of a well-formed state.
 pub record Well (p st : Bytes) : Type 0 where
   pub long : length st ≡ stateLength p
+  pub stamped : sumIn st ≡ checksOf p
   pub moment : (eqb (lastTime st) noTime or leb (lastTime st) lastMoment) ≡ true
   pub parts : wellS st (root p) ≡ true
 
 -- A well-formed state taken apart.
 pub well-parts : (p st : Bytes) → wellFormed p st ≡ true → Well p st
-unfolding wellFormed
+unfolding wellFormed longAsCells knowsProgram restWell
 well-parts p st e =
     let a = and-both _ _ e in
     let b = and-both _ _ (a .0) in
-    record { long = eqb-true _ _ (b .0); moment = b .1; parts = a .1 }
+    let c = and-both _ _ (a .1) in
+    record { long = eqb-true _ _ (b .0); stamped = eqb-true _ _ (b .1); moment = c .0; parts = c .1 }
 
 -- A well-formed state put together.
 pub parts-well : (p st : Bytes) → Well p st → wellFormed p st ≡ true
-unfolding wellFormed
-parts-well p st w = and-join _ _ (and-join _ _ (eq-eqb _ _ (w .long)) (w .moment)) (w .parts)
+unfolding wellFormed longAsCells knowsProgram restWell
+parts-well p st w =
+    and-join _ _ (and-join _ _ (eq-eqb _ _ (w .long)) (eq-eqb _ _ (w .stamped))) (and-join _ _ (w .moment) (w .parts))
 
 -- A state has room for its time.
 header-there : (p st : Bytes) → length st ≡ stateLength p → 4 ≤ length st
@@ -102,14 +105,15 @@ unfolding stateLength cellAt
 header-there p st l = omega arith
 
 -- The state's time becomes the record's.
-timed : (p rec st : Bytes) → Small rec → length st ≡ stateLength p → wellS st (root p) ≡ true → timeIn rec ≤ lastMoment
+timed : (p rec st : Bytes) → Small rec → length st ≡ stateLength p → sumIn st ≡ checksOf p → wellS st (root p) ≡ true → timeIn rec ≤ lastMoment
     → Well p (setTime st (timeIn rec))
 unfolding timeIn
-timed p rec st s l w h =
+timed p rec st s l q w h =
     let t : ℕ = timeIn rec in
     let e : lastTime (setTime st t) ≡ t = time-same st t (header-there p st l) (u32-small rec 0 s) in
     record {
       long = length-setTime st t ∙ l;
+      stamped = sum-after st t ∙ q;
       moment = or-right _ _ (le-leb (lastTime (setTime st t)) lastMoment (omega arith));
       parts = well-agree (root p) st (setTime st t) (record { same = λ k g. cell-stays st t k }) ∙ w;
     }
@@ -155,7 +159,7 @@ step-goes p rec st acc seat well hs hr =
       made = ap (λ r. evaluated r λ v t. updated v t rec (updS rec env (root p) st)) (g .done) ∙ ap (updated (g .value) (g .tally) rec) (u .is);
       valid = g .valid;
       typed = g .typed;
-      well = λ ht. parts-well p _ (timed p rec (u .state) hr (u .kept .long ∙ w .long) (u .holds) ht);
+      well = λ ht. parts-well p _ (timed p rec (u .state) hr (u .kept .long ∙ w .long) (u .kept .stamp ∙ w .stamped) (u .holds) ht);
       bytes = small-setTime (u .state) (timeIn rec) (u .kept .bytes);
       within = total (g .tally) (u .tally) (boundS (root p)) (boundU (root p))
           (evaluated-work _ (g .value) (g .tally) (g .done) (evalS-within rec st env (root p)))

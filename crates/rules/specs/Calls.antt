@@ -14,13 +14,13 @@ use Rattle.rules.specs.Scope.{scopeFault}
 use Rattle.rules.specs.Typing.{typeS, typeFault}
 use Rattle.rules.specs.Ready.{readyFault}
 use Rattle.rules.specs.Reset.{startState}
-use Rattle.rules.specs.WellFormed.{wellFormed, lastMoment}
+use Rattle.rules.specs.WellFormed.{longAsCells, knowsProgram, restWell, lastMoment}
 use Rattle.rules.specs.Bound.{bound}
 use Rattle.rules.specs.Update.{Stepped, Made, NotMade, stepOf}
 use Rattle.rules.specs.declared.Place.{Place}
 use Rattle.rules.specs.declared.Place.the-variants.{At, Nowhere}
 use Rattle.rules.specs.declared.Refusal.{Refusal}
-use Rattle.rules.specs.declared.Refusal.the-variants.{ProgramLength, CheckSum, BlockNumber, RecordFault, ShapeFault, ScopeFault, TypeFault, NotReady, StateFault, RecordsLength, OutputLength, InputFault, TimeBack}
+use Rattle.rules.specs.declared.Refusal.the-variants.{ProgramLength, CheckSum, BlockNumber, RecordFault, ShapeFault, ScopeFault, TypeFault, NotReady, StateFault, RecordsLength, OutputLength, InputFault, TimeBack, OtherProgram}
 use Rattle.rules.specs.declared.Verdict.{Verdict}
 use Rattle.rules.specs.declared.Verdict.the-variants.{Fine, Refuse}
 use Rattle.rules.specs.declared.Checked.{Checked}
@@ -82,11 +82,18 @@ pub record RunOutcome : Type 0 where
   pub state : Bytes
   pub output : Bytes
 
--- Codes 1-11 of a run whose records are of the right length or not.
+-- A state: 9 for its length, then 15 for a wrong sum, then 9 for the rest.
+unfoldable pub stateVerdict : Bytes → Bytes → Verdict
+stateVerdict p st =
+    refuseIf (not (longAsCells p st)) StateFault
+    otherwise refuseIf (not (knowsProgram p st)) OtherProgram
+    otherwise refuseIf (not (restWell p st)) StateFault
+
+-- Codes 1-11 and 15 of a run whose records are of the right length or not.
 unfoldable pub lentVerdict : Bytes → Bytes → Bytes → Bytes → Bool → Verdict
 lentVerdict p st recs out recordsFit =
     programVerdict p
-    otherwise refuseIf (not (wellFormed p st)) StateFault
+    otherwise stateVerdict p st
     otherwise refuseIf (not recordsFit) RecordsLength
     otherwise refuseIf (not (eqb (length out) (8 * (length recs / inputLength)))) OutputLength
 

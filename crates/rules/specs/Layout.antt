@@ -1,6 +1,7 @@
 -- Where things stand: blocks and nodes in a program, cells in a state, channels in a record.
 -- Assumes nothing: these are definitions.
-use Prim.Native.Nat.{ℕ, _+_, _-_, _*_, _/_, _%_, _^_}
+use Prim.Native.Nat.{ℕ, zero, suc, _+_, _-_, _*_, _/_, _%_, _^_}
+use mathlib.Core.List.{_++_}
 use mathlib.Core.Bool.{Bool}
 use lib.ListN.{length, take, drop}
 use lib.Dec.{eqb, ltb}
@@ -27,6 +28,15 @@ countIn p j = u16At p (blockAt j + 2)
 
 unfoldable pub checkIn : Bytes → ℕ → ℕ
 checkIn p j = u32At p (blockAt j + 508)
+
+-- The sum of the checks of so many blocks, and of all blocks of a program. (In an accepted one a check is at most 32,967,930, and the sum at most
+-- 791,230,320.)
+unfoldable pub checksBelow : Bytes → ℕ → ℕ
+checksBelow p zero = 0
+checksBelow p (suc j) = checksBelow p j + checkIn p j
+
+unfoldable pub checksOf : Bytes → ℕ
+checksOf p = checksBelow p (blocks p)
 
 -- Bytes 4-507 of a block: 42 records of 12 bytes, counted across blocks.
 unfoldable pub records : Bytes → ℕ
@@ -80,15 +90,15 @@ cellsBefore p n = howMany (λ m. hasCell (kindAt p m)) n
 unfoldable pub cells : Bytes → ℕ
 cells p = cellsBefore p (nodes p)
 
--- A state is the last time (4 bytes, all ones if none) and then the cells, 8 bytes each.
+-- A state is the last time (4 bytes, all ones if none), the sum of its program's checks (4 bytes), and then the cells, 8 bytes each.
 abbrev pub noTime : ℕ
 noTime = 4294967295
 
 abbrev pub headerLength : ℕ
-headerLength = 4
+headerLength = 8
 
 unfoldable pub startHeader : Bytes → Bytes
-startHeader p = bytesOf 4 noTime
+startHeader p = bytesOf 4 noTime ++ bytesOf 4 (checksOf p)
 
 unfoldable pub cellAt : ℕ → ℕ
 cellAt k = headerLength + 8 * k
@@ -98,6 +108,10 @@ stateLength p = cellAt (cells p)
 
 unfoldable pub lastTime : Bytes → ℕ
 lastTime st = u32At st 0
+
+-- The sum that a state carries.
+unfoldable pub sumIn : Bytes → ℕ
+sumIn st = u32At st 4
 
 unfoldable pub setTime : Bytes → ℕ → Bytes
 setTime st t = writeAt st 0 (bytesOf 4 t)

@@ -5,7 +5,7 @@ use mathlib.Core.List.{List, [], _∷_, _++_}
 use lib.ListN.{length, replicate}
 use Rattle.rules.specs.Bytes.{Bytes, bytesOf, u64At}
 use Rattle.rules.specs.Values.{boolT, intT, maybeOf, unpacked, packed, valueBytes}
-use Rattle.rules.specs.Layout.{noNext, noTime, stateLength}
+use Rattle.rules.specs.Layout.{noNext, noTime, checksOf, stateLength}
 use Rattle.rules.specs.Calls.{checkCall, startCall, runCall}
 use Rattle.rules.specs.Samples.{minus, joined, program, quiet, event, twoEvents, stray, input, ext, delay, letSignal, switch, letContinue, until, branch, case, variable, constant, truth, operation, add, divide, negation, choice}
 use Rattle.rules.specs.declared.Value.{Value}
@@ -69,9 +69,9 @@ int w = Plain intT w
 abbrev pub maybeInt : ℕ
 maybeInt = 7
 
--- A state: its time and its cells; the cell of a delay or a switch, and of a group in a branch.
-abbrev pub stateOf : ℕ → List Bytes → Bytes
-stateOf t cells = bytesOf 4 t ++ joined cells
+-- A state: its time, the sum of its program's checks and its cells; the cell of a delay or a switch, and of a group in a branch.
+abbrev pub stateOf : Bytes → ℕ → List Bytes → Bytes
+stateOf p t cells = bytesOf 4 t ++ bytesOf 4 (checksOf p) ++ joined cells
 
 abbrev pub holding : Value → Bytes
 holding v = valueBytes v
@@ -95,13 +95,13 @@ counting v =
     ∷ []
     )
 
--- A: 0, 1, 2; work 13; state 12 bytes.
+-- A: 0, 1, 2; work 13; state 16 bytes.
 abbrev pub rowA : Row
 rowA = record {
   program = counting 0;
   records = quiet 0 ∷ quiet 100 ∷ quiet 100 ∷ [];
   sight = expect (Accepted 8 1 13 intT) (made (int 0) 13 ∷ made (int 1) 13 ∷ made (int 2) 13 ∷ []) (Finished 3 39)
-      (stateOf 100 (holding (int 3) ∷ []));
+      (stateOf (counting 0) 100 (holding (int 3) ∷ []));
 }
 
 -- B: A from 2147483647: next -2147483648.
@@ -110,7 +110,7 @@ rowB = record {
   program = counting 2147483647;
   records = quiet 0 ∷ quiet 0 ∷ [];
   sight = expect (Accepted 8 1 13 intT) (made (int 2147483647) 13 ∷ made (int (minus 2147483648)) 13 ∷ []) (Finished 2 26)
-      (stateOf 0 (holding (int (minus 2147483647)) ∷ []));
+      (stateOf (counting 2147483647) 0 (holding (int (minus 2147483647)) ∷ []));
 }
 
 -- C: let x = ext x in ext x: code 8, at the let. (No state is started and no step made.)
@@ -130,7 +130,7 @@ abbrev pub rowC : Row
 rowC = record {
   program = selfish;
   records = [];
-  sight = expect (Checked.Refused (NotReady 4)) [] (Ran.Refused (NotReady 4) 0) (0 ∷ 0 ∷ 0 ∷ 0 ∷ []);
+  sight = expect (Checked.Refused (NotReady 4)) [] (Ran.Refused (NotReady 4) 0) (0 ∷ 0 ∷ 0 ∷ 0 ∷ 0 ∷ 0 ∷ 0 ∷ 0 ∷ []);
 }
 
 -- D: switch (ext 0) on x = input 4 in ext x. Events 5, none, 6, none give 0, 5, 5, 6; work 6, 7, 6, 7.
@@ -153,7 +153,7 @@ rowD = record {
   records = event 0 5 ∷ quiet 1 ∷ event 2 6 ∷ quiet 3 ∷ [];
   sight = expect (Accepted 6 1 7 intT)
       (made (int 0) 6 ∷ made (int 5) 7 ∷ made (int 5) 6 ∷ made (int 6) 7 ∷ []) (Finished 4 26)
-      (stateOf 3 (holding (int 6) ∷ []));
+      (stateOf switching 3 (holding (int 6) ∷ []));
 }
 
 -- E: a group with up = ext 1 until input 4 => down, down x = ext x until input 4 => up, body ext 0 until input 4 => down. The branch down is
@@ -198,7 +198,7 @@ rowE = record {
   records = quiet 0 ∷ event 1 7 ∷ event 2 9 ∷ quiet 3 ∷ [];
   sight = expect (Accepted 18 1 9 intT)
       (made (int 0) 9 ∷ made (int 0) 7 ∷ made (int 7) 7 ∷ made (int 1) 9 ∷ []) (Finished 4 32)
-      (stateOf 3 (inBranch up 9 ∷ []));
+      (stateOf swaying 3 (inBranch up 9 ∷ []));
 }
 
 -- ext (x by y), of constants.
@@ -217,7 +217,7 @@ abbrev pub divides : ℕ → ℕ → Value → Row
 divides x y v = record {
   program = dividing x y;
   records = quiet 0 ∷ [];
-  sight = expect (Accepted 4 0 5 maybeInt) (made v 5 ∷ []) (Finished 1 5) (stateOf 0 []);
+  sight = expect (Accepted 4 0 5 maybeInt) (made v 5 ∷ []) (Finished 1 5) (stateOf (dividing x y) 0 []);
 }
 
 -- F: -7 by 2 is present -4, 7 by -2 is present -4, -7 by -2 is 3. (And the lowest value by -1.)
@@ -245,7 +245,7 @@ abbrev pub rowH : Row
 rowH = record {
   program = inputOnly;
   records = [];
-  sight = expect (Accepted 1 0 2 intT) [] (Finished 0 0) (stateOf noTime []);
+  sight = expect (Accepted 1 0 2 intT) [] (Finished 0 0) (stateOf inputOnly noTime []);
 }
 
 -- I: two cases present at once: the first in the list wins. (port, node 12, takes channel 4's value; starboard, node 9, channel 5's. The
@@ -283,7 +283,7 @@ rowI = record {
   program = turning;
   records = twoEvents 0 5 8 ∷ quiet 0 ∷ [];
   sight = expect (Accepted 14 1 11 intT) (made (int 0) 7 ∷ made (int 5) 5 ∷ []) (Finished 2 12)
-      (stateOf 0 (inBranch port 5 ∷ []));
+      (stateOf turning 0 (inBranch port 5 ∷ []));
 }
 
 -- Time 2147483647 passes; one more gives 12.
@@ -292,18 +292,21 @@ rowTime = record {
   program = inputOnly;
   records = quiet 2147483647 ∷ quiet 2147483648 ∷ [];
   sight = expect (Accepted 1 0 2 intT) (made (int 0) 2 ∷ refused (InputFault 0) ∷ []) (Ran.Refused (InputFault 1) 2)
-      (stateOf 2147483647 []);
+      (stateOf inputOnly 2147483647 []);
 }
 
 -- What each operation means, its operands told apart. (18, add: A and B. 21, divide: F and G.) ext (x op y), of two constants.
-abbrev pub operates : ℕ → ℕ → ℕ → Value → Row
-operates kind x y v =
+abbrev pub operating : ℕ → ℕ → ℕ → Bytes
+operating kind x y =
     let first : ℕ = 0 in let second : ℕ = 1 in let result : ℕ = 2 in
-    record {
-      program = program (constant x ∷ constant y ∷ operation kind first second ∷ ext result ∷ []);
-      records = quiet 0 ∷ [];
-      sight = expect (Accepted 4 0 5 intT) (made v 5 ∷ []) (Finished 1 5) (stateOf 0 []);
-    }
+    program (constant x ∷ constant y ∷ operation kind first second ∷ ext result ∷ [])
+
+abbrev pub operates : ℕ → ℕ → ℕ → Value → Row
+operates kind x y v = record {
+  program = operating kind x y;
+  records = quiet 0 ∷ [];
+  sight = expect (Accepted 4 0 5 intT) (made v 5 ∷ []) (Finished 1 5) (stateOf (operating kind x y) 0 []);
+}
 
 -- 19: 5 from which 7 is taken is -2. 20: -3 times 5 is -15.
 abbrev pub rowSubtract : Row
@@ -318,17 +321,22 @@ abbrev pub pair : ℕ → ℕ → Bytes → Bytes → ℕ → List Bytes
 pair kind at x y worth =
     x ∷ y ∷ operation kind at (at + 1) ∷ constant worth ∷ constant 0 ∷ choice (at + 2) (at + 3) (at + 4) ∷ []
 
+abbrev pub fourPairs : ℕ → Bytes → Bytes → Bytes → Bytes → Bytes → Bytes → Bytes → Bytes → Bytes
+fourPairs kind x₁ y₁ x₂ y₂ x₃ y₃ x₄ y₄ =
+    program (
+    pair kind 0 x₁ y₁ 1000
+    ++ pair kind 6 x₂ y₂ 100
+    ++ pair kind 12 x₃ y₃ 10
+    ++ pair kind 18 x₄ y₄ 1
+    ++ (add 5 11 ∷ add 17 23 ∷ add 24 25 ∷ ext 26 ∷ [])
+    )
+
 abbrev pub four : ℕ → Bytes → Bytes → Bytes → Bytes → Bytes → Bytes → Bytes → Bytes → ℕ → Row
 four kind x₁ y₁ x₂ y₂ x₃ y₃ x₄ y₄ sum = record {
-  program = program (
-      pair kind 0 x₁ y₁ 1000
-      ++ pair kind 6 x₂ y₂ 100
-      ++ pair kind 12 x₃ y₃ 10
-      ++ pair kind 18 x₄ y₄ 1
-      ++ (add 5 11 ∷ add 17 23 ∷ add 24 25 ∷ ext 26 ∷ [])
-      );
+  program = fourPairs kind x₁ y₁ x₂ y₂ x₃ y₃ x₄ y₄;
   records = quiet 0 ∷ [];
-  sight = expect (Accepted 28 0 25 intT) (made (int sum) 25 ∷ []) (Finished 1 25) (stateOf 0 []);
+  sight = expect (Accepted 28 0 25 intT) (made (int sum) 25 ∷ []) (Finished 1 25)
+      (stateOf (fourPairs kind x₁ y₁ x₂ y₂ x₃ y₃ x₄ y₄) 0 []);
 }
 
 -- 22: -1 is less than 0; 0 is not less than -1, nor 5 than 5; -2147483648 is less than 2147483647.
@@ -350,11 +358,14 @@ abbrev pub rowOr : Row
 rowOr = four 26 (truth 1) (truth 1) (truth 1) (truth 0) (truth 0) (truth 1) (truth 0) (truth 0) 1110
 
 -- 24: ext (if not false then not true else true) is false.
+abbrev pub negating : Bytes
+negating = program (truth 0 ∷ negation 0 ∷ truth 1 ∷ negation 2 ∷ truth 1 ∷ choice 1 3 4 ∷ ext 5 ∷ [])
+
 abbrev pub rowNot : Row
 rowNot = record {
-  program = program (truth 0 ∷ negation 0 ∷ truth 1 ∷ negation 2 ∷ truth 1 ∷ choice 1 3 4 ∷ ext 5 ∷ []);
+  program = negating;
   records = quiet 0 ∷ [];
-  sight = expect (Accepted 7 0 7 boolT) (made (Plain boolT 0) 7 ∷ []) (Finished 1 7) (stateOf 0 []);
+  sight = expect (Accepted 7 0 7 boolT) (made (Plain boolT 0) 7 ∷ []) (Finished 1 7) (stateOf negating 0 []);
 }
 
 -- Two faults of type, node 1 and node 3, each a not of an int: code 7 at the smaller, whichever of the two is met first.
@@ -364,7 +375,7 @@ twoFaults first second =
     record {
       program = program (constant 1 ∷ negation one ∷ constant 1 ∷ negation other ∷ operation 25 first second ∷ ext joint ∷ []);
       records = [];
-      sight = expect (Checked.Refused (TypeFault 1)) [] (Ran.Refused (TypeFault 1) 0) (0 ∷ 0 ∷ 0 ∷ 0 ∷ []);
+      sight = expect (Checked.Refused (TypeFault 1)) [] (Ran.Refused (TypeFault 1) 0) (0 ∷ 0 ∷ 0 ∷ 0 ∷ 0 ∷ 0 ∷ 0 ∷ 0 ∷ []);
     }
 
 abbrev pub rowSmallerFirst : Row
@@ -381,7 +392,7 @@ rowAbsent =
       program = inputOnly;
       records =
           stray (1 ∷ 0 ∷ 0 ∷ 0 ∷ []) ∷ stray (0 ∷ 1 ∷ 0 ∷ 0 ∷ []) ∷ stray (0 ∷ 0 ∷ 1 ∷ 0 ∷ []) ∷ stray (0 ∷ 0 ∷ 0 ∷ 1 ∷ []) ∷ [];
-      sight = expect (Accepted 1 0 2 intT) (no₀ ∷ no₀ ∷ no₀ ∷ no₀ ∷ []) (Ran.Refused (InputFault 0) 0) (stateOf noTime []);
+      sight = expect (Accepted 1 0 2 intT) (no₀ ∷ no₀ ∷ no₀ ∷ no₀ ∷ []) (Ran.Refused (InputFault 0) 0) (stateOf inputOnly noTime []);
     }
 
 -- The table: the paper's readings, and rows that tell each operation, the smallest place and the absent words.

@@ -88,6 +88,7 @@ pub enum Refusal {
     OutputLength,
     InputFault(u32),
     TimeBack(u32),
+    OtherProgram,
 }
 
 // A fault found, or none.
@@ -162,6 +163,7 @@ pub fn code_of(r: Refusal) -> u8
         Refusal::OutputLength => 11,
         Refusal::InputFault(_) => 12,
         Refusal::TimeBack(_) => 13,
+        Refusal::OtherProgram => 15,
     }
 }
 
@@ -182,5 +184,6 @@ pub fn place_of(r: Refusal) -> u32
         Refusal::OutputLength => 0,
         Refusal::InputFault(at) => at,
         Refusal::TimeBack(at) => at,
+        Refusal::OtherProgram => 0,
     }
 }

@@ -10,7 +10,7 @@ use rules::Started;
 use state::fill_start;
 
 // The room that every state fits in: one of 1,008 cells.
-pub const MOST_STATE: usize = 8068;
+pub const MOST_STATE: usize = 8072;
 
 // The table of the program's cells and its start state, if the room for that is of the right length.
 pub fn begin(p: &[u8], index: &mut [u16; 2016], st: &mut [u8], count: usize) -> Started

@@ -18,6 +18,7 @@ use cells::number_of;
 use cells::put32;
 use cells::set_cell;
 use rules::Node;
+use stamp::checks_of;
 use values::pack_from;
 
 // The content of the first value of a delay.
@@ -126,12 +127,14 @@ fn clear_all(st: &mut [u8])
     }
 }
 
-// The header of a start state, with no time, over the first bytes.
+// The header of a start state, with no time and the sum of the program's checks, over the first bytes.
 fn put_header(p: &[u8], st: &mut [u8])
     requires { ⌜ headerLength ≤ length (now st) ⌝ }
     ensures { λ _. ⌜ now (st .exit) ≡ writeAt (now (st .entry)) 0 (startHeader (now (p .entry))) ⌝ }
 {
     put32(st, 0, 4294967295);
+    let sum = checks_of(p);
+    put32(st, 4, sum);
 }
 
 // The start state of a program of so many nodes, in memory of its length.

@@ -8,7 +8,7 @@ use native.Mathlib.Omega.{arith}
 use lib.ListN.{length}
 use Rattle.rules.specs.Bytes.{Bytes, writeAt, bytesOf}
 use Rattle.rules.specs.Values.{packed, valueBytes}
-use Rattle.rules.specs.Layout.{nodes, mostNodes, cellAt, stateLength, timeIn, setTime}
+use Rattle.rules.specs.Layout.{nodes, mostNodes, cellAt, headerLength, stateLength, timeIn, setTime}
 use Rattle.rules.specs.Kinds.{isSignal}
 use Rattle.rules.specs.Shaped.{NodeOf}
 use Rattle.rules.specs.Tree.{root, signalAt}
@@ -97,7 +97,7 @@ module _ {p : Bytes} {index : List ℕ} {size : ℕ} {env : Env} {count : ℕ} (
   some = rw (g .counted) (some-node p (g .accepted .formed))
 
   -- it has at least a header
-  pub header : 4 ≤ size
+  pub header : headerLength ≤ size
   unfolding stateLength cellAt
   header = omega (arith, g .cells)
 
@@ -109,7 +109,7 @@ module _ {p : Bytes} {index : List ℕ} {st : Bytes} {env : Env} {count : ℕ} (
   pub held : Held p index (length st) env count
   held = record { accepted = g .accepted; indexed = g .indexed; counted = g .counted; cells = omega (arith, well-parts p st (g .well) .long); blank = g .blank }
 
-  pub headed : 4 ≤ length st
+  pub headed : headerLength ≤ length st
   headed = header held
 
   -- the same after memory was lent and came back

@@ -2,13 +2,13 @@
 -- Assumes nothing.
 use mathlib.Core.Path.{_≡_, refl}
 use mathlib.Core.Bool.{Bool, true, not}
-use Prim.Native.Nat.{_-_, _*_, _/_, _%_, _≤_}
+use Prim.Native.Nat.{_-_, _*_, _/_, _%_, _≤_, _<_}
 use native.Mathlib.Omega.{arith}
 use lib.Dec.{eqb}
 use lib.ListN.{length}
 use borrow.Author.Tests.{eqb-true, leb-true}
 use Rattle.rules.specs.Bytes.{Bytes, first}
-use Rattle.rules.specs.Layout.{nodes, cells, stateLength}
+use Rattle.rules.specs.Layout.{nodes, cells, checksOf, stateLength}
 use Rattle.rules.specs.Tree.{root}
 use Rattle.rules.specs.Typing.{typeS}
 use Rattle.rules.specs.Bound.{bound}
@@ -26,6 +26,9 @@ use Rattle.rules.proofs.Static.{and-both}
 use Rattle.rules.proofs.Kids.{not-not}
 use Rattle.rules.proofs.Verdicts.{both-fine, if-fine}
 use Rattle.steps.specs.Going.{Leaves}
+use Rattle.promises.specs.Small.{Small}
+use Rattle.promises.proofs.FromTable.{seated}
+use Rattle.promises.proofs.CallLaws.{state-well}
 use Rattle.watch.specs.Lent.{lentRest, runFits}
 
 -- no fault first
@@ -63,7 +66,11 @@ pub run-accepted : (p st recs out : Bytes) → programVerdict p ≡ Fine
 unfolding runCall lentVerdict lentRest runFits
 run-accepted p st recs out e = rw (e, fine-first)
 
--- codes 9-11 found nothing
+-- the sum of the checks of an accepted program is a number of 4 bytes
+pub checks-fit : (p : Bytes) → Small p → Accepted p → checksOf p < 4294967296
+checks-fit p s a = omega (arith, seated p s a .stamp-small)
+
+-- codes 9, 15, 10 and 11 found nothing
 pub record Fits (p st recs out : Bytes) (fit : Bool) : Type 0 where
   pub well : wellFormed p st ≡ true
   pub fitting : fit ≡ true
@@ -75,7 +82,7 @@ lent-fine p st recs out fit e =
     let a = both-fine _ _ e in
     let b = both-fine _ _ (a .1) in
     record {
-      well = not-not _ (if-fine _ _ (a .0));
+      well = state-well p st (a .0);
       fitting = not-not _ (if-fine _ _ (b .0));
       room = eqb-true _ _ (not-not _ (if-fine _ _ (b .1)));
     }

@@ -1,4 +1,4 @@
--- Codes 9-11, of a call on an accepted program.
+-- Codes 9, 15, 10 and 11, of a call on an accepted program.
 -- Assumes nothing: these are definitions.
 use Prim.Native.Nat.{_*_, _/_, _%_}
 use mathlib.Core.Bool.{Bool, not}
@@ -6,15 +6,14 @@ use lib.ListN.{length}
 use lib.Dec.{eqb, leb}
 use Rattle.rules.specs.Bytes.{Bytes, _and_}
 use Rattle.rules.specs.Layout.{inputLength}
-use Rattle.rules.specs.WellFormed.{wellFormed}
-use Rattle.rules.specs.Calls.{_otherwise_, refuseIf}
-use Rattle.rules.specs.declared.Refusal.the-variants.{StateFault, RecordsLength, OutputLength}
+use Rattle.rules.specs.Calls.{_otherwise_, refuseIf, stateVerdict}
+use Rattle.rules.specs.declared.Refusal.the-variants.{RecordsLength, OutputLength}
 use Rattle.rules.specs.declared.Verdict.{Verdict}
 
 -- The state, then the records' length, then the output's.
 unfoldable pub lentRest : Bytes → Bytes → Bytes → Bytes → Bool → Verdict
 lentRest p st recs out fit =
-    refuseIf (not (wellFormed p st)) StateFault
+    stateVerdict p st
     otherwise refuseIf (not fit) RecordsLength
     otherwise refuseIf (not (eqb (length out) (8 * (length recs / inputLength)))) OutputLength
 

@@ -1,7 +1,7 @@
 // The three public calls. Each answers for every byte string that it is handed: none has a requires.
 ghost use mathlib.Core.Path.{_≡_};
-ghost use Prim.Native.Nat.{_-_};
-ghost use Rattle.rules.specs.Layout.{nodes, cells as cellsOf};
+ghost use Prim.Native.Nat.{_-_, _<_};
+ghost use Rattle.rules.specs.Layout.{nodes, cells as cellsOf, checksOf};
 ghost use Rattle.rules.specs.Bound.{bound as boundOf};
 ghost use Rattle.rules.specs.Kinds.{isSignal};
 ghost use Rattle.rules.specs.Shaped.{NodeOf};
@@ -26,7 +26,7 @@ use rules::Verdict;
 use starting::begin;
 use steps::run_records;
 use verdict::judge;
-use well::well_formed;
+use well::state_verdict;
 
 // Accepted: nodes, cells, bound, root type.
 fn accepted(count: u32, held: u32, most: u32, ty: u8) -> Checked
@@ -85,7 +85,7 @@ pub fn start(program: &[u8], state: &mut [u8]) -> Started
     }
 }
 
-// Codes 9-11.
+// Codes 9, 15, 10 and 11.
 fn lent_verdict(
     p: &[u8],
     index: &[u16; 2016],
@@ -96,11 +96,10 @@ fn lent_verdict(
     held: usize,
     fit: bool,
 ) -> Verdict
-    requires { ⌜ NodeOf isSignal (now p) (nodes (now p) - 1) × Indexed (now p) (now index) × (count ≡ nodes (now p)) × (held ≡ cellsOf (now p)) ⌝ }
+    requires { ⌜ NodeOf isSignal (now p) (nodes (now p) - 1) × Indexed (now p) (now index) × (count ≡ nodes (now p)) × (held ≡ cellsOf (now p)) × (checksOf (now p) < 4294967296) ⌝ }
     ensures { λ r. ⌜ r ≡ lentRest (now (p .entry)) (now (st .entry)) (now (recs .entry)) (now (out .entry)) fit ⌝ }
 {
-    let well = well_formed(p, index, st, count, held);
-    let state = refuse_if(!well, Refusal::StateFault);
+    let state = state_verdict(p, index, st, count, held);
     let records = refuse_if(!fit, Refusal::RecordsLength);
     let output = refuse_if(out.len() != 8 * (recs.len() / 40), Refusal::OutputLength);
     otherwise(state, otherwise(records, output))

@@ -34,6 +34,6 @@ fewer true done steps h e = let f : steps ≡ done + 1 = e refl in omega (arith,
 fewer false done steps h e = omega (arith, h)
 
 -- no program has more than 1,008 cells
-pub most-state : (p : Bytes) (held : ℕ) → Accepted p → held ≡ cells p → cellAt held ≤ 8068
+pub most-state : (p : Bytes) (held : ℕ) → Accepted p → held ≡ cells p → cellAt held ≤ 8072
 unfolding cells cellAt
 most-state p held a e = omega (arith, e, cells-most p (nodes p), shaped-of p a .small)

@@ -171,7 +171,7 @@ fn accepted(
     input: &mut [u8],
     count: usize,
 )
-    requires { ⌜ Accepted (now program) × (count ≡ nodes (now program)) × (held ≡ cellsOf (now program)) × (length (now state) ≡ 8068) ⌝ }
+    requires { ⌜ Accepted (now program) × (count ≡ nodes (now program)) × (held ≡ cellsOf (now program)) × (length (now state) ≡ 8072) ⌝ }
 {
     let n = cells::cell_at(held);
     started(place, program, &mut state[..n], input, count);
@@ -179,7 +179,7 @@ fn accepted(
 
 // Checks what was read, prints the first line or the only one, and runs what is accepted.
 fn watched(place: Place, program: &[u8], state: &mut [u8], input: &mut [u8])
-    requires { ⌜ length (now state) ≡ 8068 ⌝ }
+    requires { ⌜ length (now state) ≡ 8072 ⌝ }
 {
     let found = watch::check(program);
     if !say::opening(found) {

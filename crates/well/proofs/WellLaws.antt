@@ -1,18 +1,23 @@
 -- A signal of each kind, a list of branches and a list of cases: whether their cells are valid, and start where they are not current.
 -- Assumes nothing.
 use mathlib.Core.Path.{_≡_, refl, sym, ap, _∙_}
-use mathlib.Core.Bool.{true, false}
+use mathlib.Core.Bool.{Bool, true, false, not}
 use mathlib.Core.List.{List}
-use Prim.Native.Nat.{ℕ, _-_}
+use Prim.Native.Nat.{ℕ, _-_, _%_, _<_}
+use native.Mathlib.Omega.{arith}
 use lib.Dec.{eqb, leb}
 use lib.ListN.{length, getD}
 use borrow.Author.Tests.{eq-eqb, ne-eqb}
 use Rattle.rules.specs.Bytes.{Bytes, _and_, _or_}
 use Rattle.rules.specs.Values.{middleIn}
-use Rattle.rules.specs.Layout.{kindAt, typeAt, aAt, bAt, cAt, nodes, cell, isClear, stateLength, lastTime, noTime}
+use Rattle.rules.specs.Layout.{kindAt, typeAt, aAt, bAt, cAt, nodes, cell, isClear, checksOf, stateLength, lastTime, sumIn, noTime}
 use Rattle.rules.specs.Kinds.{isSignal, isBranch, isCase}
 use Rattle.rules.specs.Reset.{restsS, restsB}
-use Rattle.rules.specs.WellFormed.{contentFits, wellS, wellB, wellC, wellFormed, lastMoment}
+use Rattle.rules.specs.WellFormed.{contentFits, wellS, wellB, wellC, longAsCells, knowsProgram, restWell, lastMoment}
+use Rattle.rules.specs.Calls.{_otherwise_, refuseIf, stateVerdict}
+use Rattle.rules.specs.declared.Refusal.the-variants.{StateFault, OtherProgram}
+use Rattle.rules.specs.declared.Verdict.{Verdict}
+use Rattle.rules.specs.declared.Verdict.the-variants.{Refuse}
 use Rattle.rules.specs.Tree.{signalAt, branchesAt, casesAt, root}
 use Rattle.rules.specs.Shaped.{NodeOf}
 use Rattle.rules.proofs.Signals.{delay-tree, let-tree, switch-tree, group-tree, until-tree, branch-end, branch-on, case-end, case-on}
@@ -97,11 +102,31 @@ module _ (p : Bytes) (n : ℕ) (w : NodeOf isCase p n) (st : Bytes) where
   case-well-on d = ap (wellC st) (case-on p n w d)
 
 -- a state of the wrong length, and of the right one
-pub wrong-length : (p st : Bytes) → (length st ≡ stateLength p → ⊥) → false ≡ wellFormed p st
-unfolding wellFormed _and_
+pub wrong-length : (p st : Bytes) → (length st ≡ stateLength p → ⊥) → Refuse StateFault ≡ stateVerdict p st
+unfolding stateVerdict longAsCells _otherwise_ refuseIf
 wrong-length p st d = rw (ne-eqb _ _ d) refl
 
-pub right-length : (p st : Bytes) → length st ≡ stateLength p
-    → wellFormed p st ≡ ((eqb (lastTime st) noTime or leb (lastTime st) lastMoment) and wellS st (signalAt p (nodes p - 1)))
-unfolding wellFormed root _and_
+right-length : (p st : Bytes) → length st ≡ stateLength p
+    → stateVerdict p st ≡ (refuseIf (not (knowsProgram p st)) OtherProgram otherwise refuseIf (not (restWell p st)) StateFault)
+unfolding stateVerdict longAsCells _otherwise_ refuseIf
 right-length p st e = rw (eq-eqb _ _ e) refl
+
+-- the sum that a state carries against the program's, which 4 bytes hold
+right-sum : (p st : Bytes) {x y : ℕ} → checksOf p < 4294967296 → x ≡ sumIn st → y ≡ checksOf p % 4294967296 → eqb x y ≡ knowsProgram p st
+unfolding knowsProgram
+right-sum p st {x} {y} h e f = let g : y ≡ checksOf p = omega arith in cc
+
+-- in a state of the right length the sum comes before the rest
+pub sum-then-rest : (p st : Bytes) {x y : ℕ} {w : Bool} {sum rest r : Verdict} → length st ≡ stateLength p → checksOf p < 4294967296
+    → x ≡ sumIn st → y ≡ checksOf p % 4294967296 → sum ≡ refuseIf (not (eqb x y)) OtherProgram
+    → w ≡ restWell p st → rest ≡ refuseIf (not w) StateFault → r ≡ (sum otherwise rest) → r ≡ stateVerdict p st
+sum-then-rest p st {x} {y} {w} l h e f s g t q =
+    q ∙ (λ i. s i otherwise t i)
+    ∙ (λ i. refuseIf (not (right-sum p st h e f i)) OtherProgram otherwise refuseIf (not (g i)) StateFault)
+    ∙ sym (right-length p st l)
+
+-- the rest: the time and the cells
+pub right-rest : (p st : Bytes)
+    → restWell p st ≡ ((eqb (lastTime st) noTime or leb (lastTime st) lastMoment) and wellS st (signalAt p (nodes p - 1)))
+unfolding restWell root
+right-rest p st = refl

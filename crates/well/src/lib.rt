@@ -1,20 +1,27 @@
 // Which states are well-formed.
 ghost use mathlib.Core.Path.{_≡_};
-ghost use Prim.Native.Nat.{_-_};
+ghost use Prim.Native.Nat.{_-_, _<_};
 ghost use lib.ListN.{length};
 ghost use Rattle.rules.specs.Values.{typeIn, middleIn};
-ghost use Rattle.rules.specs.Layout.{nodes, cells as cellsOf};
+ghost use Rattle.rules.specs.Layout.{nodes, cells as cellsOf, checksOf, stateLength};
 ghost use Rattle.rules.specs.Kinds.{isSignal, isBranch, isCase};
 ghost use Rattle.rules.specs.Shaped.{NodeOf};
 ghost use Rattle.rules.specs.Tree.{signalAt, branchesAt, casesAt};
 ghost use Rattle.rules.specs.Reset.{restsS, restsB, restsC};
-ghost use Rattle.rules.specs.WellFormed.{contentFits, wellS, wellB, wellC, wellFormed};
+ghost use Rattle.rules.specs.WellFormed.{contentFits, wellS, wellB, wellC, restWell};
+ghost use Rattle.rules.specs.Calls.{stateVerdict};
 ghost use Rattle.cells.specs.Indexed.{Indexed};
 ghost use Rattle.state.specs.Stated.{Stated};
+use answers::otherwise;
+use answers::refuse_if;
 use cells::cell_at;
 use cells::last_time;
 use kinds::both;
 use kinds::either;
+use rules::Refusal;
+use rules::Verdict;
+use stamp::checks_of;
+use stamp::sum_in;
 use state::first_value;
 use state::own_cell;
 use table::node;
@@ -181,16 +188,33 @@ fn well_c(p: &&[u8], index: &[u16; 2016], st: &&[u8], j: usize) -> bool
     both(event, next)
 }
 
-// A state of any length is well-formed, for a program of so many nodes and cells.
-pub fn well_formed(p: &[u8], index: &[u16; 2016], st: &[u8], count: usize, cells: usize) -> bool
-    requires { ⌜ NodeOf isSignal (now p) (nodes (now p) - 1) × Indexed (now p) (now index) × (count ≡ nodes (now p)) × (cells ≡ cellsOf (now p)) ⌝ }
-    ensures { λ r. ⌜ r ≡ wellFormed (now (p .entry)) (now (st .entry)) ⌝ }
+// The time and the cells of a state of the right length.
+fn rest_well(p: &[u8], index: &[u16; 2016], st: &[u8], count: usize) -> bool
+    requires { ⌜ NodeOf isSignal (now p) (nodes (now p) - 1) × Indexed (now p) (now index) × (count ≡ nodes (now p)) × (length (now st) ≡ stateLength (now p)) ⌝ }
+    ensures { λ r. ⌜ r ≡ restWell (now (p .entry)) (now (st .entry)) ⌝ }
 {
-    if st.len() != cell_at(cells) {
-        return false;
-    }
     let time = last_time(st);
     let timed = either(time == 4294967295, time <= 2147483647);
     let well = well_s(&p, index, &st, count - 1);
     both(timed, well)
+}
+
+// The fault of a state of any length, for a program of so many nodes and cells: 9 for its length, then 15 for a wrong sum, then 9 for the rest.
+pub fn state_verdict(
+    p: &[u8],
+    index: &[u16; 2016],
+    st: &[u8],
+    count: usize,
+    cells: usize,
+) -> Verdict
+    requires { ⌜ NodeOf isSignal (now p) (nodes (now p) - 1) × Indexed (now p) (now index) × (count ≡ nodes (now p)) × (cells ≡ cellsOf (now p)) × (checksOf (now p) < 4294967296) ⌝ }
+    ensures { λ r. ⌜ r ≡ stateVerdict (now (p .entry)) (now (st .entry)) ⌝ }
+{
+    if st.len() != cell_at(cells) {
+        return Verdict::Refuse(Refusal::StateFault);
+    }
+    let sum = refuse_if(sum_in(st) != checks_of(p), Refusal::OtherProgram);
+    let well = rest_well(p, index, st, count);
+    let rest = refuse_if(!well, Refusal::StateFault);
+    otherwise(sum, rest)
 }

@@ -34,6 +34,8 @@ pub enum Code {
     InputFault = raw::INPUT_FAULT,
     /// A record's time is before the state's; the place is how many steps were done before it.
     TimeBack = raw::TIME_BACK,
+    /// The state is of another program: the sum of checks that it holds is not this program's.
+    OtherProgram = raw::OTHER_PROGRAM,
     /// There is no let to explain: the program is accepted.
     NoLet = raw::NO_LET,
     /// The room of explain has not [`crate::NODES`] entries.
@@ -42,7 +44,7 @@ pub enum Code {
 
 impl Code {
     /// All codes, from 1 on.
-    pub const ALL: [Code; 15] = [
+    pub const ALL: [Code; 16] = [
         Code::ProgramLength,
         Code::CheckSum,
         Code::BlockNumber,
@@ -56,6 +58,7 @@ impl Code {
         Code::OutputLength,
         Code::InputFault,
         Code::TimeBack,
+        Code::OtherProgram,
         Code::NoLet,
         Code::RoomLength,
     ];

@@ -12,7 +12,7 @@ pub const NO_ENTRY: u16 = 65535;
 
 /// The length of a state of so many cells.
 pub const fn state_length(cells: usize) -> usize {
-    4 + 8 * cells
+    8 + 8 * cells
 }
 pub const LONGEST_STATE: usize = state_length(NODES);
 
@@ -30,6 +30,7 @@ pub const RECORDS_LENGTH: u32 = 10;
 pub const OUTPUT_LENGTH: u32 = 11;
 pub const INPUT_FAULT: u32 = 12;
 pub const TIME_BACK: u32 = 13;
+pub const OTHER_PROGRAM: u32 = 15;
 pub const NO_LET: u32 = 25;
 pub const ROOM_LENGTH: u32 = 26;
 

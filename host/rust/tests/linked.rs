@@ -73,6 +73,11 @@ fn int(word: u8) -> [u8; 8] {
     [3, 1, 0, 0, word, 0, 0, 0]
 }
 
+/// A state of a time and one cell, with the check of its one block.
+fn state_of(program: &[u8; BLOCK], time: u32, cell: [u8; 8]) -> Vec<u8> {
+    [&time.to_le_bytes()[..], &program[508..], &cell].concat()
+}
+
 fn refusal(code: Code, place: u32) -> Refusal {
     Refusal { code, place, ran: Ran { steps: 0, work: 0 } }
 }
@@ -84,13 +89,13 @@ fn reading_a_record_by_record() {
     assert_eq!(checked, Checked { nodes: 8, cells: 1, bound: 13, value: Type::Int });
     let mut state = vec![9; checked.state_length()];
     start(&program, &mut state).unwrap();
-    assert_eq!(state, [255, 255, 255, 255, 3, 1, 0, 0, 0, 0, 0, 0]);
+    assert_eq!(state, state_of(&program, u32::MAX, int(0)));
     for (time, value) in [(0, 0), (100, 1), (100, 2)] {
         let mut output = [9; 8];
         let ran = run(&program, &mut state, &record(time, None), &mut output);
         assert_eq!((ran, output), (Ok(Ran { steps: 1, work: 13 }), int(value)));
     }
-    assert_eq!(state, [100, 0, 0, 0, 3, 1, 0, 0, 3, 0, 0, 0]);
+    assert_eq!(state, state_of(&program, 100, int(3)));
 }
 
 #[test]
@@ -99,7 +104,7 @@ fn reading_d_by_a_run() {
     let events = [Some(5), None, Some(6), None];
     let records: Vec<u8> =
         (0..).zip(events).flat_map(|(time, event)| record(time, event)).collect();
-    let (mut state, mut output) = ([0; 12], [9; 32]);
+    let (mut state, mut output) = ([0; 16], [9; 32]);
     start(&program, &mut state).unwrap();
     assert_eq!(run(&program, &mut state, &[], &mut []), Ok(Ran { steps: 0, work: 0 }));
     let ran = run(&program, &mut state, &records, &mut output);
@@ -125,14 +130,15 @@ fn refused_programs() {
 #[test]
 fn refused_lengths_change_nothing() {
     let program = block(&A);
-    let (mut state, mut output, one) = ([7; 13], [9; 9], record(0, None));
-    for length in [0, 4, 11, 13] {
+    let (mut state, mut output, one) = ([7; 17], [9; 9], record(0, None));
+    for length in [0, 4, 8, 12, 15, 17] {
         let room = &mut state[..length];
         assert_eq!(start(&program, room), Err(refusal(Code::StateFault, 0)));
         assert_eq!(run(&program, room, &one, &mut output), Err(refusal(Code::StateFault, 0)));
     }
-    assert_eq!(state, [7; 13]);
-    let room = &mut state[..12];
+    assert_eq!(state, [7; 17]);
+    let room = &mut state[..16];
+    assert_eq!(run(&program, room, &one, &mut output), Err(refusal(Code::OtherProgram, 0)));
     start(&program, room).unwrap();
     let started = room.to_vec();
     let long = [0; 41];
@@ -148,13 +154,13 @@ fn a_refused_run_keeps_its_steps() {
     for (second, code) in
         [(record(4, None), Code::TimeBack), (record(1 << 31, None), Code::InputFault)]
     {
-        let (mut state, mut output) = ([0; 12], [9; 24]);
+        let (mut state, mut output) = ([0; 16], [9; 24]);
         start(&program, &mut state).unwrap();
         let records = [record(5, None), second, record(6, None)].concat();
         let refused = run(&program, &mut state, &records, &mut output).unwrap_err();
         assert_eq!(refused, Refusal { code, place: 1, ran: Ran { steps: 1, work: 13 } });
         assert_eq!(output.to_vec(), [int(0), [9; 8], [9; 8]].concat());
-        assert_eq!(state, [5, 0, 0, 0, 3, 1, 0, 0, 1, 0, 0, 0]);
+        assert_eq!(state[..], state_of(&program, 5, int(1)));
     }
 }
 
@@ -183,4 +189,31 @@ fn explain_refused_writes_nothing() {
 fn a_refusal_says_its_name() {
     let text = check(&[]).unwrap_err().to_string();
     assert_eq!(text, "refused: code 1 (ProgramLength) at 0: the program is empty, longer than 24 blocks or not whole blocks of 512 bytes");
+}
+
+/// Reading A's table, with a first value and a step of its own.
+fn counter(first: i32, step: i32) -> [u8; BLOCK] {
+    let mut nodes = A;
+    (nodes[1].5, nodes[4].5) = (step, first);
+    block(&nodes)
+}
+
+#[test]
+fn a_state_knows_its_program() {
+    let (by_ones, by_sixty_twos, by_twos) = (counter(25, 1), counter(0, 62), counter(25, 2));
+    assert_eq!(check(&by_ones), check(&by_twos));
+    let (mut state, mut output) = ([0; 16], [9; 8]);
+    start(&by_ones, &mut state).unwrap();
+    run(&by_ones, &mut state, &record(100, None), &mut output).unwrap();
+    let (kept, room) = (state, output);
+    // Another program with the same cells: the state is refused, and nothing is changed.
+    let restored = run(&by_twos, &mut state, &record(200, None), &mut output);
+    assert_eq!(restored, Err(refusal(Code::OtherProgram, 0)));
+    assert_eq!((state, output), (kept, room));
+    assert_eq!(restored.unwrap_err().to_string(), "refused: code 15 (OtherProgram) at 0");
+    // Equal sums are not told apart.
+    assert_eq!(by_ones[508..], by_sixty_twos[508..]);
+    let ran = run(&by_sixty_twos, &mut state, &record(200, None), &mut output);
+    assert_eq!((ran, output), (Ok(Ran { steps: 1, work: 13 }), int(26)));
+    assert_eq!(state[..], state_of(&by_sixty_twos, 200, int(88)));
 }

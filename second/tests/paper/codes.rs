@@ -185,12 +185,12 @@ fn code_8_smallest_let() {
 #[test]
 fn code_9_start_asks_for_the_length_only() {
     let program = table(&counter_from(0));
-    for length in [0, 4, 11, 13, 20] {
+    for length in [0, 4, 8, 12, 15, 17, 24] {
         let mut state = vec![0xAA; length];
         assert_eq!(start(&program, &mut state), Err(refusal(9, 0)));
         assert_eq!(state, vec![0xAA; length]);
     }
-    assert_eq!(start(&program, &mut [7; 12]), Ok(()));
+    assert_eq!(start(&program, &mut [7; 16]), Ok(()));
 }
 
 /// Runs one record with given memory; memory must stay as it was.
@@ -207,8 +207,8 @@ fn codes_9_to_13_of_one_record() {
     let program = table(&counter_from(0));
     let state = started(&program);
     let record = records("5");
-    assert_eq!(one_refused(&program, &[0; 12], &record, 8), (9, 0));
-    assert_eq!(one_refused(&program, &state[..11], &record, 8), (9, 0));
+    assert_eq!(one_refused(&program, &state_of(&program, 0, &[0; 8]), &record, 8), (9, 0));
+    assert_eq!(one_refused(&program, &state[..15], &record, 8), (9, 0));
     assert_eq!(one_refused(&program, &state, &record[..39], 8), (10, 0));
     assert_eq!(one_refused(&program, &state, &records("5\n5"), 8), (11, 0));
     assert_eq!(one_refused(&program, &state, &[], 8), (11, 0));
@@ -219,6 +219,24 @@ fn codes_9_to_13_of_one_record() {
     assert_eq!(one_refused(&program, &later, &record, 8), (13, 0));
     // 12 is tried before 13.
     assert_eq!(one_refused(&program, &later, &records("5 flags=128"), 8), (12, 0));
+}
+
+#[test]
+fn code_15_stands_between_two_nines() {
+    let program = table(&counter_from(0));
+    let mut state = started(&program);
+    let record = records("5");
+    state[4] ^= 1;
+    // Before 10 and 11; after a wrong length, and before a bad time or a bad cell.
+    assert_eq!(one_refused(&program, &state, &record[..39], 7), (15, 0));
+    assert_eq!(one_refused(&program, &state[..15], &record, 8), (9, 0));
+    state[3] = 0x80;
+    state[8] = 0;
+    assert_eq!(one_refused(&program, &state, &record, 8), (15, 0));
+    state[4] ^= 1;
+    assert_eq!(one_refused(&program, &state, &record, 8), (9, 0));
+    let other = table(&counter_from(1));
+    assert_eq!(one_refused(&other, &started(&program), &record, 8), (15, 0));
 }
 
 #[test]
@@ -266,7 +284,7 @@ fn codes_12_and_13_of_a_run_tell_steps_and_work() {
         let mut output = [0xAA; 32];
         let refusal = run(&program, &mut state, &records, &mut output).unwrap_err();
         assert_eq!(refusal, Refusal { code, place: 2, work: 26 });
-        assert_eq!(state, [7, 0, 0, 0, 3, 1, 0, 0, 2, 0, 0, 0]);
+        assert_eq!(state, state_of(&program, 7, &[3, 1, 0, 0, 2, 0, 0, 0]));
         assert_eq!((words(&output[..8]), words(&output[8..16])), ("0".into(), "1".into()));
         assert_eq!(output[16..], [0xAA; 16]);
     }

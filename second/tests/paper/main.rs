@@ -3,6 +3,7 @@
 mod codes;
 mod points;
 mod readings;
+mod restored;
 mod tables;
 mod watchrun;
 mod wrong_turns;

@@ -245,7 +245,7 @@ fn well_formed(program: &[u8], state: &[u8]) -> bool {
 /// The state with one cell's bytes replaced.
 fn with_cell(state: &[u8], cell: usize, content: [u8; 8]) -> Vec<u8> {
     let mut state = state.to_vec();
-    state[4 + 8 * cell..12 + 8 * cell].copy_from_slice(&content);
+    state[8 + 8 * cell..16 + 8 * cell].copy_from_slice(&content);
     state
 }
 
@@ -355,7 +355,7 @@ fn point_19_what_is_evaluated() {
     let played = play(unused, "0 c0=7");
     // let, delay, time; let, delay; delay, input, input; time.
     assert_eq!(played.works[0], 9);
-    assert_eq!(played.states[0][8], 7);
+    assert_eq!(played.states[0][12], 7);
     // If and take evaluate one arm only.
     let arms = "c: const value=true\n s: const value=1\n x: const value=2\n y: const value=3\n
         l: add left=x right=y\n e: if when=c then=s else=l\n ext of=e";
@@ -376,7 +376,7 @@ fn point_19_a_present_event_stops_all_updates() {
     assert_eq!(played.works[0], 6);
     assert_eq!(played.values, ["0", "1"]);
     let start = started(&table(text));
-    assert_eq!(played.states[0][4..20], start[4..20]);
+    assert_eq!(played.states[0][8..24], start[8..24]);
 }
 
 #[test]
@@ -385,10 +385,10 @@ fn point_20_what_is_reset() {
     let text = PARTS.replace("value=none(int)", "value=some(4)");
     let played = play(&text, "8 c4=6");
     let state = &played.states[0];
-    assert_eq!(state[4..12], [3, 1, 0, 0, 1, 0, 0, 0]);
-    assert_eq!(state[12..20], [7, 1, 0, 0, 6, 0, 0, 0]);
-    assert_eq!(state[20..28], [3, 1, 0, 0, 3, 0, 0, 0]);
-    assert_eq!(state[28..36], [3, 1, 0, 0, 4, 0, 0, 0]);
+    assert_eq!(state[8..16], [3, 1, 0, 0, 1, 0, 0, 0]);
+    assert_eq!(state[16..24], [7, 1, 0, 0, 6, 0, 0, 0]);
+    assert_eq!(state[24..32], [3, 1, 0, 0, 3, 0, 0, 0]);
+    assert_eq!(state[32..40], [3, 1, 0, 0, 4, 0, 0, 0]);
 }
 
 #[test]
@@ -400,10 +400,10 @@ fn point_20_a_firing_until_resets_all_below_its_group() {
         t: time\n r: branch type=int body=t\n g: group body=b branches=r
         j: input channel=0\n o: delay of=j value=5\n let type=int def=o body=g";
     let played = play(text, "0 c0=7\n0 c0=8 c4=1");
-    assert_eq!(played.states[0][8], 7);
-    assert_eq!(played.states[1][8], 5);
+    assert_eq!(played.states[0][12], 7);
+    assert_eq!(played.states[1][12], 5);
     // A cell outside the group keeps what it was given.
-    assert_eq!(played.states[1][24], 8);
+    assert_eq!(played.states[1][28], 8);
 }
 
 #[test]
@@ -421,28 +421,29 @@ fn point_21_bound_of_evaluation_and_update_apart() {
 fn point_22_lengths_are_exact_and_in_order() {
     let program = table("time");
     let call = |state: usize, records: usize, output: usize| {
-        let mut state = vec![255; state];
+        let mut state = state_of(&program, u32::MAX, &vec![0; state]);
         run(&program, &mut state, &vec![0; records], &mut vec![0; output]).map_err(|it| it.code)
     };
-    assert_eq!(call(5, 41, 9), Err(9));
-    assert_eq!(call(4, 41, 9), Err(10));
-    assert_eq!(call(4, 40, 9), Err(11));
-    assert_eq!(call(4, 40, 16), Err(11));
-    assert!(call(4, 40, 8).is_ok());
-    let mut longer = vec![0; 5];
+    assert_eq!(call(1, 41, 9), Err(9));
+    assert_eq!(call(0, 41, 9), Err(10));
+    assert_eq!(call(0, 40, 9), Err(11));
+    assert_eq!(call(0, 40, 16), Err(11));
+    assert!(call(0, 40, 8).is_ok());
+    let mut longer = vec![0; 9];
     assert_eq!(start(&program, &mut longer).map_err(|it| it.code), Err(9));
 }
 
 #[test]
 fn point_23_unused_channels_and_equal_times() {
     let program = table("time");
-    let call = |time: [u8; 4], record: &str| {
-        run(&program, &mut time.clone(), &records(record), &mut [0; 8]).map_err(|it| it.code)
+    let call = |time: u32, record: &str| {
+        run(&program, &mut state_of(&program, time, &[]), &records(record), &mut [0; 8])
+            .map_err(|it| it.code)
     };
-    assert_eq!(call([255; 4], "0 w7=1"), Err(12));
-    assert!(call([255; 4], "0").is_ok());
-    assert!(call([9, 0, 0, 0], "9").is_ok());
-    assert_eq!(call([9, 0, 0, 0], "8"), Err(13));
+    assert_eq!(call(u32::MAX, "0 w7=1"), Err(12));
+    assert!(call(u32::MAX, "0").is_ok());
+    assert!(call(9, "9").is_ok());
+    assert_eq!(call(9, "8"), Err(13));
 }
 
 #[test]
@@ -453,7 +454,7 @@ fn point_24_a_refused_run_keeps_its_finished_steps() {
     let records = records("1\n2\n3 flags=255");
     let refusal = run(&program, &mut state, &records, &mut output).unwrap_err();
     assert_eq!((refusal.code, refusal.place, refusal.work), (12, 2, 26));
-    assert_eq!(state, [2, 0, 0, 0, 3, 1, 0, 0, 2, 0, 0, 0]);
+    assert_eq!(state, state_of(&program, 2, &[3, 1, 0, 0, 2, 0, 0, 0]));
     assert_eq!(output[..16], [3, 1, 0, 0, 0, 0, 0, 0, 3, 1, 0, 0, 1, 0, 0, 0]);
     assert_eq!(output[16..], [0xAA; 8]);
 }

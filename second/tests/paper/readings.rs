@@ -11,14 +11,15 @@ fn a_counter() {
     let played = play(&text, "0\n100\n100");
     assert_eq!(played.values, ["0", "1", "2"]);
     assert_eq!(played.works, [13, 13, 13]);
-    assert_eq!(started(&table(&text)).len(), 12);
-    assert_eq!(played.states[2], [100, 0, 0, 0, 3, 1, 0, 0, 3, 0, 0, 0]);
+    assert_eq!(started(&table(&text)).len(), 16);
+    assert_eq!(played.states[2], state_of(&table(&text), 100, &[3, 1, 0, 0, 3, 0, 0, 0]));
 }
 
 #[test]
 fn a_start_state() {
-    let state = started(&table(&counter_from(-2)));
-    assert_eq!(state, [255, 255, 255, 255, 3, 1, 0, 0, 254, 255, 255, 255]);
+    let program = table(&counter_from(-2));
+    let cells = [3, 1, 0, 0, 254, 255, 255, 255];
+    assert_eq!(started(&program), state_of(&program, u32::MAX, &cells));
 }
 
 #[test]
@@ -40,7 +41,7 @@ fn d_switch() {
     assert_eq!(played.values, ["0", "5", "5", "6"]);
     assert_eq!(played.works, [6, 7, 6, 7]);
     assert_eq!(accepted(SWITCH), Accepted { nodes: 6, cells: 1, bound: 7, root_type: INT });
-    assert_eq!(played.states[0], [0, 0, 0, 0, 3, 1, 0, 0, 5, 0, 0, 0]);
+    assert_eq!(played.states[0], state_of(&table(SWITCH), 0, &[3, 1, 0, 0, 5, 0, 0, 0]));
 }
 
 #[test]
@@ -49,8 +50,8 @@ fn e_group() {
     assert_eq!(played.values, ["0", "0", "7", "1"]);
     assert_eq!(played.works, [9, 7, 7, 9]);
     assert_eq!(accepted(GROUP), Accepted { nodes: 18, cells: 1, bound: 9, root_type: INT });
-    assert_eq!(played.states[1], [0, 0, 0, 0, 3, 1, 16, 0, 7, 0, 0, 0]);
-    assert_eq!(played.states[2], [0, 0, 0, 0, 3, 1, 10, 0, 9, 0, 0, 0]);
+    assert_eq!(played.states[1], state_of(&table(GROUP), 0, &[3, 1, 16, 0, 7, 0, 0, 0]));
+    assert_eq!(played.states[2], state_of(&table(GROUP), 0, &[3, 1, 10, 0, 9, 0, 0, 0]));
 }
 
 /// The value of one division.
@@ -88,7 +89,7 @@ fn h_one_input() {
     assert_eq!(accepted("input channel=7").root_type, INT + MAYBE);
     let played = play("input channel=3", "9 c3=-5");
     assert_eq!((played.values[0].as_str(), played.works[0]), ("-5", 2));
-    assert_eq!(started(&table("time")), [255; 4]);
+    assert_eq!(started(&table("time")), state_of(&table("time"), u32::MAX, &[]));
 }
 
 #[test]

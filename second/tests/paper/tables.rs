@@ -72,10 +72,16 @@ pub fn refused_bytes(program: &[u8]) -> (u32, u32) {
     (refusal.code, refusal.place)
 }
 
+/// A state of a time and cells, with the sum of the checks of its program.
+pub fn state_of(program: &[u8], time: u32, cells: &[u8]) -> Vec<u8> {
+    let checks = program.chunks(512).map(|block| format::number32(block, 508)).sum::<u32>();
+    [&time.to_le_bytes()[..], &checks.to_le_bytes()[..], cells].concat()
+}
+
 /// The start state of an accepted table.
 pub fn started(program: &[u8]) -> Vec<u8> {
     let cells = check(program).expect("the table is accepted").cells;
-    let mut state = vec![0xAA; 4 + 8 * cells];
+    let mut state = vec![0xAA; 8 + 8 * cells];
     start(program, &mut state).expect("the state has its length");
     state
 }

@@ -56,6 +56,10 @@ enum-told-11 c = search needs
 enum-told-12 : tie.Need-enum-told-12
 enum-told-12 c = search needs
 
+-- src/lib.rt:144:37
+enum-told-13 : tie.Need-enum-told-13
+enum-told-13 c = search needs
+
 -- src/lib.rt:123:1
 returns : tie.Need-returns
 returns c = search needs
@@ -108,6 +112,10 @@ returns-12 c = search needs
 returns-13 : tie.Need-returns-13
 returns-13 c = search needs
 
+-- src/lib.rt:127:1
+returns-14 : tie.Need-returns-14
+returns-14 c = search needs
+
 pub let-of-spec : {M : Type 1} → statement M
 let-of-spec =
     tie.close
@@ -125,6 +133,7 @@ let-of-spec =
     enum-told-10
     enum-told-11
     enum-told-12
+    enum-told-13
     returns
     returns-2
     returns-3
@@ -137,4 +146,5 @@ let-of-spec =
     returns-10
     returns-11
     returns-12
-    returns-13)
+    returns-13
+    returns-14)

@@ -11,11 +11,11 @@ use Rattle.printing.proofs.wanted.Lts as lts
 
 returns : tie.Need-returns
 unfolding wanted
-returns c = rw (lt-ltb _ _ (c .if1 .taken)) (refl, omega arith)
+returns c = rw (lt-ltb (c .before .args .steps) 4096 (omega (arith, c .if1 .taken))) (refl, omega arith)
 
 returns-2 : tie.Need-returns-2
 unfolding wanted
-returns-2 c = rw (le-ltb _ _ (c .if1 .left)) (refl, omega arith)
+returns-2 c = rw (le-ltb (c .before .args .steps) 4096 (omega (arith, c .if1 .left))) (refl, omega arith)
 
 pub wanted-spec : {M : Type 1} → statement M
 wanted-spec = tie.close (tie.spec returns returns-2)

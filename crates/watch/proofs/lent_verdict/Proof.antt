@@ -7,27 +7,23 @@ use Rattle.watch.proofs.lent_verdict.Reads as reads
 use Rattle.watch.proofs.lent_verdict.Lts as lts
 use Rattle.answers.proofs.otherwise.Reads as otherwise-reads
 use Rattle.answers.proofs.refuse_if.Reads as refuse-if-reads
-use Rattle.well.proofs.well_formed.Reads as well-formed-reads
+use Rattle.well.proofs.state_verdict.Reads as state-verdict-reads
 
 -- src/lib.rt:112:9
-well-formed-requires : tie.Need-well-formed-requires
-well-formed-requires c κs = c .before .before .before .before .pre
+state-verdict-requires : tie.Need-state-verdict-requires
+state-verdict-requires c κs = c .before .before .before .before .pre
 
 -- src/lib.rt:113:9
 refuse-if-requires : tie.Need-refuse-if-requires
 refuse-if-requires c κs = search needs
-
--- src/lib.rt:114:9
-refuse-if-requires-2 : tie.Need-refuse-if-requires-2
-refuse-if-requires-2 c κs = search needs
 
 -- src/lib.rt:115:41
 mul-refuse-if : tie.Need-mul-refuse-if
 mul-refuse-if c = search needs
 
 -- src/lib.rt:115:9
-refuse-if-requires-3 : tie.Need-refuse-if-requires-3
-refuse-if-requires-3 c κs = search needs
+refuse-if-requires-2 : tie.Need-refuse-if-requires-2
+refuse-if-requires-2 c κs = search needs
 
 -- src/lib.rt:116:22
 otherwise-requires : tie.Need-otherwise-requires
@@ -46,11 +42,10 @@ pub lent-verdict-spec : {M : Type 1} → statement M
 lent-verdict-spec =
     tie.close
     (tie.spec
-    well-formed-requires
+    state-verdict-requires
     refuse-if-requires
-    refuse-if-requires-2
     mul-refuse-if
-    refuse-if-requires-3
+    refuse-if-requires-2
     otherwise-requires
     otherwise-requires-2
     returns)

@@ -1,6 +1,7 @@
 use Rattle.starting.proofs.StartLaws.{counted, all-cells}
-use Rattle.watch.proofs.Calling.{lent-fine, fits-most, run-lent, run-fits as run-goes}
+use Rattle.watch.proofs.Calling.{checks-fit, lent-fine, fits-most, run-lent, run-fits as run-goes}
 use Rattle.rules.proofs.Rooted.{root-of}
+use Rattle.rules.specs.Bytes.{byteAt}
 use Rattle.rules.specs.Evaluate.{unbound}
 use Rattle.watch.specs.Lent.{lentRest}
 use lib.ListN.{length-replicate}
@@ -30,7 +31,17 @@ run-fits-requires c κs = search needs
 
 -- src/lib.rt:138:9
 lent-verdict-requires : tie.Need-lent-verdict-requires
-lent-verdict-requires c κs = (root-of _ (c .before .before .before .before .before .before .before .before .before .before .before .pre .0), c .before .before .before .before .before .index-cells .ensures .0, c .before .before .before .before .before .before .before .before .before .before .before .pre .1, c .before .before .before .before .before .index-cells .ensures .1 ∙ all-cells _ _ (c .before .before .before .before .before .before .before .before .before .before .before .pre .1))
+unfolding byteAt
+lent-verdict-requires c κs =
+    let indexed = c .before .before .before .before .before .index-cells .ensures in
+    let known = c .before .before .before .before .before .before .before .before .before .before in
+    let pre = known .before .pre in (
+      root-of _ (pre .0),
+      indexed .0,
+      pre .1,
+      indexed .1 ∙ all-cells _ _ (pre .1),
+      checks-fit _ (record { small = λ i. omega (arith, known .shared-slice-known .given i) }) (pre .0),
+    )
 
 -- src/lib.rt:140:25
 enum-known-fault : tie.Need-enum-known-fault

@@ -197,14 +197,15 @@ static unsigned events(struct run *r, unsigned first)
     return 0;
 }
 
-/* A group: a jump out of its current part is caught. */
-static void update_group(struct run *r, const struct code *n, unsigned i)
+/* A group: a jump out of its current part is caught if it is for one of its branches, else handed on. */
+static unsigned update_group(struct run *r, const struct code *n, unsigned i)
 {
     unsigned target = update(r, in_group(r, n));
-    if (!target)
-        return;
+    if (!target || r->code[target].value != i)
+        return target;
     reset(r->code, r->held, r->cells, i);
     r->cells[n->c] = r->caught | (uint64_t)target << 16;
+    return 0;
 }
 
 /* Signal i goes one step on. The answer is the branch that an until leaves for, or 0. */
@@ -227,7 +228,7 @@ static unsigned update(struct run *r, unsigned i)
                 return 0;
             i = in_switch(r, n, i);
             continue;
-        case GROUP: update_group(r, n, i); return 0;
+        case GROUP: return update_group(r, n, i);
         case UNTIL:
             if ((target = events(r, n->b)) != 0)
                 return target;

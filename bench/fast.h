@@ -5,7 +5,8 @@
 #include "baselines.h"
 #include "table.h"
 
-/* A node as decoded. Delays and groups keep the number of their cell in c, switches in value; constants and delays their value. */
+/* A node as decoded. Delays and groups keep the number of their cell in c, switches in value; constants and delays
+ * their value, branches the number of their group. */
 struct code {
     uint8_t kind, type;
     union {

@@ -5,12 +5,14 @@
 #include <string.h>
 
 /* What check finds out of each node: its size, its place in a walk from the root on, its depth, the depth up to which it is needed at
- * once, the group that its cases leave for, how often it is named, its type and its bounds. */
+ * once, the first group upward, the depth of the last node that the way up from a case may come to, how often it is named, its type and
+ * its bounds. */
 struct tree {
     uint16_t size[COUPLERFINCH_NODES], enter[COUPLERFINCH_NODES], depth[COUPLERFINCH_NODES], top[COUPLERFINCH_NODES];
-    uint16_t home[COUPLERFINCH_NODES], named[COUPLERFINCH_NODES];
+    uint16_t home[COUPLERFINCH_NODES], way[COUPLERFINCH_NODES], named[COUPLERFINCH_NODES];
     uint8_t type[COUPLERFINCH_NODES];
     uint32_t evaluated[COUPLERFINCH_NODES], updated[COUPLERFINCH_NODES];
+    int edition;
 };
 
 enum { S = 1, B, C, E };
@@ -111,7 +113,7 @@ static uint32_t format_fault(struct program *p, const uint8_t *bytes, size_t len
         if (block_sum(bytes + COUPLERFINCH_BLOCK * k) != get32(bytes + COUPLERFINCH_BLOCK * k + 508))
             return fast_refuse(answer, 2, k);
     for (unsigned k = 0; k < blocks; k++)
-        if (get32(bytes + COUPLERFINCH_BLOCK * k) != (k | blocks << 16))
+        if (get32(bytes + COUPLERFINCH_BLOCK * k) != (k | blocks << 16 | (uint32_t)bytes[3] << 24) || bytes[3] > 1)
             return fast_refuse(answer, 3, k);
     unsigned place = decode_all(p, bytes, blocks);
     return place != NOWHERE ? fast_refuse(answer, 4, place) : 0;
@@ -162,20 +164,23 @@ static int counts(unsigned kind, unsigned f)
     return kind != DELAY && kind != CASE && !(f == 1 && (kind == SWITCH || kind == UNTIL));
 }
 
-/* A child of node i takes over depths and group. */
+/* A child of node i takes over depths and group. The way up ends at the first group in edition one, and goes on in edition two. */
 static inline void go_to(const struct code *n, struct tree *t, unsigned i, unsigned f, unsigned x, int expression)
 {
     t->depth[x] = (uint16_t)(t->depth[i] + 1);
     t->top[x] = expression || counts(n->kind, f) ? t->top[i] : t->depth[x];
-    if (!expression)
-        t->home[x] = n->kind == GROUP ? (uint16_t)i : keeps_home(n->kind, f) ? t->home[i] : (uint16_t)NOWHERE;
+    if (expression)
+        return;
+    int keeps = keeps_home(n->kind, f);
+    t->home[x] = n->kind == GROUP ? (uint16_t)i : keeps ? t->home[i] : (uint16_t)NOWHERE;
+    t->way[x] = n->kind == GROUP ? (t->edition ? t->way[i] : t->depth[i]) : keeps ? t->way[i] : t->depth[x];
 }
 
 /* From the root down: places, depths and groups. */
 static void go_down(const struct program *p, struct tree *t)
 {
     unsigned root = p->count - 1;
-    t->enter[root] = t->depth[root] = t->top[root] = 0;
+    t->enter[root] = t->depth[root] = t->top[root] = t->way[root] = 0;
     t->home[root] = NOWHERE;
     for (unsigned i = root + 1; i-- > 0;) {
         const struct code *n = &p->code[i];
@@ -208,6 +213,15 @@ static int in_scope(const struct program *p, const struct tree *t, unsigned i, u
     }
 }
 
+/* Whether the way up from a case meets the group of its target. */
+static int target_met(const struct program *p, const struct tree *t, unsigned i, unsigned target)
+{
+    if (target >= p->count || p->code[target].kind != BRANCH)
+        return 0;
+    unsigned group = t->home[target];
+    return within(t, i, group) && t->depth[group] >= t->way[i];
+}
+
 /* Code 6. */
 static unsigned scope_fault(const struct program *p, const struct tree *t)
 {
@@ -215,7 +229,7 @@ static unsigned scope_fault(const struct program *p, const struct tree *t)
         const struct code *n = &p->code[i];
         if (n->kind == VARIABLE && !in_scope(p, t, i, n->a))
             return i;
-        if (n->kind == CASE && (t->home[i] == NOWHERE || n->c >= p->count || p->code[n->c].kind != BRANCH || t->home[n->c] != t->home[i]))
+        if (n->kind == CASE && !target_met(p, t, i, n->c))
             return i;
     }
     return NOWHERE;
@@ -290,7 +304,7 @@ static void bound_node(const struct code *n, unsigned i, uint32_t *e, uint32_t *
     }
 }
 
-/* The bound of an accepted program, and its cells: their numbers, and how many stand below each node. */
+/* The bound of an accepted program, its cells: their numbers, and how many stand below each node, and the groups of its branches. */
 static void measure(struct program *p, struct tree *t)
 {
     p->cells = 0;
@@ -302,7 +316,9 @@ static void measure(struct program *p, struct tree *t)
         for (unsigned f = 0; f < many; f++)
             held += p->held[n->field[f]];
         p->held[i] = (uint16_t)held;
-        if (n->kind == SWITCH)
+        if (n->kind == BRANCH)
+            n->value = t->home[i];
+        else if (n->kind == SWITCH)
             n->value = p->cells++;
         else if (has_cell(n->kind))
             n->c = (uint16_t)p->cells++;
@@ -320,6 +336,7 @@ uint32_t fast_decode(struct program *p, const uint8_t *bytes, size_t length, cou
     unsigned place = shape_fault(p, &t);
     if (place != NOWHERE)
         return fast_refuse(answer, 5, place);
+    t.edition = bytes[3];
     go_down(p, &t);
     if ((place = scope_fault(p, &t)) != NOWHERE)
         return fast_refuse(answer, 6, place);

@@ -224,14 +224,25 @@ static unsigned update_until(struct run *r, struct node n)
     return 0;
 }
 
-/* A group: a jump out of its current part is caught, for a case leaves for the first group above. */
-static void update_group(struct run *r, unsigned i, struct node n)
+/* The group that has a branch. */
+static unsigned group_of(const struct tree *t, unsigned branch)
+{
+    unsigned i = t->parent[branch];
+    while (node_at(t->program, i).kind == BRANCH)
+        i = t->parent[i];
+    return i;
+}
+
+/* A group: a jump out of its current part is caught. In edition one a case leaves for the first group above; in edition two a jump for
+ * another group is handed on. */
+static unsigned update_group(struct run *r, unsigned i, struct node n)
 {
     unsigned target = update(r, current_part(r, i, n));
-    if (target == 0)
-        return;
+    if (target == 0 || (r->tree->program[3] == 1 && group_of(r->tree, target) != i))
+        return target;
     reset(r->tree, r->state, i);
     put_value(cell_of(r->tree, r->state, i), r->caught, target);
+    return 0;
 }
 
 /* Signal i goes one step on. The answer is the branch that an until leaves for, or 0. */
@@ -251,7 +262,7 @@ static unsigned update(struct run *r, unsigned i)
         update(r, n.a);
         return update(r, n.b);
     case SWITCH: update_switch(r, i, n); return 0;
-    case GROUP: update_group(r, i, n); return 0;
+    case GROUP: return update_group(r, i, n);
     case UNTIL: return update_until(r, n);
     default: return 0;
     }

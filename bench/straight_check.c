@@ -54,7 +54,7 @@ static uint32_t format_fault(struct tree *t, size_t length, couplerfinch_answer 
     }
     for (unsigned k = 0; k < blocks; k++) {
         const uint8_t *block = t->program + COUPLERFINCH_BLOCK * k;
-        if (get16(block) != k || get16(block + 2) != blocks)
+        if (get16(block) != k || block[2] != blocks || block[3] != t->program[3] || block[3] > 1)
             return straight_refuse(answer, 3, k);
     }
     unsigned place = record_fault(t, blocks);
@@ -101,7 +101,7 @@ static int in_scope(const struct tree *t, unsigned i, unsigned binder)
     return 0;
 }
 
-/* The group that the way up leads to, or none. */
+/* The first group that the way up leads to, or none. */
 static unsigned home_of(const struct tree *t, unsigned i)
 {
     for (; i != t->count - 1; i = t->parent[i]) {
@@ -114,6 +114,17 @@ static unsigned home_of(const struct tree *t, unsigned i)
     return NOWHERE;
 }
 
+/* Whether a case's target is a branch of the first group on the way up; in edition two, of any group met. */
+static int target_met(const struct tree *t, unsigned i, unsigned target)
+{
+    if (target >= t->count || node_at(t->program, target).kind != BRANCH)
+        return 0;
+    unsigned wanted = home_of(t, target), home = home_of(t, i);
+    while (home != wanted && home != NOWHERE)
+        home = t->program[3] == 0 ? NOWHERE : home_of(t, home);
+    return home != NOWHERE;
+}
+
 /* Code 6. */
 static unsigned scope_fault(const struct tree *t)
 {
@@ -121,10 +132,7 @@ static unsigned scope_fault(const struct tree *t)
         struct node n = node_at(t->program, i);
         if (n.kind == VARIABLE && !in_scope(t, i, n.a))
             return i;
-        if (n.kind != CASE)
-            continue;
-        unsigned home = home_of(t, i);
-        if (home == NOWHERE || n.c >= t->count || node_at(t->program, n.c).kind != BRANCH || home_of(t, n.c) != home)
+        if (n.kind == CASE && !target_met(t, i, n.c))
             return i;
     }
     return NOWHERE;

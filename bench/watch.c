@@ -38,7 +38,7 @@ static size_t take_program(uint8_t *program)
     size_t length = fread(program, 1, COUPLERFINCH_BLOCK, stdin);
     if (length < COUPLERFINCH_BLOCK)
         return length;
-    unsigned blocks = get16(program + 2);
+    unsigned blocks = program[3] > 1 ? 0 : program[2];
     if (blocks < 1 || blocks > COUPLERFINCH_BLOCKS)
         return length;
     return length + fread(program + length, 1, (blocks - 1) * COUPLERFINCH_BLOCK, stdin);

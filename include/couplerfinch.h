@@ -33,7 +33,8 @@ extern "C" {
  * A value, 8 bytes: type (1 unit, 2 bool, 3 int; 5, 6, 7 maybe of these), present (1, or 0 for an absent maybe), two zero bytes, the number.
  */
 
-/* A program is 1 to 24 blocks; an input record has 40 bytes and the value of a step 8; a run has 0 to 4,096 records. */
+/* A program is 1 to 24 blocks; an input record has 40 bytes and the value of a step 8; a run has 0 to 4,096 records. Byte 2 of each block is
+ * the count of blocks, and byte 3 the edition: 0 for edition one, 1 for edition two, where a case may leave more than one group at once. */
 #define COUPLERFINCH_BLOCK 512u
 #define COUPLERFINCH_BLOCKS 24u
 #define COUPLERFINCH_NODES 1008u

@@ -34,11 +34,11 @@ static int refused(const couplerfinch_answer *answer)
     return 1;
 }
 
-/* Reads the program: as many blocks as bytes 2 and 3 of its first block say, if there is room for so many. */
+/* Reads the program: as many blocks as byte 2 of its first block says, if there is room for so many and byte 3, the edition, is 0 or 1. */
 static size_t read_program(FILE *file, uint8_t *program)
 {
     size_t length = fread(program, 1, COUPLERFINCH_BLOCK, file);
-    size_t blocks = length < COUPLERFINCH_BLOCK ? 0 : program[2] + 256u * program[3];
+    size_t blocks = length < COUPLERFINCH_BLOCK || program[3] > 1 ? 0 : program[2];
     if (blocks > 1 && blocks <= COUPLERFINCH_BLOCKS)
         length += fread(program + length, 1, (blocks - 1) * COUPLERFINCH_BLOCK, file);
     return length;

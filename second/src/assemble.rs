@@ -212,7 +212,8 @@ fn value(word: &str) -> Outcome<Value> {
     }
 }
 
-/// A raw override: `.number`, `.count`, `.check` of a block, `.byte`, `.seal` or `.length`.
+/// A raw override: `.edition` of all blocks (the number in their byte 3), `.number`, `.count`,
+/// `.check` of a block, `.byte`, `.seal` or `.length`.
 fn override_bytes(bytes: &mut Vec<u8>, line: &str) -> Outcome<()> {
     let mut words = line.split_whitespace();
     let name = words.next().unwrap_or("");
@@ -220,6 +221,7 @@ fn override_bytes(bytes: &mut Vec<u8>, line: &str) -> Outcome<()> {
     let size = |i: usize| numbers.get(i).map(|&n| n as usize).ok_or("a number is missing");
     match name {
         ".seal" => format::seal(bytes),
+        ".edition" => format::set_edition(bytes, size(0)? as u8),
         ".length" => bytes.resize(size(0)?.min(1 << 20), 0),
         ".byte" => put(bytes, size(0)?, &[size(1)? as u8])?,
         ".number" => put_sealed(bytes, size(0)?, 0, size(1)? as u16)?,

@@ -22,7 +22,7 @@ pub struct Explained {
 /// Explains why a program is not ready: codes 1 to 7, then 25 if it is, then 26 for the room.
 pub fn explain(program: &[u8], room: &mut [u16]) -> Result<Explained, Refusal> {
     let tree = shape::read(format::read(program)?)?;
-    scope::read(&tree)?;
+    scope::read(&tree, program[format::EDITION_AT])?;
     types::read(&tree)?;
     let Err(fault) = ready::read(&tree) else {
         return Err(Refusal::at(refusal::NO_LET, 0));

@@ -12,7 +12,7 @@ const LENGTHS: [usize; 9] = [0, 1, 511, 513, 1023, 12_287, 12_288, 12_289, 12_80
 
 /// Damages a program file of these nodes in one way.
 pub fn program(random: &mut Random, file: &mut Vec<u8>, nodes: &[Node]) {
-    match random.weighted(&[3, 6, 5, 6, 8, 12, 14, 12, 5, 3]) {
+    match random.weighted(&[3, 6, 5, 6, 8, 12, 14, 12, 5, 3, 5]) {
         0 => length(random, file),
         1 => {
             let at = random.below(file.len());
@@ -25,7 +25,8 @@ pub fn program(random: &mut Random, file: &mut Vec<u8>, nodes: &[Node]) {
         6 => edit(random, file, nodes, type_or_kind),
         7 => swap_children(random, file, nodes),
         8 => end_of_records(random, file, nodes),
-        _ => edit(random, file, nodes, constant),
+        9 => edit(random, file, nodes, constant),
+        _ => edition(random, file),
     }
 }
 
@@ -42,6 +43,17 @@ fn numbering(random: &mut Random, file: &mut [u8]) {
         let at = block + random.below(4);
         file[at] = file[at].wrapping_add(random.one(&[1, 255, 128, 2]));
     }
+    format::seal(file);
+}
+
+/// Another edition under right checks: in one block, or the same in all, which below 2 is right.
+fn edition(random: &mut Random, file: &mut [u8]) {
+    let new = random.one(&[0, 0, 1, 1, 1, 2, 2, 3, 128, 255]);
+    if random.chance(60) {
+        return format::set_edition(file, new);
+    }
+    let block = random.below(file.len() / BLOCK) * BLOCK;
+    file[block + format::EDITION_AT] = new;
     format::seal(file);
 }
 

@@ -10,6 +10,8 @@ pub const RECORDS: usize = 42;
 pub const RECORD: usize = 12;
 /// Where the records of a block begin.
 pub const HEAD: usize = 4;
+/// Where a block has its edition: 0 for edition one, 1 for edition two.
+pub const EDITION_AT: usize = 3;
 /// Where the check of a block stands.
 pub const CHECK_AT: usize = 508;
 
@@ -41,8 +43,9 @@ pub fn read(program: &[u8]) -> Result<Vec<Node>, Refusal> {
     }
     for (place, block) in blocks.iter().enumerate() {
         let number = number16(block, 0) as usize;
-        let count = number16(block, 2) as usize;
-        if number != place || count != blocks.len() {
+        let (count, edition) = (block[2] as usize, block[EDITION_AT]);
+        let known = edition == program[EDITION_AT] && edition <= 1;
+        if number != place || count != blocks.len() || !known {
             return Err(Refusal::at(refusal::NUMBERING, place));
         }
     }
@@ -134,6 +137,12 @@ pub fn write(nodes: &[Node]) -> Vec<u8> {
     }
     seal(&mut program);
     program
+}
+
+/// Makes a program one of an edition: byte 3 of every block, under right checks.
+pub fn set_edition(program: &mut [u8], edition: u8) {
+    program.chunks_exact_mut(BLOCK).for_each(|block| block[EDITION_AT] = edition);
+    seal(program);
 }
 
 /// Sets the check of every whole block to the right sum.

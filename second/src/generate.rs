@@ -34,37 +34,49 @@ pub fn size(random: &mut Random) -> usize {
     }
 }
 
-/// An accepted program of so many nodes.
+/// An edition, as byte 3 says it.
+fn edition(random: &mut Random) -> u8 {
+    u8::from(random.chance(40))
+}
+
+/// The sample of these nodes in an edition.
+pub fn sample(nodes: Vec<Node>, edition: u8) -> Sample {
+    let mut file = format::write(&nodes);
+    format::set_edition(&mut file, edition);
+    Sample { nodes, file }
+}
+
+/// An accepted program of so many nodes, of either edition.
 pub fn accepted(random: &mut Random, count: usize) -> Sample {
-    let nodes = grow::grow(random, count, 0);
-    Sample { file: format::write(&nodes), nodes }
+    let edition = edition(random);
+    sample(grow::grow(random, edition, count, 0), edition)
 }
 
 /// A program that may use a let's variable too soon.
 pub fn hasty(random: &mut Random, count: usize) -> Sample {
-    let percent = random.one(&[3, 10, 40]);
-    let nodes = grow::grow(random, count, percent);
-    Sample { file: format::write(&nodes), nodes }
+    let (edition, percent) = (edition(random), random.one(&[3, 10, 40]));
+    sample(grow::grow(random, edition, count, percent), edition)
 }
 
 /// A program whose lets' own variables are used in their definitions, in places that count or not.
 pub fn tangled(random: &mut Random, count: usize) -> Sample {
-    let mut nodes = grow::grow(random, count, 0);
+    let edition = edition(random);
+    let mut nodes = grow::grow(random, edition, count, 0);
     tangle::tangle(random, &mut nodes);
-    Sample { file: format::write(&nodes), nodes }
+    sample(nodes, edition)
 }
 
 /// A program around one long chain.
 pub fn spine(random: &mut Random, count: usize) -> Sample {
-    let nodes = tangle::spine(random, count);
-    Sample { file: format::write(&nodes), nodes }
+    let edition = edition(random);
+    sample(tangle::spine(random, count), edition)
 }
 
 /// A program of right shape whose types, binders and targets are at random.
 pub fn wild(random: &mut Random) -> Sample {
     let count = random.one(&[1, 2, 3, 4, 5, 6, 8, 12, 20, 60]);
-    let nodes = wild::wild(random, count);
-    Sample { file: format::write(&nodes), nodes }
+    let edition = edition(random);
+    sample(wild::wild(random, count), edition)
 }
 
 /// So many well-formed records from a time on, with events now and then.
@@ -151,7 +163,7 @@ fn damaged(random: &mut Random, file: &mut Vec<u8>, nodes: &[Node]) {
 
 /// A request to any of the four calls; many a run has one record.
 pub fn request(random: &mut Random) -> Request {
-    match random.weighted(&[25, 12, 28, 35, 0]) {
+    match random.weighted(&[24, 12, 27, 34, 3]) {
         0 => check_request(random),
         1 => start_request(random),
         2 => run_request(random, true),

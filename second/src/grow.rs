@@ -1,5 +1,6 @@
 //! Growing accepted programs by their types: every part is made of the type wanted there, with
-//! the variables in scope and ready there, and untils only where a group is at hand.
+//! the variables in scope and ready there, and untils only where a group is at hand: the first one
+//! upward, or in edition two any that the way up meets.
 
 use crate::kinds::{self, Node, NO_NEXT};
 use crate::random::Random;
@@ -25,18 +26,21 @@ pub struct Grower<'a> {
     ready_below: usize,
     /// How often of a hundred a pending variable is used all the same, for code 8.
     hasty: usize,
+    /// The edition, as byte 3 says it.
+    edition: u8,
 }
 
-/// Grows a program of exactly so many nodes; with `hasty` above 0 it may be refused by code 8.
-pub fn grow(random: &mut Random, count: usize, hasty: usize) -> Vec<Node> {
-    let mut grower =
-        Grower { random, nodes: Vec::new(), variables: Vec::new(), ready_below: 0, hasty };
+/// Grows a program of an edition, of exactly so many nodes; with `hasty` above 0 it may be refused
+/// by code 8.
+pub fn grow(random: &mut Random, edition: u8, count: usize, hasty: usize) -> Vec<Node> {
+    let (nodes, variables) = (Vec::new(), Vec::new());
+    let mut grower = Grower { random, nodes, variables, ready_below: 0, hasty, edition };
     let mut ty =
         if count == 1 { INT + MAYBE * grower.random.below(2) as u8 } else { grower.any_type() };
     if count < 3 && least_signal(ty) > count {
         ty = INT;
     }
-    let mut root = grower.signal(ty, count, &[]);
+    let mut root = grower.part(ty, count, &[]);
     while grower.nodes.len() < count {
         (root, ty) = grower.wrap(root, ty, count - grower.nodes.len());
     }
@@ -140,7 +144,7 @@ impl Grower<'_> {
             2 => self.delay(ty, budget),
             3 => self.let_signal(ty, budget, targets),
             4 => self.switch(ty, budget),
-            5 => self.group(ty, budget),
+            5 => self.group(ty, budget, targets),
             _ => self.until(ty, budget, targets),
         }
     }
@@ -194,10 +198,16 @@ impl Grower<'_> {
         self.fill(number, first, event, second)
     }
 
-    fn group(&mut self, ty: u8, budget: usize) -> u16 {
+    /// A group; in edition two the targets upward stay at hand in its parts.
+    fn group(&mut self, ty: u8, budget: usize, upward: &[Target]) -> u16 {
         let least = least_signal(ty);
-        // Room for an until in the body, where there is any, since else no branch is entered.
-        let body_least = if budget >= 6 + 2 * least { 4 + least } else { least };
+        // Room for an until in the body, where there is any, since else no branch is entered; in
+        // edition two for a group with an until.
+        let body_least = match budget >= 6 + 2 * least {
+            true if self.edition > 0 && budget >= 8 + 3 * least => 6 + 2 * least,
+            true => 4 + least,
+            false => least,
+        };
         let most = (budget - 1 - body_least) / (1 + least);
         let count = match self.random.below(20) {
             0 => self.random.between(1, most.min(60)),
@@ -209,17 +219,37 @@ impl Grower<'_> {
             let argument = self.plain_type();
             targets.push((self.reserve(kinds::BRANCH, argument), argument));
         }
-        let mut leasts = vec![least; count + 1];
+        // In edition two room for one in each branch too: they leave for more than one group.
+        let roomy = self.edition > 0 && budget > body_least + count * (5 + least);
+        let mut leasts = vec![if roomy { 4 + least } else { least }; count + 1];
         leasts[0] = body_least;
         let shares = self.random.split(budget - 1 - count, &leasts);
-        let body = self.signal(ty, shares[0], &targets);
+        let own = targets.clone();
+        if self.edition > 0 {
+            targets.extend(upward);
+        }
+        let body = self.part(ty, shares[0], &targets);
         let mut next = NO_NEXT;
-        for (&(branch, argument), &share) in targets.iter().zip(&shares[1..]) {
+        for (&(branch, argument), &share) in own.iter().zip(&shares[1..]) {
             let variable = Variable { binder: branch, ty: argument, pending: false };
-            let body = self.within(variable, |g| g.signal(ty, share, &targets));
+            let body = self.within(variable, |g| g.part(ty, share, &targets));
             next = self.fill(branch, body, next, 0);
         }
         self.fill(number, body, next, 0)
+    }
+
+    /// A group's body, or a branch's; in edition two it is often a group itself, from which the
+    /// jumps outward leave.
+    fn part(&mut self, ty: u8, budget: usize, targets: &[Target]) -> u16 {
+        match self.nests(ty, budget) {
+            true => self.group(ty, budget, targets),
+            false => self.signal(ty, budget, targets),
+        }
+    }
+
+    /// Whether to put a group here, where there is room for one with some untils.
+    fn nests(&mut self, ty: u8, budget: usize) -> bool {
+        self.edition > 0 && budget >= 6 + 2 * least_signal(ty) && self.random.chance(60)
     }
 
     fn until(&mut self, ty: u8, budget: usize, targets: &[Target]) -> u16 {

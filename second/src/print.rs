@@ -1,7 +1,7 @@
 //! How watchrun prints types, values and lines, and how it takes its input.
 
 use crate::calls::{self, Walk};
-use crate::format::{number16, BLOCK, MOST_BLOCKS};
+use crate::format::{BLOCK, EDITION_AT, MOST_BLOCKS};
 use crate::program::Program;
 use crate::record::{MOST_RECORDS, RECORD};
 use crate::refusal::{self, Refusal};
@@ -60,7 +60,8 @@ fn take(input: &mut impl Read, most: usize) -> Result<Vec<u8>, Broken> {
 fn take_program(input: &mut impl Read) -> Result<Vec<u8>, Broken> {
     let mut program = take(input, BLOCK)?;
     if program.len() == BLOCK {
-        let count = number16(&program, 2) as usize;
+        let edition = program[EDITION_AT];
+        let count = if edition <= 1 { program[2] as usize } else { usize::MAX };
         if (1..=MOST_BLOCKS).contains(&count) {
             program.extend(take(input, (count - 1) * BLOCK)?);
         }

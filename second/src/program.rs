@@ -25,7 +25,7 @@ impl Program {
     /// Checks and decodes a program file, by the order of codes 1 to 8.
     pub fn read(file: &[u8]) -> Result<Program, Refusal> {
         let tree = shape::read(format::read(file)?)?;
-        let homes = scope::read(&tree)?;
+        let homes = scope::read(&tree, file[format::EDITION_AT])?;
         let types = types::read(&tree)?;
         ready::read(&tree)?;
         let mut cells = Vec::new();

@@ -1,4 +1,5 @@
-//! Scope, code 6: binders stand above their variables, targets in the first group above.
+//! Scope, code 6: binders stand above their variables, targets in the first group above, or in
+//! edition two in any group that the way up meets.
 
 use crate::kinds::{self, Field};
 use crate::refusal::{self, Refusal};
@@ -10,12 +11,12 @@ use crate::shape::{Above, Tree};
 pub type Homes = Vec<Option<usize>>;
 
 /// Finds the homes, or refuses with code 6 at the first variable or case at fault.
-pub fn read(tree: &Tree) -> Result<Homes, Refusal> {
+pub fn read(tree: &Tree, edition: u8) -> Result<Homes, Refusal> {
     let homes = homes(tree);
     for (number, node) in tree.nodes.iter().enumerate() {
         let good = match node.kind {
             kinds::VARIABLE => bound_above(tree, number, node.a as usize),
-            kinds::CASE => target_at_home(tree, &homes, number, node.c as usize),
+            kinds::CASE => target_at_home(tree, &homes, edition, number, node.c as usize),
             _ => true,
         };
         if !good {
@@ -63,9 +64,11 @@ fn binds(kind: u8, field: Field) -> bool {
     }
 }
 
-/// Whether the target is a branch of the first group above the case's until.
-fn target_at_home(tree: &Tree, homes: &Homes, case: usize, target: usize) -> bool {
-    homes[case].is_some()
-        && tree.nodes.get(target).is_some_and(|node| node.kind == kinds::BRANCH)
-        && homes[target] == homes[case]
+/// Whether the target is a branch of the first group above the case's until; in edition two, of
+/// any group that is met on going on up.
+fn target_at_home(tree: &Tree, homes: &Homes, edition: u8, case: usize, target: usize) -> bool {
+    let is_branch = tree.nodes.get(target).is_some_and(|node| node.kind == kinds::BRANCH);
+    let onward = |&group: &usize| if edition == 0 { None } else { homes[group] };
+    is_branch
+        && std::iter::successors(homes[case], onward).any(|group| homes[target] == Some(group))
 }

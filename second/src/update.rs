@@ -68,11 +68,12 @@ impl Step<'_> {
         self.update(node.a as usize);
     }
 
-    /// A case's group takes the target branch and the value; all cells below go to start.
+    /// The target's group takes the target branch and the value; all cells below go to start.
     fn fire(&mut self, case: usize, value: Value) {
-        if let Some(group) = self.program.homes[case] {
+        let target = self.program.node(case).c;
+        if let Some(group) = self.program.homes[target as usize] {
             self.reset(group);
-            *self.cell(group) = Cell { value, branch: self.program.node(case).c };
+            *self.cell(group) = Cell { value, branch: target };
         }
     }
 }

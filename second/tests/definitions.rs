@@ -58,32 +58,39 @@ fn variable_in_scope(tree: &Tree, variable: usize) -> bool {
 }
 
 /// The untils whose cases may name the branches of a group: "go up only through ..." read down.
-fn untils_of(tree: &Tree, from: usize, found: &mut Vec<usize>) {
+/// In edition two the way passes on through an inner group's body or branches.
+fn untils_of(tree: &Tree, edition: u8, from: usize, found: &mut Vec<usize>) {
     let node = &tree.nodes[from];
     match node.kind {
-        kinds::LET => untils_of(tree, node.b as usize, found),
+        kinds::LET => untils_of(tree, edition, node.b as usize, found),
         kinds::UNTIL => found.push(from),
+        kinds::GROUP if edition == 1 => untils_below(tree, edition, from, found),
         _ => {}
     }
 }
 
-fn case_in_scope(tree: &Tree, case: usize) -> bool {
+/// Those in a group's body and in the bodies of its branches.
+fn untils_below(tree: &Tree, edition: u8, group: usize, found: &mut Vec<usize>) {
+    untils_of(tree, edition, tree.nodes[group].a as usize, found);
+    for branch in tree.list(tree.nodes[group].b) {
+        untils_of(tree, edition, tree.nodes[branch].a as usize, found);
+    }
+}
+
+fn case_in_scope(tree: &Tree, edition: u8, case: usize) -> bool {
     (0..tree.nodes.len()).filter(|&group| tree.nodes[group].kind == kinds::GROUP).any(|group| {
         let branches: Vec<usize> = tree.list(tree.nodes[group].b).collect();
         let mut untils = Vec::new();
-        untils_of(tree, tree.nodes[group].a as usize, &mut untils);
-        branches
-            .iter()
-            .for_each(|&branch| untils_of(tree, tree.nodes[branch].a as usize, &mut untils));
+        untils_below(tree, edition, group, &mut untils);
         let here = untils.iter().any(|&until| tree.list(tree.nodes[until].b).any(|it| it == case));
         here && branches.contains(&(tree.nodes[case].c as usize))
     })
 }
 
-fn first_out_of_scope(tree: &Tree) -> Option<usize> {
+fn first_out_of_scope(tree: &Tree, edition: u8) -> Option<usize> {
     (0..tree.nodes.len()).find(|&number| match tree.nodes[number].kind {
         kinds::VARIABLE => !variable_in_scope(tree, number),
-        kinds::CASE => !case_in_scope(tree, number),
+        kinds::CASE => !case_in_scope(tree, edition, number),
         _ => false,
     })
 }
@@ -91,7 +98,7 @@ fn first_out_of_scope(tree: &Tree) -> Option<usize> {
 #[test]
 fn scope_and_ready_by_the_words() {
     let mut random = Random::new(21);
-    let (mut out, mut not_ready) = (0, 0);
+    let (mut out, mut outward, mut not_ready) = (0, 0, 0);
     for turn in 0..6000 {
         let count = random.between(8, 60);
         let sample = match turn % 4 {
@@ -103,16 +110,19 @@ fn scope_and_ready_by_the_words() {
             damage::program(&mut random, &mut file, &sample.nodes);
         }
         let Ok(tree) = format::read(&file).and_then(shape::read) else { continue };
-        let found = scope::read(&tree).err().map(|refusal| refusal.place as usize);
-        assert_eq!(found, first_out_of_scope(&tree));
+        let fault = |edition| scope::read(&tree, edition).err().map(|it| it.place as usize);
+        let found = fault(0);
+        assert_eq!(found, first_out_of_scope(&tree, 0));
+        assert_eq!(fault(1), first_out_of_scope(&tree, 1));
         out += usize::from(found.is_some());
+        outward += usize::from(found != fault(1));
         if found.is_none() {
             let found = ready::read(&tree).err().map(|refusal| refusal.place as usize);
             assert_eq!(found, first_not_ready(&tree));
             not_ready += usize::from(found.is_some());
         }
     }
-    assert!(out > 200 && not_ready > 200, "{out} {not_ready}");
+    assert!(out > 200 && outward > 0 && not_ready > 200, "{out} {outward} {not_ready}");
 }
 
 /// The parts of a switch or group, each with whether the cell makes it current.

@@ -79,7 +79,7 @@ module _ (p : Bytes) (index : List ℕ) (x : Listed p index) where
         let has : getD index m 0 ≡ j = sym (x .follows m b d) ∙ ap (λ (n : ℕ). getD index n 0) e ∙ h in
         subst (λ (n : ℕ). hasBranch n (branchesAt p j) ≡ true) e (next-in (suc j) p j m (omega arith) w b d (more less b has))
 
-    reach : (f k : ℕ) → nodes p ≤ k + f → NodeOf isBranch p k → getD index k 0 ≡ j → hasBranch k (branchesAt p j) ≡ true
+    pub reach : (f k : ℕ) → nodes p ≤ k + f → NodeOf isBranch p k → getD index k 0 ≡ j → hasBranch k (branchesAt p j) ≡ true
     reach zero k u v h = absurd (omega (arith, v .inside))
     reach (suc f) k u v h =
         let o = holder-of p k v (x .once k v) in

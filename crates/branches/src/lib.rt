@@ -5,9 +5,8 @@ ghost use Rattle.rules.specs.Kinds.{isBranch};
 ghost use Rattle.rules.specs.Tree.{branchesAt};
 ghost use Rattle.rules.specs.Scope.{hasBranch};
 ghost use Rattle.rules.specs.Shaped.{NodeOf};
-ghost use Rattle.cells.specs.Indexed.{Listed, Indexed};
+ghost use Rattle.cells.specs.Indexed.{Indexed};
 use cells::kind_by;
-use cells::kind_of;
 use cells::number_of;
 
 // Whether the list of branches that begins with branch j has the branch k. The table gives each branch the first of its list.
@@ -22,18 +21,4 @@ pub fn has_branch(p: &[u8], index: &[u16; 2016], j: usize, k: usize) -> bool
         return false;
     }
     number_of(index, k) == j
-}
-
-// The same by a table that has no more than the lists.
-pub fn lists(p: &[u8], homes: &[u16; 1008], j: usize, k: usize) -> bool
-    requires { ⌜ NodeOf isBranch (now p) j × Listed (now p) (now homes) × (getD (now homes) j 0 ≡ j) ⌝ }
-    ensures { λ r. ⌜ r ≡ hasBranch k (branchesAt (now (p .entry)) j) ⌝ }
-{
-    if k > j {
-        return false;
-    }
-    if kind_of(p, k) != 9 {
-        return false;
-    }
-    number_of(homes, k) == j
 }

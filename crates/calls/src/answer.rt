@@ -1,6 +1,8 @@
-// The calls, and their answers: the line, then the state and the output room in hex, a line each.
+// The calls, and their answers: the line, then each lent room that may be written in hex, a line each.
 ghost use Prim.Native.Nat.{_≤_};
 ghost use lib.ListN.{length};
+use crate::entries::give;
+use crate::entries::take;
 use wire::Request;
 
 // Puts at most 2,048 bytes in hex to the output, and answers how many bytes of output wait.
@@ -69,6 +71,22 @@ fn run_answer(
     hex_line(room, more, out)
 }
 
+// Explains in a room of entries, and puts the answer and the room's bytes to the output.
+fn chain_answer(
+    program: &[u8],
+    entries: &mut [u16],
+    bytes: &mut [u8],
+    full: usize,
+    out: &mut [u8],
+) -> usize {
+    take(bytes, entries);
+    let mut line = [0u8; 64];
+    let n = wire::explained_line(explain::explain(program, entries), &mut line);
+    give(entries, bytes);
+    let waits = feed::append(&line[..n], out, full);
+    hex_line(bytes, waits, out)
+}
+
 // A start with the first n bytes of state.
 fn start_call(program: &[u8], n: usize, state: &mut [u8], full: usize, out: &mut [u8]) -> usize {
     if n > state.len() {
@@ -97,6 +115,24 @@ fn run_call(
     run_answer(program, &mut state[..n], records, &mut room[..m], full, out)
 }
 
+// A chain whose room is the first n entries, two bytes each.
+fn chain_call(
+    program: &[u8],
+    n: usize,
+    entries: &mut [u16],
+    bytes: &mut [u8],
+    full: usize,
+    out: &mut [u8],
+) -> usize {
+    if n > entries.len() {
+        return full;
+    }
+    if n > bytes.len() / 2 {
+        return full;
+    }
+    chain_answer(program, &mut entries[..n], &mut bytes[..2 * n], full, out)
+}
+
 // Makes the call of a request whose memory is read, and puts the answer to the output.
 pub fn call(
     request: Request,
@@ -104,6 +140,7 @@ pub fn call(
     state: &mut [u8],
     records: &[u8],
     room: &mut [u8],
+    entries: &mut [u16],
     full: usize,
     out: &mut [u8],
 ) -> usize {
@@ -128,6 +165,10 @@ pub fn call(
                 full,
                 out,
             )
+        }
+        Request::Chain(p, n) => {
+            let of = feed::first(program, p as usize);
+            chain_call(of, n as usize, entries, room, full, out)
         }
         Request::Broken => full,
     }

@@ -1,4 +1,4 @@
-// The memory of a request: program, state, records and output room, one after another in the input.
+// The memory of a request: program, state, records, and the output room or a chain's entries, one after another in the input.
 use feed::Filled;
 use feed::Place;
 use wire::Request;
@@ -31,6 +31,12 @@ fn lengths(request: Request) -> Sizes {
             state: s as usize,
             records: r as usize,
             room: o as usize,
+        },
+        Request::Chain(p, n) => Sizes {
+            program: p as usize,
+            state: 0,
+            records: 0,
+            room: 2 * (n as usize),
         },
         Request::Broken => Sizes {
             program: 0,

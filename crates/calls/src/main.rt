@@ -1,5 +1,6 @@
 // Answers a stream of requests to the four calls on standard input: see second/README.md, `calls serve`.
 mod answer;
+mod entries;
 mod lent;
 
 use feed::Place;
@@ -34,13 +35,14 @@ fn serve_one(
     state: &mut [u8],
     records: &mut [u8],
     room: &mut [u8],
+    entries: &mut [u16],
     out: &mut [u8],
 ) -> After {
     let filled = lent::read(request, place, input, program, state, records, room);
     if !filled.whole {
         return no_request(full, out);
     }
-    let waits = answer::call(request, program, state, records, room, full, out);
+    let waits = answer::call(request, program, state, records, room, entries, full, out);
     let after = filled.place;
     After {
         at: after.at,
@@ -59,6 +61,7 @@ fn turn(
     state: &mut [u8],
     records: &mut [u8],
     room: &mut [u8],
+    entries: &mut [u16],
     out: &mut [u8],
 ) -> After {
     let full = feed::rested(place, out, waiting);
@@ -85,6 +88,7 @@ fn turn(
             state,
             records,
             room,
+            entries,
             out,
         ),
     }
@@ -97,6 +101,7 @@ fn serve(
     state: &mut [u8],
     records: &mut [u8],
     room: &mut [u8],
+    entries: &mut [u16],
     out: &mut [u8],
 ) {
     let mut at = 0;
@@ -116,6 +121,7 @@ fn serve(
             state,
             records,
             room,
+            entries,
             out,
         );
         full = t.full;
@@ -137,6 +143,7 @@ fn main() {
     let mut state = [0u8; 16384];
     let mut records = [0u8; 196608];
     let mut room = io::large_buffer();
+    let mut entries = [0u16; 65536];
     let mut out = io::large_buffer();
     serve(
         &mut input,
@@ -144,6 +151,7 @@ fn main() {
         &mut state,
         &mut records,
         &mut room,
+        &mut entries,
         &mut out,
     );
 }

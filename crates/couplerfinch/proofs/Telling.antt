@@ -7,7 +7,7 @@ use lib.Dec.{eqb}
 use Rattle.rules.specs.Bytes.{if_then_else_}
 use Rattle.rules.specs.Answers.{codeOf, placeOf}
 use Rattle.rules.specs.declared.Refusal.{Refusal}
-use Rattle.rules.specs.declared.Refusal.the-variants.{ProgramLength, CheckSum, BlockNumber, RecordFault, ShapeFault, ScopeFault, TypeFault, NotReady, StateFault, RecordsLength, OutputLength, InputFault, TimeBack}
+use Rattle.rules.specs.declared.Refusal.the-variants.{ProgramLength, CheckSum, BlockNumber, RecordFault, ShapeFault, ScopeFault, TypeFault, NotReady, StateFault, RecordsLength, OutputLength, InputFault, TimeBack, OtherProgram}
 use Rattle.couplerfinch.specs.Room.{refusedRoom, laidOut}
 
 -- A call that writes an answer's numbers and answers its code does so for what that answer is known to be.
@@ -29,6 +29,7 @@ coded RecordsLength = refl
 coded OutputLength = refl
 coded (InputFault j) = refl
 coded (TimeBack j) = refl
+coded OtherProgram = refl
 
 -- The numbers of a refusal, from those that its code and place were found to be.
 pub refused-room : {res code place : ℕ} {exit : List ℕ} (r : Refusal) (work : ℕ) (done : List ℕ → List ℕ) → code ≡ codeOf r → place ≡ placeOf r

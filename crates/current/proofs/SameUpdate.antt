@@ -11,10 +11,10 @@ use lib.ListN.{length}
 use borrow.Author.Tests.{eqb-true}
 use Rattle.rules.specs.Bytes.{Bytes, if_then_else_, _and_}
 use Rattle.rules.specs.Values.{typeOf, middleIn}
-use Rattle.rules.specs.Layout.{mostNodes, cells, typeAt, cell, cellAt, stateLength, held, hold, isClear, branchIn}
+use Rattle.rules.specs.Layout.{edition, mostNodes, cells, typeAt, cell, cellAt, stateLength, held, hold, isClear, branchIn}
 use Rattle.rules.specs.Work.{Updated, stays, leave, afterᵘ, ruleᵘ, _with_, _thenᵘ_}
 use Rattle.rules.specs.Tree.{Signal, input, time, ext, delay, letSignal, switch, group, until, Branches, noBranch, branch, Cases, noCase, case, root}
-use Rattle.rules.specs.Scope.{Marks, mark, unmarked, Offers, isOffered, scopeS, scopeB, scopeC, scopeFault}
+use Rattle.rules.specs.Scope.{Marks, mark, unmarked, Offers, onward, isOffered, scopeS, scopeB, scopeC, scopeFault}
 use Rattle.rules.specs.Typing.{typesS, typesB, typesC, typeFault}
 use Rattle.rules.specs.Ready.{readyS, readyB, readyC, readyFault}
 use Rattle.rules.specs.Reset.{resetS, resetB}
@@ -43,7 +43,7 @@ use Rattle.promises.proofs.Steps.{well-parts, nothing-known, unbound-length}
 use Rattle.current.specs.Current.{leaves, goS, goB, goC}
 use Rattle.current.proofs.Resting.{rests-reset, restsB-reset}
 use Rattle.current.proofs.Leaving.{either, swapped-same, leaves-same}
-use Rattle.current.proofs.Targets.{Short, short-none, short-group, soonest-same}
+use Rattle.current.proofs.Targets.{Short, short-none, short-onward, short-group, soonest-same}
 
 -- First an evaluation that gives a value of a type.
 with-same : {r : Evaluated} {t : ℕ} {f g : Value → Updated} → Gives r t → ((v : Value) → Valid v → typeOf v ≡ t → f v ≡ g v)
@@ -63,13 +63,13 @@ then-same : {τ part : ℕ → ℕ} {test : Bytes → Bool} {st : Bytes} {q r : 
     → ((st₁ : Bytes) → Kept part st st₁ → test st₁ ≡ true → f st₁ ≡ g st₁) → (q thenᵘ f) ≡ (r thenᵘ g)
 then-same {f = f} {g} a e h = ap (λ u. u thenᵘ f) e ∙ then-next f g a h
 
-module _ (count cells : ℕ) (τ : ℕ → ℕ) (rec : Bytes) (hr : Small rec) (few : count ≤ 1023) where
+module _ (ed count cells : ℕ) (τ : ℕ → ℕ) (rec : Bytes) (hr : Small rec) (few : count ≤ 1023) where
   mutual
     unfolding goS updS resetS scopeS typesS readyS wellS timesS held branchIn
 
     -- A signal's update.
     pub go-same : (s : Signal) → SitsS count cells τ s → ((k : ℕ) → timesS k s ≤ 1) → (Γ : Marks) (Δ : Offers) → Short Δ → (env : Env) → length env ≡ count
-        → scopeS Γ Δ s ≡ Nowhere → typesS s ≡ Nowhere → readyS s ≡ Nowhere → AllKnown Γ τ env
+        → scopeS ed Γ Δ s ≡ Nowhere → typesS s ≡ Nowhere → readyS s ≡ Nowhere → AllKnown Γ τ env
         → (st : Bytes) → Small st → length st ≡ cellAt cells → wellS st s ≡ true → goS rec env s st ≡ updS rec env s st
     go-same (input n c) sits once Γ Δ short env l sc ty re kn st hs ls we = refl
     go-same (time n) sits once Γ Δ short env l sc ty re kn st hs ls we = refl
@@ -87,13 +87,13 @@ module _ (count cells : ℕ) (τ : ℕ → ℕ) (rec : Bytes) (hr : Small rec) (
         let once-d : (j : ℕ) → timesS j d ≤ 1 = λ j. omega (arith, once j) in
         ap ruleᵘ (with-same
         (retype (eqb-true _ _ (holds _ n (q .0)))
-        (soundS d count cells τ rec st hr hs (sits .1) (mark Γ n) [] env l (s .0) (q₁ .0) (r₁ .0) (w .0)
+        (soundS d ed count cells τ rec st hr hs (sits .1) (mark Γ n) [] env l (s .0) (q₁ .0) (r₁ .0) (w .0)
         (record { known = definition-known n d Γ τ env (kept _ n (r .0)) λ a m p. kn .known a m refl }))) λ v f e.
         let env₁ : Env = bind env n v in
         let l₁ : length env₁ ≡ count = bind-length env n v ∙ l in
         let kn₁ = bound-more Γ env n v (rw l (sits .0 .below)) f (e ∙ sits .0 .declared) kn in
         then-same
-        (update-goes count cells τ rec hr d (sits .1) once-d (mark Γ n) [] env₁ l₁ (s .0) (q₁ .0) (r₁ .0) kn₁ st hs ls (w .0))
+        (update-goes ed count cells τ rec hr d (sits .1) once-d (mark Γ n) [] env₁ l₁ (s .0) (q₁ .0) (r₁ .0) kn₁ st hs ls (w .0))
         (go-same d (sits .1) once-d (mark Γ n) [] short-none env₁ l₁ (s .0) (q₁ .0) (r₁ .0) kn₁ st hs ls (w .0)) λ st₁ a e₁.
         go-same b (sits .2) (λ j. omega (arith, once j)) (mark Γ n) Δ short env₁ l₁ (s .1) (q₁ .1) (r₁ .1) kn₁ st₁ (a .bytes) (a .long ∙ ls)
         (well-agree b st st₁ (apart-agree (λ j. once j) a) ∙ w .1))
@@ -106,7 +106,7 @@ module _ (count cells : ℕ) (τ : ℕ → ℕ) (rec : Bytes) (hr : Small rec) (
         let r₁ = both _ _ (r .1) in
         let w = and-both _ _ we in
         let once-e : (j : ℕ) → timesS j e ≤ 1 = λ j. omega (arith, once j) in
-        let goes = update-goes count cells τ rec hr e (sits .3) once-e Γ [] env l (s₁ .0) (q₂ .0) (r₁ .0) kn st hs ls (w .0) in
+        let goes = update-goes ed count cells τ rec hr e (sits .3) once-e Γ [] env l (s₁ .0) (q₂ .0) (r₁ .0) kn st hs ls (w .0) in
         let same = go-same e (sits .3) once-e Γ [] short-none env l (s₁ .0) (q₂ .0) (r₁ .0) kn st hs ls (w .0) in
         λ i. ruleᵘ (evalS rec st env e with λ event.
         then-same goes same (λ st₁ a e₁.
@@ -127,22 +127,22 @@ module _ (count cells : ℕ) (τ : ℕ → ℕ) (rec : Bytes) (hr : Small rec) (
         let q = both _ _ (both _ _ ty .1) in
         let r = both _ _ re in
         let once-b : (j : ℕ) → timesS j body ≤ 1 = λ j. omega (arith, once j) in
-        let short-b : Short (brs ∷ []) = short-group count cells τ few brs (sits .2) in
+        let short-b : Short (brs ∷ onward ed Δ) = short-group count cells τ few brs (sits .2) (onward ed Δ) (short-onward ed Δ short) in
         ap ruleᵘ (either
         (λ c. (if c then leaves k body brs (goS rec env body st) else goB rec env k (branchIn st k) (held st k) brs brs st)
         ≡ caught k body brs (if c then updS rec env body st else updB rec env (branchIn st k) (held st k) brs st))
         (isClear st k) _ _ we
         (λ p.
         let p₁ = and-both _ _ p in
-        ap (leaves k body brs) (go-same body (sits .1) once-b Γ (brs ∷ []) short-b env l (s .0) (q .0) (r .0) kn st hs ls (p₁ .0))
+        ap (leaves k body brs) (go-same body (sits .1) once-b Γ (brs ∷ onward ed Δ) short-b env l (s .0) (q .0) (r .0) kn st hs ls (p₁ .0))
         ∙ leaves-same k body body brs
-        (update-goes count cells τ rec hr body (sits .1) once-b Γ (brs ∷ []) env l (s .0) (q .0) (r .0) kn st hs ls (p₁ .0)) λ st₁ a.
+        (update-goes ed count cells τ rec hr body (sits .1) once-b Γ (brs ∷ onward ed Δ) env l (s .0) (q .0) (r .0) kn st hs ls (p₁ .0)) λ st₁ a.
         let b = reset-rests body count cells τ st₁ (sits .1) once-b (a .bytes) (a .long ∙ ls) .kept in
         let far = kept-then {own = λ j. isCell j k + timesS j body} (λ j z. z) (λ j z. omega arith) a b in
         restsB-reset brs (resetS body st₁) (b .bytes) (restsB-agree brs st _ (apart-agree (λ j. omega (arith, once j)) far) ∙ p₁ .1))
         (λ p.
         let p₁ = and-both _ _ p in
-        goB-same brs (sits .2) Γ (brs ∷ []) short-b env l (s .1) (q .1) (r .1) kn st hs ls k body brs (λ j. timesS j body) (λ j. omega (arith, once j))
+        goB-same brs (sits .2) Γ (brs ∷ onward ed Δ) short-b env l (s .1) (q .1) (r .1) kn st hs ls k body brs (λ j. timesS j body) (λ j. omega (arith, once j))
         (λ st₁ h a. ap (resetB brs) (rests-reset body st₁ h (rests-agree body st st₁ a ∙ p₁ .0))) (p₁ .1)))
     go-same (until n s cs) sits once Γ Δ short env l sc ty re kn st hs ls we =
         let z = both _ _ sc in
@@ -150,8 +150,8 @@ module _ (count cells : ℕ) (τ : ℕ → ℕ) (rec : Bytes) (hr : Small rec) (
         let r = both _ _ re in
         let w = and-both _ _ we in
         let once-c : (j : ℕ) → timesC j cs ≤ 1 = λ j. omega (arith, once j) in
-        let first = soonest-same rec st env Γ Δ cs short (z .1) in
-        let rest = then-same (updateC-goes count cells τ rec hr cs (sits .1) once-c Γ Δ env l (z .1) (q .1) (r .1) kn st hs ls (w .1))
+        let first = soonest-same ed rec st env Γ Δ cs short (z .1) in
+        let rest = then-same (updateC-goes ed count cells τ rec hr cs (sits .1) once-c Γ Δ env l (z .1) (q .1) (r .1) kn st hs ls (w .1))
         (goC-same cs (sits .1) once-c Γ Δ short env l (z .1) (q .1) (r .1) kn st hs ls (w .1)) λ st₁ a e₁.
         ap stays (go-same s (sits .0) (λ j. omega (arith, once j)) Γ [] short-none env l (z .0) (q .0) (r .0) kn st₁ (a .bytes) (a .long ∙ ls)
         (well-agree s st st₁ (apart-agree (λ j. omega (arith, once j)) a) ∙ w .0)) in
@@ -159,7 +159,7 @@ module _ (count cells : ℕ) (τ : ℕ → ℕ) (rec : Bytes) (hr : Small rec) (
 
     -- The branch that the content of cell k names, out of the rest of a group's: the group's other parts, with cells before, are at start.
     goB-same : (brs : Branches) → SitsB count cells τ brs → (Γ : Marks) (Δ : Offers) → Short Δ → (env : Env) → length env ≡ count
-        → scopeB Γ Δ brs ≡ Nowhere → typesB brs ≡ Nowhere → readyB brs ≡ Nowhere → AllKnown Γ τ env
+        → scopeB ed Γ Δ brs ≡ Nowhere → typesB brs ≡ Nowhere → readyB brs ≡ Nowhere → AllKnown Γ τ env
         → (st : Bytes) → Small st → length st ≡ cellAt cells → (k : ℕ) (first : Signal) (all : Branches) (before : ℕ → ℕ)
         → ((j : ℕ) → isCell j k + before j + timesB j brs ≤ 1)
         → ((st₁ : Bytes) → Small st₁ → Agree before st st₁ → resetB all (resetS first st₁) ≡ resetB brs st₁)
@@ -184,7 +184,7 @@ module _ (count cells : ℕ) (τ : ℕ → ℕ) (rec : Bytes) (hr : Small rec) (
         let kn₁ = bound-more Γ env n (held st k) (rw l (sits .1 .binds .below)) (o .valid) (o .typed ∙ sits .1 .binds .declared) kn in
         ap (leaves k body all) (go-same body (sits .2) once-b (mark Γ n) Δ short env₁ l₁ (s .0) (q .0) (r .0) kn₁ st hs ls (p₂ .1))
         ∙ leaves-same k body first all
-        (update-goes count cells τ rec hr body (sits .2) once-b (mark Γ n) Δ env₁ l₁ (s .0) (q .0) (r .0) kn₁ st hs ls (p₂ .1)) λ st₁ a.
+        (update-goes ed count cells τ rec hr body (sits .2) once-b (mark Γ n) Δ env₁ l₁ (s .0) (q .0) (r .0) kn₁ st hs ls (p₂ .1)) λ st₁ a.
         let b = reset-rests body count cells τ st₁ (sits .2) once-b (a .bytes) (a .long ∙ ls) .kept in
         let far = kept-then {own = λ j. isCell j k + timesS j body} (λ j z. z) (λ j z. omega arith) a b in
         skip st₁ (a .bytes) (apart-agree (λ j. omega (arith, once j)) a)
@@ -198,7 +198,7 @@ module _ (count cells : ℕ) (τ : ℕ → ℕ) (rec : Bytes) (hr : Small rec) (
 
     -- The events of an until.
     goC-same : (cs : Cases) → SitsC count cells τ cs → ((k : ℕ) → timesC k cs ≤ 1) → (Γ : Marks) (Δ : Offers) → Short Δ → (env : Env) → length env ≡ count
-        → scopeC Γ Δ cs ≡ Nowhere → typesC cs ≡ Nowhere → readyC cs ≡ Nowhere → AllKnown Γ τ env
+        → scopeC ed Γ Δ cs ≡ Nowhere → typesC cs ≡ Nowhere → readyC cs ≡ Nowhere → AllKnown Γ τ env
         → (st : Bytes) → Small st → length st ≡ cellAt cells → wellC st cs ≡ true → goC rec env cs st ≡ updC rec env cs st
     goC-same noCase sits once Γ Δ short env l sc ty re kn st hs ls we = refl
     goC-same (case n event target t more) sits once Γ Δ short env l sc ty re kn st hs ls we =
@@ -207,7 +207,7 @@ module _ (count cells : ℕ) (τ : ℕ → ℕ) (rec : Bytes) (hr : Small rec) (
         let r = both _ _ re in
         let w = and-both _ _ we in
         let once-m : (j : ℕ) → timesC j more ≤ 1 = λ j. omega (arith, once j) in
-        then-same (updateC-goes count cells τ rec hr more (sits .2) once-m Γ Δ env l (s .1) (q .1) (r .1) kn st hs ls (w .1))
+        then-same (updateC-goes ed count cells τ rec hr more (sits .2) once-m Γ Δ env l (s .1) (q .1) (r .1) kn st hs ls (w .1))
         (goC-same more (sits .2) once-m Γ Δ short env l (s .1) (q .1) (r .1) kn st hs ls (w .1)) λ st₁ a e₁.
         ap stays (go-same event (sits .1) (λ j. omega (arith, once j)) Γ [] short-none env l (s .0) (q .0) (r .0) kn st₁ (a .bytes) (a .long ∙ ls)
         (well-agree event st st₁ (apart-agree (λ j. omega (arith, once j)) a) ∙ w .0))
@@ -218,5 +218,5 @@ pub root-same : (p rec st : Bytes) → Accepted p → Seated p → wellFormed p 
 unfolding scopeFault typeFault readyFault stateLength unbound
 root-same p rec st acc seat well hs hr =
     let w = well-parts p st well in
-    go-same mostNodes (cells p) (typeAt p) rec hr (omega arith) (root p) (seat .sits) (seat .once) (unmarked mostNodes) [] short-none (unbound mostNodes) (unbound-length mostNodes)
+    go-same (edition p) mostNodes (cells p) (typeAt p) rec hr (omega arith) (root p) (seat .sits) (seat .once) (unmarked mostNodes) [] short-none (unbound mostNodes) (unbound-length mostNodes)
     (acc .scope-right) (acc .types-right) (acc .ready-right) (nothing-known mostNodes (typeAt p) (unbound mostNodes) _) st hs (w .long) (w .parts)

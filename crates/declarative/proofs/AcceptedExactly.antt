@@ -6,7 +6,7 @@ use mathlib.Core.Bool.{true}
 use Prim.Native.Nat.{ℕ, _-_}
 use native.Mathlib.Omega.{arith}
 use Rattle.rules.specs.Bytes.{Bytes}
-use Rattle.rules.specs.Layout.{mostNodes, nodes, cells, typeAt}
+use Rattle.rules.specs.Layout.{edition, mostNodes, nodes, cells, typeAt}
 use Rattle.rules.specs.Kinds.{isSignal}
 use Rattle.rules.specs.Shaped.{NodeOf}
 use Rattle.rules.specs.Tree.{root}
@@ -48,18 +48,18 @@ no-variable τ = record {
 }
 
 -- The root's derivation, of the type that check answers.
-pub root-typed : (p : Bytes) → Accepted p → TypedS none none (root p) (typeS (root p))
+pub root-typed : (p : Bytes) → Accepted p → TypedS (edition p) none none (root p) (typeS (root p))
 unfolding root scopeFault typeFault
 root-typed p a =
-    complete-s (typeAt p) (unmarked mostNodes) [] none none (root p) (declared p (nodes p - 1) (root-of p a)) (no-variable (typeAt p))
+    complete-s (edition p) (typeAt p) (unmarked mostNodes) [] none none (root p) (declared p (nodes p - 1) (root-of p a)) (no-variable (typeAt p))
     (no-continuation (typeAt p)) (a .scope-right) (a .types-right)
 
 -- And the other way: a derivation of any type is without fault, and its type is that one.
-pub typed-root : (p : Bytes) (g : ℕ) → NodeOf isSignal p (nodes p - 1) → TypedS none none (root p) g
+pub typed-root : (p : Bytes) (g : ℕ) → NodeOf isSignal p (nodes p - 1) → TypedS (edition p) none none (root p) g
     → Faultless (scopeFault p) (typeFault p) (typeS (root p)) g
 unfolding root scopeFault typeFault
 typed-root p g w t =
-    let f = sound-s (typeAt p) (unmarked mostNodes) [] t (declared p (nodes p - 1) w) (no-variable (typeAt p)) (no-continuation (typeAt p)) in
+    let f = sound-s (edition p) (typeAt p) (unmarked mostNodes) [] t (declared p (nodes p - 1) w) (no-variable (typeAt p)) (no-continuation (typeAt p)) in
     record { scoped = f .scoped; typed = f .typed; is = f .is }
 
 -- Accepted: it meets the rules.

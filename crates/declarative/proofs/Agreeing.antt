@@ -3,7 +3,7 @@
 use mathlib.Core.Path.{_≡_, refl, sym, ap, subst, _∙_}
 use mathlib.Core.List.{[], _∷_}
 use mathlib.Core.Bool.{true}
-use Prim.Native.Nat.{ℕ, _<_}
+use Prim.Native.Nat.{ℕ, zero, suc, _<_}
 use native.Mathlib.Omega.{arith}
 use lib.Dec.{eqb}
 use lib.ListN.{length, length-set}
@@ -12,10 +12,10 @@ use borrow.Author.Tests.{eqb-true, eq-eqb}
 use Rattle.rules.specs.Bytes.{_or_}
 use Rattle.rules.specs.Layout.{mostNodes}
 use Rattle.rules.specs.Tree.{Branches, noBranch, branch}
-use Rattle.rules.specs.Scope.{Marks, mark, isMarked, Offers, isOffered, hasBranch}
+use Rattle.rules.specs.Scope.{Marks, mark, isMarked, Offers, onward, isOffered, hasBranch}
 use Rattle.rules.proofs.Static.{not-both, or-left, or-right}
 use Rattle.rules.proofs.ByKind.{choose}
-use Rattle.declarative.specs.Contexts.{Context, none, with, Has, here, earlier, offered}
+use Rattle.declarative.specs.Contexts.{Context, none, with, Has, here, earlier, beyond, offered}
 use Rattle.declarative.proofs.Joining.{by-either}
 use Rattle.declarative.proofs.Declares.{Binder, DeclaresB}
 
@@ -83,37 +83,52 @@ pub no-continuation : (τ : ℕ → ℕ) → Continuations τ [] none
 unfolding isOffered
 no-continuation τ = record { offers = λ k g h. none-has h; given₀ = λ k e. absurd (not-both e) }
 
--- A group's branches.
-branch-has : (τ : ℕ → ℕ) (n t k g : ℕ) (Δ : Context) (brs : Branches) → Binder τ n t
-    → (Has k g Δ → (hasBranch k brs ≡ true) × (g ≡ τ k)) → Has k g (with Δ n t) → ((eqb n k or hasBranch k brs) ≡ true) × (g ≡ τ k)
-branch-has τ n t k g Δ brs b ih here = (or-left _ _ (eq-eqb n n refl), b .declared)
-branch-has τ n t k g Δ brs b ih (earlier h) = let r = ih h in (or-right (eqb n k) _ (r .0), r .1)
+-- What a group hands on.
+handed : (τ : ℕ → ℕ) (ed : ℕ) {O : Offers} {Δ : Context} → Continuations τ O Δ → Continuations τ (onward ed O) (beyond ed Δ)
+unfolding onward beyond
+handed τ zero c = no-continuation τ
+handed τ (suc ed) c = c
 
--- Each name that the list gives is one of its branches, with its argument's type.
-list-has : (τ : ℕ → ℕ) (brs : Branches) → DeclaresB τ brs → (k g : ℕ) → Has k g (offered brs) → (hasBranch k brs ≡ true) × (g ≡ τ k)
-unfolding offered hasBranch
-list-has τ noBranch d k g h = none-has h
-list-has τ (branch n t body next) d k g h = branch-has τ n t k g (offered next) next (d .0) (λ i. list-has τ next (d .2) k g i) h
+-- One branch more.
+branch-has : (τ : ℕ → ℕ) (n t k g : ℕ) (Δ : Context) (brs : Branches) (O : Offers) → Binder τ n t
+    → (Has k g Δ → ((hasBranch k brs or isOffered k O) ≡ true) × (g ≡ τ k)) → Has k g (with Δ n t)
+    → (((eqb n k or hasBranch k brs) or isOffered k O) ≡ true) × (g ≡ τ k)
+branch-has τ n t k g Δ brs O b ih here = (or-left _ _ (or-left _ _ (eq-eqb n n refl)), b .declared)
+branch-has τ n t k g Δ brs O b ih (earlier h) =
+    let r = ih h in
+    (by-either _ _ (r .0) (λ q. or-left _ _ (or-right (eqb n k) _ q)) (λ q. or-right (eqb n k or hasBranch k brs) _ q), r .1)
 
--- Each branch of the list is given.
-has-list : (τ : ℕ → ℕ) (brs : Branches) → DeclaresB τ brs → (k : ℕ) → hasBranch k brs ≡ true → Has k (τ k) (offered brs)
+-- Each name that the list gives is one of its branches, with its argument's type, or is given beside it.
+list-has : (τ : ℕ → ℕ) (Δ : Context) (O : Offers) (k g : ℕ) → (Has k g Δ → (isOffered k O ≡ true) × (g ≡ τ k))
+    → (brs : Branches) → DeclaresB τ brs → Has k g (offered Δ brs) → ((hasBranch k brs or isOffered k O) ≡ true) × (g ≡ τ k)
+unfolding offered hasBranch _or_
+list-has τ Δ O k g far noBranch d h = far h
+list-has τ Δ O k g far (branch n t body next) d h =
+    branch-has τ n t k g (offered Δ next) next O (d .0) (λ i. list-has τ Δ O k g far next (d .2) i) h
+
+-- Each branch of the list is given,
+has-list : (τ : ℕ → ℕ) (Δ : Context) (brs : Branches) → DeclaresB τ brs → (k : ℕ) → hasBranch k brs ≡ true → Has k (τ k) (offered Δ brs)
 unfolding offered hasBranch
-has-list τ noBranch d k e = absurd (not-both e)
-has-list τ (branch n t body next) d k e =
+has-list τ Δ noBranch d k e = absurd (not-both e)
+has-list τ Δ (branch n t body next) d k e =
     by-either _ _ e
     (λ q. let z : n ≡ k = eqb-true n k q in
-    subst (λ (g : ℕ). Has k g (with (offered next) n t)) (d .0 .declared ∙ ap τ z) (subst (λ (y : ℕ). Has y t (with (offered next) n t)) z here))
-    (λ q. earlier (has-list τ next (d .2) k q))
+    subst (λ (g : ℕ). Has k g (with (offered Δ next) n t)) (d .0 .declared ∙ ap τ z) (subst (λ (y : ℕ). Has y t (with (offered Δ next) n t)) z here))
+    (λ q. earlier (has-list τ Δ next (d .2) k q))
 
--- But one group is offered.
-pub one-group : (k : ℕ) (brs : Branches) → isOffered k (brs ∷ []) ≡ true → hasBranch k brs ≡ true
-unfolding isOffered
-one-group k brs e = by-either _ _ e (λ q. q) (λ q. absurd (not-both q))
+-- and what is given beside it.
+has-far : {k g : ℕ} {Δ : Context} (brs : Branches) → Has k g Δ → Has k g (offered Δ brs)
+unfolding offered
+has-far noBranch h = h
+has-far (branch n t body next) h = earlier (has-far next h)
 
 -- So the two agree in a group.
-pub continuations : (τ : ℕ → ℕ) (brs : Branches) → DeclaresB τ brs → Continuations τ (brs ∷ []) (offered brs)
+pub continuations : (τ : ℕ → ℕ) (ed : ℕ) (brs : Branches) → DeclaresB τ brs → {O : Offers} {Δ : Context} → Continuations τ O Δ
+    → Continuations τ (brs ∷ onward ed O) (offered (beyond ed Δ) brs)
 unfolding isOffered
-continuations τ brs d = record {
-  offers = λ k g h. let r = list-has τ brs d k g h in (or-left _ _ (r .0), r .1);
-  given₀ = λ k e. has-list τ brs d k (one-group k brs e);
-}
+continuations τ ed brs d {O} {Δ} c =
+    let far = handed τ ed c in
+    record {
+      offers = λ k g h. list-has τ (beyond ed Δ) (onward ed O) k g (far .offers k g) brs d h;
+      given₀ = λ k e. by-either _ _ e (λ q. has-list τ (beyond ed Δ) brs d k q) (λ q. has-far brs (far .given₀ k q));
+    }

@@ -91,12 +91,22 @@ right-sum p j b = deny (eq-eqb _ _ (b .check ∙ sym (check-sum p j)))
 -- Code 3.
 number-right : (p : Bytes) (j : ℕ) → numberWrong p j ≡ false → NumberRight p j
 unfolding numberWrong
-number-right p j f = let h = and-both _ _ (not-not _ f) in record { number = eqb-true _ _ (h .0); count = eqb-true _ _ (h .1) }
+number-right p j f =
+    let h = and-both _ _ (not-not _ f) in
+    let h₁ = and-both _ _ (h .0) in
+    let h₂ = and-both _ _ (h₁ .0) in
+    record {
+      number = eqb-true _ _ (h₂ .0);
+      count = eqb-true _ _ (h₂ .1);
+      one-edition = eqb-true _ _ (h₁ .1);
+      known-edition = leb-true _ _ (h .1);
+    }
 
 -- And the other way.
 right-number : (p : Bytes) (j : ℕ) → NumberRight p j → numberWrong p j ≡ false
 unfolding numberWrong
-right-number p j b = deny (and-true (eq-eqb _ _ (b .number)) (eq-eqb _ _ (b .count)))
+right-number p j b =
+    deny (and-true (and-true (and-true (eq-eqb _ _ (b .number)) (eq-eqb _ _ (b .count))) (eq-eqb _ _ (b .one-edition))) (le-leb _ _ (b .known-edition)))
 
 -- Below a bound no fault is found exactly when every block there keeps its own rule.
 pub finds-sum : (p : Bytes) → Finds (first (sumWrong p) (blocks p)) (SumRight p) (blocks p)

@@ -8,7 +8,7 @@ use native.Mathlib.Omega.{arith}
 use lib.Dec.{eqb}
 use lib.ListN.{length}
 use Rattle.rules.specs.Bytes.{Bytes, _or_, _and_}
-use Rattle.rules.specs.Layout.{mostNodes, nodes, kindAt, aAt, bAt}
+use Rattle.rules.specs.Layout.{edition, mostNodes, nodes, kindAt, aAt, bAt}
 use Rattle.rules.specs.Kinds.{row, isBranch, fieldsOf}
 use Rattle.rules.specs.Shape.{isChild, named}
 use Rattle.rules.specs.Shaped.{NodeOf}
@@ -18,7 +18,7 @@ use Rattle.rules.proofs.Static.{not-both, or-right}
 use Rattle.rules.proofs.Signals.{branch-on, branch-next}
 use Rattle.rules.proofs.Branches.{number-here, number-last, number-next}
 use Rattle.rules.proofs.ByKind.{choose}
-use Rattle.declarative.specs.WayUp.{Above, Binds, let-definition, let-body, switch-second, branch-body, take-present, Sees, enters, goes-up, UntilOf, first-case, later-case, Passes, by-let-body, by-branch-body, by-branch-list, Arrives, by-group-body, by-group-branches, GroupOf, arrives, passes, BranchOf, this, later}
+use Rattle.declarative.specs.WayUp.{Above, Binds, let-definition, let-body, switch-second, branch-body, take-present, Sees, enters, goes-up, UntilOf, first-case, later-case, Passes, by-let-body, by-branch-body, by-branch-list, Arrives, by-group-body, by-group-branches, GroupOf, arrives, passes, passes-on, BranchOf, this, later}
 use Rattle.declarative.proofs.Agreeing.{marked-own, marked-kept, mark-long}
 use Rattle.declarative.proofs.Parents.{one-above, not-a-b, not-a-c, not-b-c, child-a, child-b, child-c, binds-above, passes-above, arrives-above, until-above, case-above, Table}
 
@@ -175,23 +175,28 @@ module _ (p : Bytes) (t : Table p) (n c : ℕ) (l : n < nodes p) (less : c < n) 
         }
 
     -- The way up from the part to a group: it is the node, or passes by it.
-    group-part : {A : Type 0} (g : ℕ) → GroupOf p g c → (g ≡ n → Arrives p n c → A) → (Passes p n c → GroupOf p g n → A) → A
-    group-part g (arrives h a) f k = let e = only g h (arrives-above p g c a) in f e (subst (λ (m : ℕ). Arrives p m c) e a)
-    group-part g (passes m h a r) f k =
+    group-part : {A : Type 0} (g : ℕ) → GroupOf p g c → (g ≡ n → Arrives p n c → A) → (Passes p n c → GroupOf p g n → A)
+        → (0 < edition p → Arrives p n c → GroupOf p g n → A) → A
+    group-part g (arrives h a) f k w = let e = only g h (arrives-above p g c a) in f e (subst (λ (m : ℕ). Arrives p m c) e a)
+    group-part g (passes-on m h two a r) f k w =
+        let e = only m h (arrives-above p m c a) in w two (subst (λ (j : ℕ). Arrives p j c) e a) (subst (λ (j : ℕ). GroupOf p g j) e r)
+    group-part g (passes m h a r) f k w =
         let e = only m h (passes-above p m c a) in k (subst (λ (j : ℕ). Passes p j c) e a) (subst (λ (j : ℕ). GroupOf p g j) e r)
 
     -- No group is reached from the part; those that are from the node; the node itself is the group.
     pub stop : (O : Offers) → (Arrives p n c → ⊥) → (Passes p n c → ⊥) → Reached p O c
-    stop O d e = record { all = λ g k h b. group-part g h (λ q a. absurd (d a)) (λ a r. absurd (e a)) }
+    stop O d e = record { all = λ g k h b. group-part g h (λ q a. absurd (d a)) (λ a r. absurd (e a)) (λ t a r. absurd (d a)) }
 
     -- The groups that are reached from the node.
     pub pass : (O : Offers) → (Arrives p n c → ⊥) → Reached p O n → Reached p O c
-    pass O d s = record { all = λ g k h b. group-part g h (λ q a. absurd (d a)) (λ a r. s .all g k r b) }
+    pass O d s = record { all = λ g k h b. group-part g h (λ q a. absurd (d a)) (λ a r. s .all g k r b) (λ t a r. absurd (d a)) }
 
-    -- The node itself is the group.
-    pub arrive : (O : Offers) → (Passes p n c → ⊥) → ((k : ℕ) → BranchOf p k (bAt p n) → isOffered k O ≡ true) → Reached p O c
-    arrive O d s = record {
-      all = λ g k h b. group-part g h (λ q a. s k (subst (λ (j : ℕ). BranchOf p k (bAt p j)) q b)) (λ a r. absurd (d a));
+    -- The node itself is the group, or in edition two one that is reached from it.
+    pub arrive : (O : Offers) → (Passes p n c → ⊥) → ((k : ℕ) → BranchOf p k (bAt p n) → isOffered k O ≡ true)
+        → (0 < edition p → (g k : ℕ) → GroupOf p g n → BranchOf p k (bAt p g) → isOffered k O ≡ true) → Reached p O c
+    arrive O d s far = record {
+      all = λ g k h b.
+          group-part g h (λ q a. s k (subst (λ (j : ℕ). BranchOf p k (bAt p j)) q b)) (λ a r. absurd (d a)) (λ t a r. far t g k r b);
     }
 
     -- The way up from a case to its until: it is the node, or the node is the case before.

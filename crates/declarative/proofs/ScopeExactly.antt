@@ -14,7 +14,7 @@ use Rattle.rules.specs.Shaped.{NodeOf}
 use Rattle.rules.specs.Tree.{root}
 use Rattle.rules.specs.Scope.{isMarked, unmarked, scopeFault}
 use Rattle.declarative.specs.Shapes.{WellShaped}
-use Rattle.declarative.specs.WayUp.{Above, Sees, enters, goes-up, GroupOf, arrives, passes, ScopeRight}
+use Rattle.declarative.specs.WayUp.{Above, Sees, enters, goes-up, GroupOf, arrives, passes, passes-on, ScopeRight}
 use Rattle.declarative.proofs.Free.{Finds}
 use Rattle.declarative.proofs.Parents.{binds-above, passes-above, arrives-above, above-more, Table}
 use Rattle.declarative.proofs.WayDown.{scope-down}
@@ -53,6 +53,7 @@ module _ (p : Bytes) (w : NodeOf isSignal p (nodes p - 1)) (s : WellShaped p) wh
   -- and no group is reached.
   none-reached : {A : Type 0} (g n : ℕ) → n ≡ nodes p - 1 → GroupOf p g n → A
   none-reached g n e (arrives l b) = absurd (no-above g l (rw (← e) (arrives-above p g n b)))
+  none-reached g n e (passes-on m l two b s) = absurd (no-above m l (rw (← e) (arrives-above p m n b)))
   none-reached g n e (passes m l a s) = absurd (no-above m l (rw (← e) (passes-above p m n a)))
 
   -- Below a bound no fault is found exactly when all there is in scope.

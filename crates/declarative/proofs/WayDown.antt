@@ -1,6 +1,6 @@
 -- Where every variable and every case below a bound is in scope by the way up, the definition finds no fault of scope there on its way down.
 -- Assumes nothing.
-use mathlib.Core.Path.{_≡_, refl, sym, subst}
+use mathlib.Core.Path.{_≡_, refl, sym, ap, subst, _∙_}
 use mathlib.Core.List.{[], _∷_}
 use mathlib.Core.Bool.{true, false}
 use Prim.Native.Nat.{ℕ, zero, suc, _<_}
@@ -8,19 +8,19 @@ use native.Mathlib.Nat.{not-suc-le-zero}
 use native.Mathlib.Omega.{arith}
 use borrow.Author.Tests.{leb-true, eqb-true, ne-eqb}
 use Rattle.rules.specs.Bytes.{Bytes, _and_, _or_}
-use Rattle.rules.specs.Layout.{nodes, kindAt, aAt, bAt, cAt}
+use Rattle.rules.specs.Layout.{edition, nodes, kindAt, aAt, bAt, cAt}
 use Rattle.rules.specs.Kinds.{row, isSignal, isExpression, isBranch, isCase, fieldsOf}
 use Rattle.rules.specs.Shape.{isChild}
 use Rattle.rules.specs.Shaped.{NodeOf}
 use Rattle.rules.specs.Tree.{Expr, Signal, Branches, Cases, exprAt, signalAt, branchesAt, casesAt}
-use Rattle.rules.specs.Scope.{Marks, mark, Offers, isOffered, scopeE, scopeS, scopeB, scopeC}
-use Rattle.rules.proofs.Static.{and-both, or-left}
+use Rattle.rules.specs.Scope.{Marks, mark, Offers, onward, isOffered, hasBranch, scopeE, scopeS, scopeB, scopeC}
+use Rattle.rules.proofs.Static.{and-both, or-left, or-right}
 use Rattle.rules.proofs.Nodes.{expr-variable, expr-constant, signal-input, signal-time}
 use Rattle.rules.proofs.Kids.{Child}
 use Rattle.rules.proofs.Expressions.{IsOperation, negation-kid, negation-tree, just-kid, just-tree, choice-kids, choice-tree, taking-kids, taking-tree, operation-kids, operation-tree}
 use Rattle.rules.proofs.Signals.{ext-kid, ext-tree, delay-kid, delay-tree, let-kids, let-tree, switch-kids, switch-tree, group-kids, group-tree, until-kids, until-tree, branch-kid, branch-next, branch-end, branch-on, case-kid, case-next, case-end, case-on}
 use Rattle.rules.proofs.ByKind.{ExpressionKind, is-variable, is-constant, is-negation, is-choice, is-just, is-taking, is-operation, expression-kind, SignalKind, is-input, is-time, is-ext, is-delay, is-let, is-switch, is-group, is-until, signal-kind, choose, two-kids}
-use Rattle.declarative.specs.WayUp.{Above, by-a, by-b, by-c, BranchOf, ScopeRight}
+use Rattle.declarative.specs.WayUp.{Above, by-a, by-b, by-c, GroupOf, BranchOf, ScopeRight}
 use Rattle.declarative.proofs.Free.{Free, free-nowhere, free-sooner, free-right}
 use Rattle.declarative.proofs.Joining.{or-false}
 use Rattle.declarative.proofs.Parents.{child-a, child-b, child-c, Table}
@@ -44,19 +44,25 @@ is-10 : (p : Bytes) (n : ℕ) → NodeOf isCase p n → kindAt p n ≡ 10
 unfolding isCase
 is-10 p n w = eqb-true _ _ (w .sorted)
 
+-- In edition two a group hands on all.
+onward-all : (ed : ℕ) (O : Offers) → 0 < ed → onward ed O ≡ O
+unfolding onward
+onward-all zero O h = absurd (not-suc-le-zero h)
+onward-all (suc ed) O h = refl
+
 module _ (p : Bytes) (t : Table p) (β : ℕ) (sc : (n : ℕ) → n < β → n < nodes p → ScopeRight p n) where
   -- What is to be shown of an expression, a signal, a branch and a case.
   abbrev E : ℕ → Type 0
   E n = NodeOf isExpression p n → (M : Marks) → Seen p M n → Free β (scopeE M (exprAt p n))
 
   abbrev S : ℕ → Type 0
-  S n = NodeOf isSignal p n → (M : Marks) (O : Offers) → Seen p M n → Reached p O n → Free β (scopeS M O (signalAt p n))
+  S n = NodeOf isSignal p n → (M : Marks) (O : Offers) → Seen p M n → Reached p O n → Free β (scopeS (edition p) M O (signalAt p n))
 
   abbrev B : ℕ → Type 0
-  B n = NodeOf isBranch p n → (M : Marks) (O : Offers) → Seen p M n → Reached p O n → Free β (scopeB M O (branchesAt p n))
+  B n = NodeOf isBranch p n → (M : Marks) (O : Offers) → Seen p M n → Reached p O n → Free β (scopeB (edition p) M O (branchesAt p n))
 
   abbrev C : ℕ → Type 0
-  C n = NodeOf isCase p n → (M : Marks) (O : Offers) → Seen p M n → ReachedC p O n → Free β (scopeC M O (casesAt p n))
+  C n = NodeOf isCase p n → (M : Marks) (O : Offers) → Seen p M n → ReachedC p O n → Free β (scopeC (edition p) M O (casesAt p n))
 
   module _ (n : ℕ) (l : n < nodes p) where
     -- A child by its field, in the marks of a node that does not bind there.
@@ -141,34 +147,34 @@ module _ (p : Bytes) (t : Table p) (β : ℕ) (sc : (n : ℕ) → n < β → n <
     cases : C n
 
   module _ (n : ℕ) (ih : (m : ℕ) → m < n → DownAt m) where
-    sub : {x : ℕ} → Child isSignal p n x → (M : Marks) (O : Offers) → Seen p M x → Reached p O x → Free β (scopeS M O (signalAt p x))
+    sub : {x : ℕ} → Child isSignal p n x → (M : Marks) (O : Offers) → Seen p M x → Reached p O x → Free β (scopeS (edition p) M O (signalAt p x))
     sub {x} c = ih x (c .less) .signals (c .node)
 
-    brs : {x : ℕ} → Child isBranch p n x → (M : Marks) (O : Offers) → Seen p M x → Reached p O x → Free β (scopeB M O (branchesAt p x))
+    brs : {x : ℕ} → Child isBranch p n x → (M : Marks) (O : Offers) → Seen p M x → Reached p O x → Free β (scopeB (edition p) M O (branchesAt p x))
     brs {x} c = ih x (c .less) .branches (c .node)
 
-    cs : {x : ℕ} → Child isCase p n x → (M : Marks) (O : Offers) → Seen p M x → ReachedC p O x → Free β (scopeC M O (casesAt p x))
+    cs : {x : ℕ} → Child isCase p n x → (M : Marks) (O : Offers) → Seen p M x → ReachedC p O x → Free β (scopeC (edition p) M O (casesAt p x))
     cs {x} c = ih x (c .less) .cases (c .node)
 
     -- A signal, by its kind.
     signal-at : SignalKind (kindAt p n) → S n
     unfolding scopeS isOffered fieldsOf row isChild _or_
-    signal-at (is-input e) w M O s r = subst (λ (x : Signal). Free β (scopeS M O x)) (sym (signal-input p n e)) free-nowhere
-    signal-at (is-time e) w M O s r = subst (λ (x : Signal). Free β (scopeS M O x)) (sym (signal-time p n e)) free-nowhere
+    signal-at (is-input e) w M O s r = subst (λ (x : Signal). Free β (scopeS (edition p) M O x)) (sym (signal-input p n e)) free-nowhere
+    signal-at (is-time e) w M O s r = subst (λ (x : Signal). Free β (scopeS (edition p) M O x)) (sym (signal-time p n e)) free-nowhere
     signal-at (is-ext e) w M O s r =
         let k = ext-kid p n w e in
-        subst (λ (x : Signal). Free β (scopeS M O x)) (sym (ext-tree p n w e))
+        subst (λ (x : Signal). Free β (scopeS (edition p) M O x)) (sym (ext-tree p n w e))
         (expr-down (suc (aAt p n)) (aAt p n) (omega arith) (k .node) M (keep-a n (w .inside) 3 e refl refl (k .less) M s))
     signal-at (is-delay e) w M O s r =
         let k = delay-kid p n w e in
-        subst (λ (x : Signal). Free β (scopeS M O x)) (sym (delay-tree p n w e))
+        subst (λ (x : Signal). Free β (scopeS (edition p) M O x)) (sym (delay-tree p n w e))
         (sub k M [] (keep-a n (w .inside) 4 e refl refl (k .less) M s) (stop-a n (w .inside) 4 e refl (λ z. omega arith) refl (k .less)))
     signal-at (is-let e) w M O s r =
         let k = let-kids p n w e in
         let l = w .inside in
         let ua : Above p n (aAt p n) = by-a (child-a p n 5 e refl) refl in
         let ub : Above p n (bAt p n) = by-b (child-b p n 5 e refl) refl in
-        subst (λ (x : Signal). Free β (scopeS M O x)) (sym (let-tree p n w e))
+        subst (λ (x : Signal). Free β (scopeS (edition p) M O x)) (sym (let-tree p n w e))
         (free-sooner
         (sub (k .0) (mark M n) [] (more p t n (aAt p n) l (k .0 .less) ua M s)
         (stop p t n (aAt p n) l (k .0 .less) ua [] (no-arrives p n (aAt p n) 5 e (λ z. omega arith)) (let-a p t n (aAt p n) l (k .0 .less) e refl)))
@@ -177,7 +183,7 @@ module _ (p : Bytes) (t : Table p) (β : ℕ) (sc : (n : ℕ) → n < β → n <
     signal-at (is-switch e) w M O s r =
         let k = switch-kids p n w e in
         let l = w .inside in
-        subst (λ (x : Signal). Free β (scopeS M O x)) (sym (switch-tree p n w e))
+        subst (λ (x : Signal). Free β (scopeS (edition p) M O x)) (sym (switch-tree p n w e))
         (free-sooner
         (sub (k .0) M []
         (keep p t n (aAt p n) l (k .0 .less) (by-a (child-a p n 6 e refl) refl) M (switch-a p t n (aAt p n) l (k .0 .less) e refl) s)
@@ -191,18 +197,20 @@ module _ (p : Bytes) (t : Table p) (β : ℕ) (sc : (n : ℕ) → n < β → n <
     signal-at (is-group e) w M O s r =
         let k = group-kids p n w e in
         let l = w .inside in
-        let own : Offers = branchesAt p (bAt p n) ∷ [] in
+        let own : Offers = branchesAt p (bAt p n) ∷ onward (edition p) O in
         let has : (j : ℕ) → BranchOf p j (bAt p n) → isOffered j own ≡ true = λ j b. or-left _ _ (listed p j (bAt p n) (k .1 .node) b) in
-        subst (λ (x : Signal). Free β (scopeS M O x)) (sym (group-tree p n w e))
+        let far : 0 < edition p → (g j : ℕ) → GroupOf p g n → BranchOf p j (bAt p g) → isOffered j own ≡ true =
+        λ two g j h b. or-right (hasBranch j (branchesAt p (bAt p n))) _ (ap (isOffered j) (onward-all (edition p) O two) ∙ r .all g j h b) in
+        subst (λ (x : Signal). Free β (scopeS (edition p) M O x)) (sym (group-tree p n w e))
         (free-sooner
         (sub (k .0) M own (keep-a n l 7 e refl refl (k .0 .less) M s)
-        (arrive p t n (aAt p n) l (k .0 .less) (by-a (child-a p n 7 e refl) refl) own (no-passes p n (aAt p n) 7 e refl) has))
+        (arrive p t n (aAt p n) l (k .0 .less) (by-a (child-a p n 7 e refl) refl) own (no-passes p n (aAt p n) 7 e refl) has far))
         (brs (k .1) M own (keep-b n l 7 e refl refl (k .1 .less) M s)
-        (arrive p t n (bAt p n) l (k .1 .less) (by-b (child-b p n 7 e refl) refl) own (no-passes p n (bAt p n) 7 e refl) has)))
+        (arrive p t n (bAt p n) l (k .1 .less) (by-b (child-b p n 7 e refl) refl) own (no-passes p n (bAt p n) 7 e refl) has far)))
     signal-at (is-until e) w M O s r =
         let k = until-kids p n w e in
         let l = w .inside in
-        subst (λ (x : Signal). Free β (scopeS M O x)) (sym (until-tree p n w e))
+        subst (λ (x : Signal). Free β (scopeS (edition p) M O x)) (sym (until-tree p n w e))
         (free-sooner
         (sub (k .0) M [] (keep-a n l 8 e refl refl (k .0 .less) M s) (stop-a n l 8 e refl (λ z. omega arith) refl (k .0 .less)))
         (cs (k .1) M O (keep-b n l 8 e refl refl (k .1 .less) M s)
@@ -220,9 +228,9 @@ module _ (p : Bytes) (t : Table p) (β : ℕ) (sc : (n : ℕ) → n < β → n <
         let body = sub k (mark M n) O (more p t n (aAt p n) l (k .less) ua M s)
         (pass p t n (aAt p n) l (k .less) ua O (no-arrives p n (aAt p n) 9 e (λ z. omega arith)) r) in
         choose (bAt p n) 65535
-        (λ q. subst (λ (x : Branches). Free β (scopeB M O x)) (sym (branch-end p n w q)) (free-sooner body free-nowhere))
+        (λ q. subst (λ (x : Branches). Free β (scopeB (edition p) M O x)) (sym (branch-end p n w q)) (free-sooner body free-nowhere))
         (λ d. let j = branch-next p n w d in
-        subst (λ (x : Branches). Free β (scopeB M O x)) (sym (branch-on p n w d))
+        subst (λ (x : Branches). Free β (scopeB (edition p) M O x)) (sym (branch-on p n w d))
         (free-sooner body
         (brs j M O (keep p t n (bAt p n) l (j .less) ub M (branch-b p t n (bAt p n) l (j .less) e refl) s)
         (pass p t n (bAt p n) l (j .less) ub O (no-arrives p n (bAt p n) 9 e (λ z. omega arith)) r))))
@@ -239,9 +247,9 @@ module _ (p : Bytes) (t : Table p) (β : ℕ) (sc : (n : ℕ) → n < β → n <
         r .all (g .until₀) (g .group₀) (cAt p n) (g .its-until) (g .its-group) (g .its-branch) in
         let event = sub k M [] (keep-a n l 10 e refl refl (k .less) M s) (stop-a n l 10 e refl (λ z. omega arith) refl (k .less)) in
         choose (bAt p n) 65535
-        (λ q. subst (λ (x : Cases). Free β (scopeC M O x)) (sym (case-end p n w q)) (free-sooner own (free-sooner event free-nowhere)))
+        (λ q. subst (λ (x : Cases). Free β (scopeC (edition p) M O x)) (sym (case-end p n w q)) (free-sooner own (free-sooner event free-nowhere)))
         (λ d. let j = case-next p n w d in
-        subst (λ (x : Cases). Free β (scopeC M O x)) (sym (case-on p n w d))
+        subst (λ (x : Cases). Free β (scopeC (edition p) M O x)) (sym (case-on p n w d))
         (free-sooner own (free-sooner event
         (cs j M O (keep-b n l 10 e refl refl (j .less) M s)
         (next-case p t n (bAt p n) l (j .less) (by-b (child-b p n 10 e refl) refl) O e r)))))
@@ -259,5 +267,5 @@ module _ (p : Bytes) (t : Table p) (β : ℕ) (sc : (n : ℕ) → n < β → n <
 
 -- The tree at a signal, in marks and offers that have all that the way up from it comes to.
 pub scope-down : (p : Bytes) → Table p → (β : ℕ) → ((n : ℕ) → n < β → n < nodes p → ScopeRight p n) → (n : ℕ) → NodeOf isSignal p n
-    → (M : Marks) (O : Offers) → Seen p M n → Reached p O n → Free β (scopeS M O (signalAt p n))
+    → (M : Marks) (O : Offers) → Seen p M n → Reached p O n → Free β (scopeS (edition p) M O (signalAt p n))
 scope-down p t β sc n w M O s r = down-at p t β sc (suc n) n (omega arith) .signals w M O s r

@@ -5,7 +5,7 @@ use mathlib.Core.Logic.{_⊎_}
 use Prim.Native.Nat.{ℕ, zero, suc, _+_, _*_, _/_, _%_, _≤_, _<_}
 use lib.ListN.{length}
 use Rattle.rules.specs.Bytes.{Bytes, byteAt}
-use Rattle.rules.specs.Layout.{blocks, blockAt, numberIn, countIn, checkIn, records, recordAt, kindAt, typeAt, aAt, bAt, cAt, wordAt}
+use Rattle.rules.specs.Layout.{blocks, blockAt, numberIn, countIn, editionIn, edition, checkIn, records, recordAt, kindAt, typeAt, aAt, bAt, cAt, wordAt}
 use Rattle.rules.specs.Kinds.{fieldsOf}
 use Rattle.rules.specs.declared.Field.{Field}
 use Rattle.rules.specs.declared.Field.the-variants.{Unused, Channel, PresentByte, Signal, Expression, FirstBranch, NextBranch, FirstCase, NextCase, Binder, Target}
@@ -28,10 +28,13 @@ sumFrom f i (suc left) = f i + sumFrom f (suc i) left
 pub record SumRight (p : Bytes) (j : ℕ) : Type 0 where
   pub check : checkIn p j ≡ sumFrom (λ i. (i + 1) * byteAt p (blockAt j + i)) 0 508
 
--- "Bytes 0-1: block number from 0. Bytes 2-3: count of blocks."
+-- "Bytes 0-1: block number from 0." "Byte 3 of every block is 1 for [edition two], and the block count is byte 2 alone; edition one files keep byte
+-- 3 zero."
 pub record NumberRight (p : Bytes) (j : ℕ) : Type 0 where
   pub number : numberIn p j ≡ j
   pub count : countIn p j ≡ blocks p
+  pub one-edition : editionIn p j ≡ edition p
+  pub known-edition : editionIn p j ≤ 1
 
 -- "Types: 1 unit, 2 bool, 3 int; 5, 6, 7 are maybe of these. Types 1-3 are plain."
 abbrev pub IsPlain : ℕ → Type 0

@@ -4,6 +4,7 @@
 -- Assumes nothing: these are definitions.
 use Prim.Native.Nat.{ℕ}
 use Rattle.rules.specs.Bytes.{Bytes}
+use Rattle.rules.specs.Layout.{edition}
 use Rattle.rules.specs.Tree.{root}
 use Rattle.declarative.specs.Formats.{Formatted}
 use Rattle.declarative.specs.Shapes.{WellShaped}
@@ -16,5 +17,5 @@ pub record Meets (p : Bytes) : Type 0 where
   pub formatted : Formatted p
   pub shaped : WellShaped p
   pub type : ℕ
-  pub typed : TypedS none none (root p) type
+  pub typed : TypedS (edition p) none none (root p) type
   pub ready : ReadyS (root p)

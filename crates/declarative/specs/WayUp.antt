@@ -4,7 +4,7 @@ use mathlib.Core.Path.{_≡_}
 use mathlib.Core.Bool.{true}
 use Prim.Native.Nat.{ℕ, _<_}
 use Rattle.rules.specs.Bytes.{Bytes}
-use Rattle.rules.specs.Layout.{nodes, kindAt, aAt, bAt, cAt, noNext}
+use Rattle.rules.specs.Layout.{edition, nodes, kindAt, aAt, bAt, cAt, noNext}
 use Rattle.rules.specs.Kinds.{fieldsOf}
 use Rattle.rules.specs.Shape.{isChild}
 
@@ -45,10 +45,12 @@ pub data Arrives (p : Bytes) (g n : ℕ) : Type 0 where
   by-group-body : kindAt p g ≡ 7 → aAt p g ≡ n → Arrives p g n
   by-group-branches : kindAt p g ≡ 7 → bAt p g ≡ n → Arrives p g n
 
--- ".. to the first let continue": the way up from n comes to the group g.
+-- ".. to the first let continue": the way up from n comes to the group g. In edition two it "may pass on through an inner let continue's body or
+-- branches, and any group met is allowed".
 pub data GroupOf (p : Bytes) (g : ℕ) : ℕ → Type 0 where
   arrives : {n : ℕ} → g < nodes p → Arrives p g n → GroupOf p g n
   passes : {n : ℕ} (m : ℕ) → m < nodes p → Passes p m n → GroupOf p g m → GroupOf p g n
+  passes-on : {n : ℕ} (m : ℕ) → m < nodes p → 0 < edition p → Arrives p m n → GroupOf p g m → GroupOf p g n
 
 -- Node k is a branch of the list that begins with branch n.
 pub data BranchOf (p : Bytes) (k : ℕ) : ℕ → Type 0 where

@@ -71,16 +71,25 @@ pub fn first_sum(p: &[u8]) -> Place
     Place::Nowhere
 }
 
-// Code 3 at block j: its number is not j, or its count not that of the blocks.
+// Code 3 at block j: its number is not j, or its count not that of the blocks; or its edition is not block 0's, or above 1.
 fn number_wrong(p: &[u8], j: usize) -> bool
     requires { ⌜ j < blocks (now p) ⌝ }
     ensures { λ r. ⌜ r ≡ numberWrong (now (p .entry)) j ⌝ }
 {
     let at = 512 * j;
-    !both(u16_at(p, at) == j, u16_at(p, at + 2) == p.len() / 512)
+    let count = p[at + 2];
+    let edition = p[at + 3];
+    let first = p[3];
+    !both(
+        both(
+            both(u16_at(p, at) == j, count as usize == p.len() / 512),
+            edition == first,
+        ),
+        edition <= 1,
+    )
 }
 
-// The first block whose number or count is wrong.
+// The first block whose number, count or edition is wrong.
 pub fn first_number(p: &[u8]) -> Place
     requires { ⌜ lengthWrong (now p) ≡ false ⌝ }
     ensures { λ r. ⌜ r ≡ first (numberWrong (now (p .entry))) (blocks (now (p .entry))) ⌝ }

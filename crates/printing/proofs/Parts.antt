@@ -9,8 +9,8 @@ use lib.Dec.{eqb, leb, ltb}
 use lib.ListN.{length, take, drop, drop-of-length-le}
 use lib.Seq.{length-take-le, take-all, getD-take, drop-drop, take-add}
 use borrow.Author.Tests.{lt-ltb, le-ltb, le-leb, lt-leb, ltb-true, ltb-false, leb-true, ne-eqb}
-use Rattle.rules.specs.Bytes.{Bytes, byteAt, u16At, if_then_else_, _and_}
-use Rattle.rules.specs.Layout.{blockAt, countIn, inputLength, timeIn}
+use Rattle.rules.specs.Bytes.{Bytes, byteAt, if_then_else_, _and_}
+use Rattle.rules.specs.Layout.{edition, editionIn, blockAt, countIn, inputLength, timeIn}
 use Rattle.rules.specs.Update.{Stepped, Made, NotMade, stepOf}
 use Rattle.rules.specs.Calls.{checkCall, recordVerdict}
 use Rattle.rules.specs.Reset.{startState}
@@ -175,20 +175,27 @@ turns p (suc more) rest steps total st h =
 
 -- block 0 says the same as the whole input
 count-same : (input : Bytes) → countIn (take 512 input) 0 ≡ countIn input 0
-unfolding countIn blockAt u16At byteAt
-count-same input = omega (arith, getD-take 512 input 2 0 (omega arith), getD-take 512 input 3 0 (omega arith))
+unfolding countIn blockAt byteAt
+count-same input = getD-take 512 input 2 0 (omega arith)
+
+edition-same : (input : Bytes) → edition (take 512 input) ≡ edition input
+unfolding edition editionIn blockAt byteAt
+edition-same input = getD-take 512 input 3 0 (omega arith)
 
 blocks-same : (input : Bytes) → blocksTaken (take 512 input) ≡ blocksTaken input
 unfolding blocksTaken
-blocks-same input = ap (λ (n : ℕ). if leb 1 n and leb n 24 then n else 1) (count-same input)
+blocks-same input =
+    let e = edition-same input in
+    let n = count-same input in
+    λ i. if leb (e i) 1 and (leb 1 (n i) and leb (n i) 24) then n i else 1
 
 blocks-some : (input : Bytes) → 1 ≤ blocksTaken input
 unfolding blocksTaken
-blocks-some input = go (countIn input 0) (leb 1 (countIn input 0) and leb (countIn input 0) 24) refl
+blocks-some input = go (countIn input 0) (leb (edition input) 1) (leb (edition input) 1 and (leb 1 (countIn input 0) and leb (countIn input 0) 24)) refl
   where
-    go : (n : ℕ) (b : Bool) → (leb 1 n and leb n 24) ≡ b → 1 ≤ (if b then n else 1)
-    go n true e = leb-true _ _ (and-both _ _ e .0)
-    go n false e = omega arith
+    go : (n : ℕ) (e b : Bool) → (e and (leb 1 n and leb n 24)) ≡ b → 1 ≤ (if b then n else 1)
+    go n e true f = leb-true _ _ (and-both _ _ (and-both _ _ f .1) .0)
+    go n e false f = omega arith
 
 left-some : (head : Bytes) (got : ℕ) → 512 ≤ got → blocksLeft head got ≡ 512 * (blocksTaken head - 1)
 unfolding blocksLeft

@@ -9,7 +9,7 @@ use lib.Seq.{take-all, length-take-le}
 use borrow.Author.Tests.{le-leb, lt-leb, ltb-true, leb-true}
 use Rattle.rules.specs.Bytes.{Bytes, byteAt, u16At, u32At, u64At, bytesOf, writeAt, if_then_else_, _and_}
 use Rattle.rules.specs.Values.{packed, unpacked, valueBytes}
-use Rattle.rules.specs.Layout.{blockAt, countIn, inputLength, inputAt, timeIn}
+use Rattle.rules.specs.Layout.{blockAt, edition, editionIn, countIn, inputLength, inputAt, timeIn}
 use Rattle.rules.specs.Accepted.{Accepted}
 use Rattle.rules.specs.WellFormed.{wellFormed, lastMoment}
 use Rattle.rules.specs.Update.{Stepped, Made, NotMade, stepOf}
@@ -190,22 +190,23 @@ pub turned-as : {o q : TurnOutcome} {line st : Bytes} {size steps total : ℕ} {
     → Turned o line size more steps total st
 turned-as e t = rw e t
 
--- how many blocks are taken: one if block 0 says none or too many, else so many
-said-in : (p : Bytes) {n : ℕ} → n ≡ u16At p 2 → countIn p 0 ≡ n
-unfolding countIn blockAt
-said-in p e = sym e
+-- how many blocks are taken: one if block 0 is of no edition, or says none or too many, else so many
+pub no-edition : (p : Bytes) {e : ℕ} → e ≡ byteAt p 3 → 1 < e → 1 ≡ blocksTaken p
+unfolding blocksTaken edition editionIn blockAt _and_
+no-edition p {e} f h = rw (← f, lt-leb e 1 h)
 
-pub few : (p : Bytes) {n : ℕ} → n ≡ u16At p 2 → n < 1 → 1 ≡ blocksTaken p
-unfolding blocksTaken _and_
-few p {n} e h = rw (said-in p e, lt-leb 1 n h)
+module _ (p : Bytes) {e n : ℕ} (f : e ≡ byteAt p 3) (g : n ≡ byteAt p 2) (k : e ≤ 1) where
+  pub few : n < 1 → 1 ≡ blocksTaken p
+  unfolding blocksTaken edition editionIn countIn blockAt _and_
+  few h = rw (← f, ← g, le-leb e 1 k, lt-leb 1 n h)
 
-pub many : (p : Bytes) {n : ℕ} → n ≡ u16At p 2 → 24 < n → 1 ≡ blocksTaken p
-unfolding blocksTaken _and_
-many p {n} e h = rw (said-in p e, le-leb 1 n (omega arith), lt-leb n 24 h)
+  pub many : 24 < n → 1 ≡ blocksTaken p
+  unfolding blocksTaken edition editionIn countIn blockAt _and_
+  many h = rw (← f, ← g, le-leb e 1 k, le-leb 1 n (omega arith), lt-leb n 24 h)
 
-pub said : (p : Bytes) {n : ℕ} → n ≡ u16At p 2 → 1 ≤ n → n ≤ 24 → n ≡ blocksTaken p
-unfolding blocksTaken _and_
-said p {n} e h g = rw (said-in p e, le-leb 1 n h, le-leb n 24 g)
+  pub said : 1 ≤ n → n ≤ 24 → n ≡ blocksTaken p
+  unfolding blocksTaken edition editionIn countIn blockAt _and_
+  said h l = rw (← f, ← g, le-leb e 1 k, le-leb 1 n h, le-leb n 24 l)
 
 -- a record to take is no 4,097th, and is whole
 pub record-early : (got : ℕ) {steps : ℕ} → isRecord got steps ≡ true → (steps < mostRecords) × (inputLength ≤ got)

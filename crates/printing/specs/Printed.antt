@@ -5,7 +5,7 @@ use mathlib.Core.List.{_++_}
 use lib.ListN.{length, take, drop}
 use lib.Dec.{eqb, leb, ltb}
 use Rattle.rules.specs.Bytes.{Bytes, if_then_else_, _and_}
-use Rattle.rules.specs.Layout.{countIn, inputLength, timeIn}
+use Rattle.rules.specs.Layout.{edition, countIn, inputLength, timeIn}
 use Rattle.rules.specs.Reset.{startState}
 use Rattle.rules.specs.Update.{Made, NotMade, stepOf}
 use Rattle.rules.specs.Calls.{checkCall, recordVerdict}
@@ -15,9 +15,11 @@ use Rattle.rules.specs.declared.Checked.{Checked}
 use Rattle.rules.specs.declared.Checked.the-variants.{Accepted}
 use Rattle.lines.specs.Print.{firstLine, stepLine, endLine, refusedLine}
 
--- Standard input: the blocks (as many as block 0 says, if 1 to 24, else just one), ..
+-- Standard input: the blocks (as many as block 0 says, if 1 to 24, else just one), .. The count is byte 2; with a byte 3 above 1, which is no
+-- edition, bytes 2-3 say more than 24.
 unfoldable pub blocksTaken : Bytes → ℕ
-blocksTaken input = if leb 1 (countIn input 0) and leb (countIn input 0) 24 then countIn input 0 else 1
+blocksTaken input =
+    if leb (edition input) 1 and (leb 1 (countIn input 0) and leb (countIn input 0) 24) then countIn input 0 else 1
 
 -- The program is what it got of these blocks: less, or nothing, where the input ends.
 unfoldable pub programOf : Bytes → Bytes

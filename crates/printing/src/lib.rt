@@ -30,12 +30,15 @@ pub struct After {
     pub total: u32,
 }
 
-// How many blocks block 0 says, if 1 to 24, else just one.
+// How many blocks block 0 says, if 1 to 24, else just one: byte 2, where byte 3 is an edition, 0 or 1.
 fn blocks_taken(block: &[u8]) -> usize
     requires { ⌜ 512 ≤ length (now block) ⌝ }
     ensures { λ r. ⌜ (r ≡ blocksTaken (now (block .entry))) × (1 ≤ r) × (r ≤ 24) ⌝ }
 {
-    let n = table::u16_at(block, 2);
+    if block[3] > 1 {
+        return 1;
+    }
+    let n = block[2] as usize;
     if n < 1 {
         return 1;
     }

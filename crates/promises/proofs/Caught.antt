@@ -4,7 +4,7 @@ use mathlib.Core.Path.{_≡_, refl, sym, ap, _∙_}
 use mathlib.Core.Logic.{_⊎_, inl, inr}
 use mathlib.Core.List.{[], _∷_}
 use mathlib.Core.Bool.{Bool, true, false}
-use Prim.Native.Nat.{ℕ, _+_, _*_, _<_, _≤_}
+use Prim.Native.Nat.{ℕ, zero, suc, _+_, _*_, _<_, _≤_}
 use native.Mathlib.Omega.{arith}
 use lib.Dec.{eqb}
 use lib.ListN.{length}
@@ -12,9 +12,9 @@ use borrow.Author.Tests.{eqb-true, ne-eqb}
 use Rattle.rules.specs.Bytes.{Bytes, if_then_else_, _and_, _or_}
 use Rattle.rules.specs.Values.{typeOf, packed, middleIn}
 use Rattle.rules.specs.Layout.{cell, cellAt, hold, isClear, holdBranch}
-use Rattle.rules.specs.Work.{Updated}
+use Rattle.rules.specs.Work.{Updated, Next, Jump}
 use Rattle.rules.specs.Tree.{Signal, group, switch, Branches, noBranch, branch}
-use Rattle.rules.specs.Scope.{Offers, hasBranch, isOffered}
+use Rattle.rules.specs.Scope.{Offers, hasBranch, isOffered, onward}
 use Rattle.rules.specs.Reset.{resetS, resetB, restsS, restsB}
 use Rattle.rules.specs.WellFormed.{contentFits, wellS, wellB}
 use Rattle.rules.specs.Size.{isCell, timesS}
@@ -134,25 +134,27 @@ module _ (count cells : ℕ) (τ : ℕ → ℕ) (n k : ℕ) (body : Signal) (brs
       (and-join _ _ (b .1)
       (ap (λ (q : ℕ). wellB st₁ q brs) c ∙ takes brs count cells τ (sits .2) target m st₁ has (a .1) (packed-middle v target valid small) fits))
 
--- What the first group offers is one of its branches.
-its-own : (target : ℕ) (brs : Branches) → isOffered target (brs ∷ []) ≡ true → hasBranch target brs ≡ true
-unfolding isOffered
-its-own target brs o = go (or-cases _ _ o)
-  where
-    go : (hasBranch target brs ≡ true) ⊎ (false ≡ true) → hasBranch target brs ≡ true
-    go (inl h) = h
-    go (inr z) = absurd (not-both z)
+-- What a group hands on is offered to it.
+handed-on : (ed : ℕ) (Δ : Offers) (target : ℕ) → isOffered target (onward ed Δ) ≡ true → isOffered target Δ ≡ true
+unfolding onward isOffered
+handed-on zero Δ target o = absurd (not-both o)
+handed-on (suc ed) Δ target o = o
 
--- A group catches every jump that its branches offer.
-pub caught-goes : {Δ : Offers} (count cells : ℕ) (τ : ℕ → ℕ) (n k : ℕ) (body : Signal) (brs : Branches) → SitsS count cells τ (group n k body brs)
+-- A group catches every jump to one of its branches, and hands on every other, whose target is offered to it.
+pub caught-goes : (ed : ℕ) {Δ : Offers} (count cells : ℕ) (τ : ℕ → ℕ) (n k : ℕ) (body : Signal) (brs : Branches) → SitsS count cells τ (group n k body brs)
     → ((j : ℕ) → timesS j (group n k body brs) ≤ 1) → {st : Bytes} → length st ≡ cellAt cells → {r : Updated}
-    → Goes (brs ∷ []) τ (λ j. timesS j (group n k body brs)) (λ q. wellS q (group n k body brs)) st r
+    → Goes (brs ∷ onward ed Δ) τ (λ j. timesS j (group n k body brs)) (λ q. wellS q (group n k body brs)) st r
     → Goes Δ τ (λ j. timesS j (group n k body brs)) (λ q. wellS q (group n k body brs)) st (caught k body brs r)
-unfolding caught
-caught-goes count cells τ n k body brs sits once l (next a e) = next a e
-caught-goes count cells τ n k body brs sits once l (jump {target} {v} {st₁} o valid typed a) =
-    let has : hasBranch target brs ≡ true = its-own target brs o in
-    let b = entered count cells τ n k body brs sits once st₁ (a .bytes) (a .long ∙ l) v valid target typed has in
-    rw has
-    (next (kept-then (λ j z. z) (λ j z. z) a (b .kept))
-    (entered-well count cells τ n k body brs sits once st₁ (a .bytes) (a .long ∙ l) v valid target typed has))
+unfolding caught isOffered
+caught-goes ed count cells τ n k body brs sits once l (next a e) = next a e
+caught-goes ed {Δ} count cells τ n k body brs sits once {st} l (jump {target} {v} {st₁} {w} o valid typed a) = go (hasBranch target brs) refl (or-cases _ _ o)
+  where
+    go : (b : Bool) → hasBranch target brs ≡ b → (hasBranch target brs ≡ true) ⊎ (isOffered target (onward ed Δ) ≡ true)
+        → Goes Δ τ (λ j. timesS j (group n k body brs)) (λ q. wellS q (group n k body brs)) st
+        (if b then Next (resetB brs (resetS body (holdBranch st₁ k target v))) w else Jump target v st₁ w)
+    go true has _ =
+        let b = entered count cells τ n k body brs sits once st₁ (a .bytes) (a .long ∙ l) v valid target typed has in
+        next (kept-then (λ j z. z) (λ j z. z) a (b .kept))
+        (entered-well count cells τ n k body brs sits once st₁ (a .bytes) (a .long ∙ l) v valid target typed has)
+    go false other (inl has) = absurd (not-both (sym other ∙ has))
+    go false other (inr far) = jump (handed-on ed Δ target far) valid typed a

@@ -13,7 +13,7 @@ use Rattle.rules.specs.Values.{intT, maybeOf, typeOf, middleIn}
 use Rattle.rules.specs.Layout.{cell, held, isClear, branchIn, channelValue, channelType, wordOn, flagOn, eventOn, timeIn}
 use Rattle.rules.specs.Work.{give, _then_}
 use Rattle.rules.specs.Tree.{Signal, input, time, ext, delay, letSignal, switch, group, until, Branches, noBranch, branch}
-use Rattle.rules.specs.Scope.{Marks, mark, isMarked, Offers, scopeS, scopeB}
+use Rattle.rules.specs.Scope.{Marks, mark, isMarked, Offers, onward, scopeS, scopeB}
 use Rattle.rules.specs.Typing.{typeS, typesS, typesB, bodiesHave}
 use Rattle.rules.specs.Ready.{needsS, needsB, readyS, readyB}
 use Rattle.rules.specs.WellFormed.{contentFits, wellS, wellB}
@@ -80,18 +80,18 @@ mutual
   unfolding evalS typeS scopeS typesS bodiesHave needsS readyS wellS held branchIn
 
   -- A signal gives a value of its type.
-  pub soundS : (s : Signal) (count cells : ℕ) (τ : ℕ → ℕ) (rec st : Bytes) → Small rec → Small st → SitsS count cells τ s
+  pub soundS : (s : Signal) (ed count cells : ℕ) (τ : ℕ → ℕ) (rec st : Bytes) → Small rec → Small st → SitsS count cells τ s
       → (Γ : Marks) (Δ : Offers) (env : Env) → length env ≡ count
-      → scopeS Γ Δ s ≡ Nowhere → typesS s ≡ Nowhere → readyS s ≡ Nowhere → wellS st s ≡ true
+      → scopeS ed Γ Δ s ≡ Nowhere → typesS s ≡ Nowhere → readyS s ≡ Nowhere → wellS st s ≡ true
       → Known Γ τ env (λ b. needsS b s) → Gives (evalS rec st env s) (typeS s)
-  soundS (input n c) count cells τ rec st hr hs sits Γ Δ env l sc ty re we k = rule-gives (of-gives _ (channel-of rec c hr))
-  soundS (time n) count cells τ rec st hr hs sits Γ Δ env l sc ty re we k = rule-gives (of-gives _ (time-of rec hr))
-  soundS (ext n e) count cells τ rec st hr hs sits Γ Δ env l sc ty re we k = rule-gives (soundE count τ e sits Γ env l sc ty k)
-  soundS (delay n c v s) count cells τ rec st hr hs sits Γ Δ env l sc ty re we k =
+  soundS (input n c) ed count cells τ rec st hr hs sits Γ Δ env l sc ty re we k = rule-gives (of-gives _ (channel-of rec c hr))
+  soundS (time n) ed count cells τ rec st hr hs sits Γ Δ env l sc ty re we k = rule-gives (of-gives _ (time-of rec hr))
+  soundS (ext n e) ed count cells τ rec st hr hs sits Γ Δ env l sc ty re we k = rule-gives (soundE count τ e sits Γ env l sc ty k)
+  soundS (delay n c v s) ed count cells τ rec st hr hs sits Γ Δ env l sc ty re we k =
       let t = both _ _ ty in
       rule-gives (retype (sym (eqb-true _ _ (holds _ n (t .0))))
       (of-gives _ (held-of st c (typeOf v) 0 hs (valid-type v (sits .1)) (and-both _ _ we .0))))
-  soundS (letSignal n t d b) count cells τ rec st hr hs sits Γ Δ env l sc ty re we k =
+  soundS (letSignal n t d b) ed count cells τ rec st hr hs sits Γ Δ env l sc ty re we k =
       let s = both _ _ sc in
       let q = both _ _ ty in
       let q₁ = both _ _ (q .1) in
@@ -100,11 +100,11 @@ mutual
       let w = and-both _ _ we in
       rule-gives (then-gives _
       (retype (eqb-true _ _ (holds _ n (q .0)))
-      (soundS d count cells τ rec st hr hs (sits .1) (mark Γ n) [] env l (s .0) (q₁ .0) (r₁ .0) (w .0)
+      (soundS d ed count cells τ rec st hr hs (sits .1) (mark Γ n) [] env l (s .0) (q₁ .0) (r₁ .0) (w .0)
       (record { known = definition-known n d Γ τ env (kept _ n (r .0)) λ a m p. k .known a m (or-left _ _ p) })))
-      λ v f e. soundS b count cells τ rec st hr hs (sits .2) (mark Γ n) Δ (bind env n v) (bind-length env n v ∙ l) (s .1) (q₁ .1) (r₁ .1) (w .1)
+      λ v f e. soundS b ed count cells τ rec st hr hs (sits .2) (mark Γ n) Δ (bind env n v) (bind-length env n v ∙ l) (s .1) (q₁ .1) (r₁ .1) (w .1)
       (known-bind Γ env n v _ (rw l (sits .0 .below)) f (e ∙ sits .0 .declared) λ a m p ne. k .known a m (or-right _ _ p)))
-  soundS (switch n c t x e y) count cells τ rec st hr hs sits Γ Δ env l sc ty re we k =
+  soundS (switch n c t x e y) ed count cells τ rec st hr hs sits Γ Δ env l sc ty re we k =
       let s = both _ _ sc in
       let s₁ = both _ _ (s .1) in
       let q = both _ _ ty in
@@ -115,38 +115,38 @@ mutual
       let h = and-both _ _ (holds _ n (q .0)) in
       let w = and-both _ _ we in
       rule-gives (part-gives (isClear st c) (w .1)
-      (λ a. soundS x count cells τ rec st hr hs (sits .2) Γ [] env l (s .0) (q₁ .0) (r .0) (and-both _ _ a .0)
+      (λ a. soundS x ed count cells τ rec st hr hs (sits .2) Γ [] env l (s .0) (q₁ .0) (r .0) (and-both _ _ a .0)
       (known-part _ k λ b p. or-left _ _ p))
       λ a.
       let a₁ = and-both _ _ a in
       let o = held-of st c t 0 hs (is-plain (sits .1 .least) (sits .1 .most)) (and-both _ _ (a₁ .0) .0) in
       retype (sym (eqb-true _ _ (h .1)))
-      (soundS y count cells τ rec st hr hs (sits .4) (mark Γ n) [] (bind env n (held st c)) (bind-length env n _ ∙ l) (s₁ .1) (q₂ .1) (r₁ .1) (a₁ .1)
+      (soundS y ed count cells τ rec st hr hs (sits .4) (mark Γ n) [] (bind env n (held st c)) (bind-length env n _ ∙ l) (s₁ .1) (q₂ .1) (r₁ .1) (a₁ .1)
       (known-bind Γ env n _ _ (rw l (sits .1 .binds .below)) (o .valid) (o .typed ∙ sits .1 .binds .declared) λ b m p ne. k .known b m (or-right _ _ p))))
-  soundS (group n c body brs) count cells τ rec st hr hs sits Γ Δ env l sc ty re we k =
+  soundS (group n c body brs) ed count cells τ rec st hr hs sits Γ Δ env l sc ty re we k =
       let s = both _ _ sc in
       let q = both _ _ ty in
       let q₁ = both _ _ (q .1) in
       let r = both _ _ re in
       rule-gives (part-gives (isClear st c) we
-      (λ a. soundS body count cells τ rec st hr hs (sits .1) Γ (brs ∷ []) env l (s .0) (q₁ .0) (r .0) (and-both _ _ a .0)
+      (λ a. soundS body ed count cells τ rec st hr hs (sits .1) Γ (brs ∷ onward ed Δ) env l (s .0) (q₁ .0) (r .0) (and-both _ _ a .0)
       (known-part _ k λ b p. or-left _ _ p))
-      λ a. soundB brs count cells τ rec st hr hs (sits .2) Γ (brs ∷ []) env l (s .1) (q₁ .1) (r .1) c (typeS body) (holds _ n (q .0)) (and-both _ _ a .1)
+      λ a. soundB brs ed count cells τ rec st hr hs (sits .2) Γ (brs ∷ onward ed Δ) env l (s .1) (q₁ .1) (r .1) c (typeS body) (holds _ n (q .0)) (and-both _ _ a .1)
       (known-part _ k λ b p. or-right _ _ p))
-  soundS (until n s cs) count cells τ rec st hr hs sits Γ Δ env l sc ty re we k =
+  soundS (until n s cs) ed count cells τ rec st hr hs sits Γ Δ env l sc ty re we k =
       let a = both _ _ sc in
       let q = both _ _ ty in
       let r = both _ _ re in
-      rule-gives (soundS s count cells τ rec st hr hs (sits .0) Γ [] env l (a .0) (q .0) (r .0) (and-both _ _ we .0) k)
+      rule-gives (soundS s ed count cells τ rec st hr hs (sits .0) Γ [] env l (a .0) (q .0) (r .0) (and-both _ _ we .0) k)
 
   -- The branch that the content of cell c names gives a value of the group's type u.
-  pub soundB : (brs : Branches) (count cells : ℕ) (τ : ℕ → ℕ) (rec st : Bytes) → Small rec → Small st → SitsB count cells τ brs
+  pub soundB : (brs : Branches) (ed count cells : ℕ) (τ : ℕ → ℕ) (rec st : Bytes) → Small rec → Small st → SitsB count cells τ brs
       → (Γ : Marks) (Δ : Offers) (env : Env) → length env ≡ count
-      → scopeB Γ Δ brs ≡ Nowhere → typesB brs ≡ Nowhere → readyB brs ≡ Nowhere
+      → scopeB ed Γ Δ brs ≡ Nowhere → typesB brs ≡ Nowhere → readyB brs ≡ Nowhere
       → (c u : ℕ) → bodiesHave u brs ≡ true → wellB st (cell st c) brs ≡ true
       → Known Γ τ env (λ b. needsB b brs) → Gives (evalB rec st env (branchIn st c) (held st c) brs) u
-  soundB noBranch count cells τ rec st hr hs sits Γ Δ env l sc ty re c u bo we k = absurd (not-both we)
-  soundB (branch n t body next) count cells τ rec st hr hs sits Γ Δ env l sc ty re c u bo we k =
+  soundB noBranch ed count cells τ rec st hr hs sits Γ Δ env l sc ty re c u bo we k = absurd (not-both we)
+  soundB (branch n t body next) ed count cells τ rec st hr hs sits Γ Δ env l sc ty re c u bo we k =
       let s = both _ _ sc in
       let q = both _ _ ty in
       let r = both _ _ re in
@@ -156,7 +156,7 @@ mutual
       let a₁ = and-both _ _ (and-both _ _ a .0) in
       let o = held-of st c t n hs (is-plain (sits .1 .least) (sits .1 .most)) (a₁ .0) in
       retype (eqb-true _ _ (h .0))
-      (soundS body count cells τ rec st hr hs (sits .2) (mark Γ n) Δ (bind env n (held st c)) (bind-length env n _ ∙ l) (s .0) (q .0) (r .0) (a₁ .1)
+      (soundS body ed count cells τ rec st hr hs (sits .2) (mark Γ n) Δ (bind env n (held st c)) (bind-length env n _ ∙ l) (s .0) (q .0) (r .0) (a₁ .1)
       (known-bind Γ env n _ _ (rw l (sits .1 .binds .below)) (o .valid) (o .typed ∙ sits .1 .binds .declared) λ b m p ne. k .known b m (or-left _ _ p))))
-      λ a. soundB next count cells τ rec st hr hs (sits .3) Γ Δ env l (s .1) (q .1) (r .1) c u (h .1) (and-both _ _ a .1)
+      λ a. soundB next ed count cells τ rec st hr hs (sits .3) Γ Δ env l (s .1) (q .1) (r .1) c u (h .1) (and-both _ _ a .1)
       (known-part _ k λ b p. or-right _ _ p)

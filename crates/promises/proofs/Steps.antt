@@ -10,7 +10,7 @@ use lib.Dec.{eqb, leb}
 use lib.ListN.{length, replicate, length-replicate}
 use borrow.Author.Tests.{eqb-true, eq-eqb, le-leb}
 use Rattle.rules.specs.Bytes.{Bytes, byteAt, _or_}
-use Rattle.rules.specs.Layout.{mostNodes, cells, typeAt, cellAt, stateLength, checksOf, lastTime, sumIn, noTime, setTime, timeIn}
+use Rattle.rules.specs.Layout.{edition, mostNodes, cells, typeAt, cellAt, stateLength, checksOf, lastTime, sumIn, noTime, setTime, timeIn}
 use Rattle.rules.specs.Work.{_plus_, Updated, Next}
 use Rattle.rules.specs.Tree.{root}
 use Rattle.rules.specs.Scope.{unmarked, isMarked, isOffered, scopeFault}
@@ -148,9 +148,9 @@ unfolding stepOf evaluated updated bound scopeFault typeFault readyFault stateLe
 step-goes p rec st acc seat well hs hr =
     let env : Env = unbound mostNodes in
     let w = well-parts p st well in
-    let g = soundS (root p) mostNodes (cells p) (typeAt p) rec st hr hs (seat .sits) (unmarked mostNodes) [] env (unbound-length mostNodes)
+    let g = soundS (root p) (edition p) mostNodes (cells p) (typeAt p) rec st hr hs (seat .sits) (unmarked mostNodes) [] env (unbound-length mostNodes)
     (acc .scope-right) (acc .types-right) (acc .ready-right) (w .parts) (nothing-known mostNodes (typeAt p) env _) in
-    let u = ended (update-goes mostNodes (cells p) (typeAt p) rec hr (root p) (seat .sits) (seat .once) (unmarked mostNodes) [] env (unbound-length mostNodes)
+    let u = ended (update-goes (edition p) mostNodes (cells p) (typeAt p) rec hr (root p) (seat .sits) (seat .once) (unmarked mostNodes) [] env (unbound-length mostNodes)
     (acc .scope-right) (acc .types-right) (acc .ready-right) (nothing-known mostNodes (typeAt p) env _) st hs (w .long) (w .parts)) in
     record {
       output = g .value;

@@ -13,7 +13,7 @@ use Rattle.rules.specs.Bytes.{Bytes, if_then_else_, _and_}
 use Rattle.rules.specs.Values.{typeOf, packed, middleIn}
 use Rattle.rules.specs.Layout.{cell, cellAt, held, hold, isClear, branchIn}
 use Rattle.rules.specs.Tree.{Signal, input, time, ext, delay, letSignal, switch, group, until, Branches, noBranch, branch, Cases, noCase, case}
-use Rattle.rules.specs.Scope.{Marks, mark, Offers, scopeS, scopeB, scopeC}
+use Rattle.rules.specs.Scope.{Marks, mark, Offers, onward, scopeS, scopeB, scopeC}
 use Rattle.rules.specs.Typing.{typesS, typesB, typesC, bodiesHave}
 use Rattle.rules.specs.Ready.{readyS, readyB, readyC}
 use Rattle.rules.specs.Reset.{restsS}
@@ -75,10 +75,10 @@ switch-stays k t x y st st₁ own a once w =
     let ry = rests-agree y st st₁ ay in
     (λ i. if eqb (c i) 0 then wx i and ry i else contentFits t 0 (c i) and rx i and wy i) ∙ w
 
-module _ (count cells : ℕ) (τ : ℕ → ℕ) (rec : Bytes) (hr : Small rec) where
+module _ (ed count cells : ℕ) (τ : ℕ → ℕ) (rec : Bytes) (hr : Small rec) where
   -- The events of an until, in list order up to the first present one.
   first-happens : (cs : Cases) → SitsC count cells τ cs → (Γ : Marks) (Δ : Offers) (env : Env) → length env ≡ count
-      → scopeC Γ Δ cs ≡ Nowhere → typesC cs ≡ Nowhere → readyC cs ≡ Nowhere → AllKnown Γ τ env
+      → scopeC ed Γ Δ cs ≡ Nowhere → typesC cs ≡ Nowhere → readyC cs ≡ Nowhere → AllKnown Γ τ env
       → (st : Bytes) → Small st → wellC st cs ≡ true → Happens Δ τ (firstPresent rec st env cs)
   unfolding firstPresent scopeS typesS readyS wellS
   first-happens noCase sits Γ Δ env l sc ty re kn st hs we = quiet
@@ -91,7 +91,7 @@ module _ (count cells : ℕ) (τ : ℕ → ℕ) (rec : Bytes) (hr : Small rec) w
       let w = and-both _ _ we in
       occurs-happens t target
       (retype (eqb-true _ _ (holds _ n (q .0)))
-      (soundS event count cells τ rec st hr hs (sits .1) Γ [] env l (s₁ .0) (q₁ .0) (r .0) (w .0) (needed _ kn)))
+      (soundS event ed count cells τ rec st hr hs (sits .1) Γ [] env l (s₁ .0) (q₁ .0) (r .0) (w .0) (needed _ kn)))
       (holds _ n (s .0)) (sits .0)
       (first-happens more (sits .2) Γ Δ env l (s₁ .1) (q₁ .1) (r .1) kn st hs (w .1))
 
@@ -100,7 +100,7 @@ module _ (count cells : ℕ) (τ : ℕ → ℕ) (rec : Bytes) (hr : Small rec) w
 
     -- A signal's update.
     pub update-goes : (s : Signal) → SitsS count cells τ s → ((k : ℕ) → timesS k s ≤ 1) → (Γ : Marks) (Δ : Offers) (env : Env) → length env ≡ count
-        → scopeS Γ Δ s ≡ Nowhere → typesS s ≡ Nowhere → readyS s ≡ Nowhere → AllKnown Γ τ env
+        → scopeS ed Γ Δ s ≡ Nowhere → typesS s ≡ Nowhere → readyS s ≡ Nowhere → AllKnown Γ τ env
         → (st : Bytes) → Small st → length st ≡ cellAt cells → wellS st s ≡ true
         → Goes Δ τ (λ k. timesS k s) (λ q. wellS q s) st (updS rec env s st)
     update-goes (input n c) sits once Γ Δ env l sc ty re kn st hs ls we = rule-goes (leave-goes (kept-self _ st hs) refl)
@@ -109,7 +109,7 @@ module _ (count cells : ℕ) (τ : ℕ → ℕ) (rec : Bytes) (hr : Small rec) w
     update-goes (delay n k v s) sits once Γ Δ env l sc ty re kn st hs ls we =
         let q = both _ _ ty in
         let w = and-both _ _ we in
-        rule-goes (with-goes _ (soundS s count cells τ rec st hr hs (sits .2) Γ [] env l sc (q .1) re (w .1) (needed _ kn)) λ u f e.
+        rule-goes (with-goes _ (soundS s ed count cells τ rec st hr hs (sits .2) Γ [] env l sc (q .1) re (w .1) (needed _ kn)) λ u f e.
         then-goes _ (update-goes s (sits .2) (λ j. omega (arith, once j)) Γ [] env l sc (q .1) re kn st hs ls (w .1)) λ st₁ a e₁.
         let b = hold-set st₁ k cells u (sits .0) (a .bytes) (a .long ∙ ls) f in
         leave-goes (kept-then (λ j z. omega arith) (λ j z. omega arith) a (b .kept))
@@ -124,7 +124,7 @@ module _ (count cells : ℕ) (τ : ℕ → ℕ) (rec : Bytes) (hr : Small rec) w
         let w = and-both _ _ we in
         rule-goes (with-goes _
         (retype (eqb-true _ _ (holds _ n (q .0)))
-        (soundS d count cells τ rec st hr hs (sits .1) (mark Γ n) [] env l (s .0) (q₁ .0) (r₁ .0) (w .0)
+        (soundS d ed count cells τ rec st hr hs (sits .1) (mark Γ n) [] env l (s .0) (q₁ .0) (r₁ .0) (w .0)
         (record { known = definition-known n d Γ τ env (kept _ n (r .0)) λ a m p. kn .known a m refl }))) λ v f e.
         let kn₁ = bound-more Γ env n v (rw l (sits .0 .below)) f (e ∙ sits .0 .declared) kn in
         then-goes _
@@ -144,7 +144,7 @@ module _ (count cells : ℕ) (τ : ℕ → ℕ) (rec : Bytes) (hr : Small rec) w
         let h = and-both _ _ (holds _ n (q .0)) in
         let w = and-both _ _ we in
         rule-goes (with-goes _
-        (retype (eqb-true _ _ (h .0)) (soundS e count cells τ rec st hr hs (sits .3) Γ [] env l (s₁ .0) (q₂ .0) (r₁ .0) (w .0) (needed _ kn))) λ event f ev.
+        (retype (eqb-true _ _ (h .0)) (soundS e ed count cells τ rec st hr hs (sits .3) Γ [] env l (s₁ .0) (q₂ .0) (r₁ .0) (w .0) (needed _ kn))) λ event f ev.
         then-goes _ (update-goes e (sits .3) (λ j. omega (arith, once j)) Γ [] env l (s₁ .0) (q₂ .0) (r₁ .0) kn st hs ls (w .0)) λ st₁ a e₁.
         onEvent-goes t f ev
         (stays-goes (either-goes (isClear st₁ k) (switch-stays k t x y st st₁ _ a (λ j. omega (arith, once j)) (w .1))
@@ -176,14 +176,14 @@ module _ (count cells : ℕ) (τ : ℕ → ℕ) (rec : Bytes) (hr : Small rec) w
         let q = both _ _ ty in
         let q₁ = both _ _ (q .1) in
         let r = both _ _ re in
-        rule-goes (caught-goes count cells τ n k body brs sits once ls
+        rule-goes (caught-goes ed count cells τ n k body brs sits once ls
         (either-goes (isClear st k) we
         (λ c p.
         let p₁ = and-both _ _ p in
         goes-part (λ j z. omega arith)
         (λ st₁ a e₁. if-yes (isClear st₁ k) _ _ (clear-same st st₁ k true (a .others k (omega (arith, once k, cell-itself k))) c)
         (and-join _ _ e₁ (restsB-agree brs st st₁ (apart-agree (λ j. omega (arith, once j)) a) ∙ p₁ .1)))
-        (update-goes body (sits .1) (λ j. omega (arith, once j)) Γ (brs ∷ []) env l (s .0) (q₁ .0) (r .0) kn st hs ls (p₁ .0)))
+        (update-goes body (sits .1) (λ j. omega (arith, once j)) Γ (brs ∷ onward ed Δ) env l (s .0) (q₁ .0) (r .0) kn st hs ls (p₁ .0)))
         (λ c p.
         let p₁ = and-both _ _ p in
         goes-part (λ j z. omega arith)
@@ -191,7 +191,7 @@ module _ (count cells : ℕ) (τ : ℕ → ℕ) (rec : Bytes) (hr : Small rec) w
         let same : cell st₁ k ≡ cell st k = a .others k (omega (arith, once k, cell-itself k)) in
         if-no (isClear st₁ k) _ _ (clear-same st st₁ k false same c)
         (and-join _ _ (rests-agree body st st₁ (apart-agree (λ j. omega (arith, once j)) a) ∙ p₁ .0) (ap (λ (m : ℕ). wellB st₁ m brs) same ∙ e₁)))
-        (updateB-goes brs (sits .2) (λ j. omega (arith, once j)) Γ (brs ∷ []) env l (s .1) (q₁ .1) (r .1) kn st hs ls k (p₁ .1)))))
+        (updateB-goes brs (sits .2) (λ j. omega (arith, once j)) Γ (brs ∷ onward ed Δ) env l (s .1) (q₁ .1) (r .1) kn st hs ls k (p₁ .1)))))
     update-goes (until n s cs) sits once Γ Δ env l sc ty re kn st hs ls we =
         let z = both _ _ sc in
         let q = both _ _ ty in
@@ -206,7 +206,7 @@ module _ (count cells : ℕ) (τ : ℕ → ℕ) (rec : Bytes) (hr : Small rec) w
 
     -- The branch that the content of cell k names.
     updateB-goes : (brs : Branches) → SitsB count cells τ brs → ((k : ℕ) → timesB k brs ≤ 1) → (Γ : Marks) (Δ : Offers) (env : Env) → length env ≡ count
-        → scopeB Γ Δ brs ≡ Nowhere → typesB brs ≡ Nowhere → readyB brs ≡ Nowhere → AllKnown Γ τ env
+        → scopeB ed Γ Δ brs ≡ Nowhere → typesB brs ≡ Nowhere → readyB brs ≡ Nowhere → AllKnown Γ τ env
         → (st : Bytes) → Small st → length st ≡ cellAt cells → (k : ℕ) → wellB st (cell st k) brs ≡ true
         → Goes Δ τ (λ j. timesB j brs) (λ q. wellB q (cell st k) brs) st (updB rec env (branchIn st k) (held st k) brs st)
     updateB-goes noBranch sits once Γ Δ env l sc ty re kn st hs ls k we = absurd (not-both we)
@@ -233,7 +233,7 @@ module _ (count cells : ℕ) (τ : ℕ → ℕ) (rec : Bytes) (hr : Small rec) w
 
     -- The events of an until: no jump leaves them.
     pub updateC-goes : (cs : Cases) → SitsC count cells τ cs → ((k : ℕ) → timesC k cs ≤ 1) → (Γ : Marks) (Δ : Offers) (env : Env) → length env ≡ count
-        → scopeC Γ Δ cs ≡ Nowhere → typesC cs ≡ Nowhere → readyC cs ≡ Nowhere → AllKnown Γ τ env
+        → scopeC ed Γ Δ cs ≡ Nowhere → typesC cs ≡ Nowhere → readyC cs ≡ Nowhere → AllKnown Γ τ env
         → (st : Bytes) → Small st → length st ≡ cellAt cells → wellC st cs ≡ true
         → Goes [] τ (λ j. timesC j cs) (λ q. wellC q cs) st (updC rec env cs st)
     updateC-goes noCase sits once Γ Δ env l sc ty re kn st hs ls we = leave-goes (kept-self _ st hs) refl

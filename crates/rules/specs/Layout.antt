@@ -19,12 +19,20 @@ blocks p = length p / 512
 unfoldable pub blockAt : ℕ → ℕ
 blockAt j = 512 * j
 
--- Bytes 0-1: block number. Bytes 2-3: count of blocks. Bytes 508-511: the check.
+-- Bytes 0-1: block number. Byte 2: count of blocks. Byte 3: the edition, 0 for edition one and 1 for edition two. Bytes 508-511: the check.
+-- (Edition one names bytes 2-3 as the count, which is at most 24: byte 3 is zero.)
 unfoldable pub numberIn : Bytes → ℕ → ℕ
 numberIn p j = u16At p (blockAt j)
 
 unfoldable pub countIn : Bytes → ℕ → ℕ
-countIn p j = u16At p (blockAt j + 2)
+countIn p j = byteAt p (blockAt j + 2)
+
+unfoldable pub editionIn : Bytes → ℕ → ℕ
+editionIn p j = byteAt p (blockAt j + 3)
+
+-- A program's edition is its first block's.
+unfoldable pub edition : Bytes → ℕ
+edition p = editionIn p 0
 
 unfoldable pub checkIn : Bytes → ℕ → ℕ
 checkIn p j = u32At p (blockAt j + 508)

@@ -7,11 +7,11 @@ use Rattle.rules.specs.Bytes.{Bytes, bytesOf, u64At}
 use Rattle.rules.specs.Values.{boolT, intT, maybeOf, unpacked, packed, valueBytes}
 use Rattle.rules.specs.Layout.{noNext, noTime, checksOf, stateLength}
 use Rattle.rules.specs.Calls.{checkCall, startCall, runCall}
-use Rattle.rules.specs.Samples.{minus, joined, program, quiet, event, twoEvents, stray, input, ext, delay, letSignal, switch, letContinue, until, branch, case, variable, constant, truth, operation, add, divide, negation, choice}
+use Rattle.rules.specs.Samples.{minus, joined, program, programIn, programTwo, quiet, event, eventFive, twoEvents, stray, input, ext, delay, letSignal, switch, letContinue, until, branch, case, variable, constant, truth, operation, add, divide, negation, choice}
 use Rattle.rules.specs.declared.Value.{Value}
 use Rattle.rules.specs.declared.Value.the-variants.{Plain, Absent, Present}
 use Rattle.rules.specs.declared.Refusal.{Refusal}
-use Rattle.rules.specs.declared.Refusal.the-variants.{TypeFault, NotReady, InputFault}
+use Rattle.rules.specs.declared.Refusal.the-variants.{BlockNumber, ScopeFault, TypeFault, NotReady, InputFault}
 use Rattle.rules.specs.declared.Checked.{Checked}
 use Rattle.rules.specs.declared.Checked.the-variants.{Accepted}
 use Rattle.rules.specs.declared.Ran.{Ran}
@@ -395,11 +395,84 @@ rowAbsent =
       sight = expect (Accepted 1 0 2 intT) (no₀ ∷ no₀ ∷ no₀ ∷ no₀ ∷ []) (Ran.Refused (InputFault 0) 0) (stateOf inputOnly noTime []);
     }
 
--- The table: the paper's readings, and rows that tell each operation, the smallest place and the absent words.
+-- J (edition two): the group berth inside the branch final of the group arrival; in berth's branch fast, input 5 goes around, which leaves both
+-- groups at once. fast is node 15, berth node 16, final node 17, around node 23 (the first of the list) and arrival node 24.
+abbrev pub fast : ℕ
+fast = 15
+
+abbrev pub final : ℕ
+final = 17
+
+abbrev pub around : ℕ
+around = 23
+
+abbrev pub arriving : List Bytes
+arriving =
+    let nought : ℕ = 0 in let still : ℕ = 1 in let near : ℕ = 2 in let approach : ℕ = 3 in let body : ℕ = 4 in
+    let one : ℕ = 5 in let alongside : ℕ = 6 in let ropes : ℕ = 7 in let made₀ : ℕ = 8 in let berthBody : ℕ = 9 in
+    let x : ℕ = 10 in let moored : ℕ = 11 in let off : ℕ = 12 in let goAround : ℕ = 13 in let fastBody : ℕ = 14 in
+    let berth : ℕ = 16 in
+    let y : ℕ = 18 in let waiting : ℕ = 19 in let again : ℕ = 20 in let back : ℕ = 21 in let aroundBody : ℕ = 22 in
+    constant 0
+    ∷ ext nought
+    ∷ input 4
+    ∷ case near noNext final
+    ∷ until still approach
+    ∷ constant 1
+    ∷ ext one
+    ∷ input 4
+    ∷ case ropes noNext fast
+    ∷ until alongside made₀
+    ∷ variable fast
+    ∷ ext x
+    ∷ input 5
+    ∷ case off noNext around
+    ∷ until moored goAround
+    ∷ branch fastBody noNext
+    ∷ letContinue berthBody fast
+    ∷ branch berth noNext
+    ∷ variable around
+    ∷ ext y
+    ∷ input 4
+    ∷ case again noNext final
+    ∷ until waiting back
+    ∷ branch aroundBody final
+    ∷ letContinue body around
+    ∷ []
+
+-- Events none, 7, 9, 8 on channel 5, 6, none give 0, 0, 1, 9, 8, 1; work 9, 7, 9, 9, 7, 11. The go-around puts berth to start: when final is
+-- taken again, berth is in its body. At the end arrival is in final, with the argument 6.
+abbrev pub rowJ : Row
+rowJ = record {
+  program = programTwo arriving;
+  records = quiet 0 ∷ event 1 7 ∷ event 2 9 ∷ eventFive 3 8 ∷ event 4 6 ∷ quiet 5 ∷ [];
+  sight = expect (Accepted 25 2 11 intT)
+      (made (int 0) 9 ∷ made (int 0) 7 ∷ made (int 1) 9 ∷ made (int 9) 9 ∷ made (int 8) 7 ∷ made (int 1) 11 ∷ []) (Finished 6 52)
+      (stateOf (programTwo arriving) 5 (replicate 8 0 ∷ inBranch final 6 ∷ []));
+}
+
+-- The same table in edition one: the case is out of scope, since only the first group counts.
+abbrev pub rowJone : Row
+rowJone = record {
+  program = program arriving;
+  records = [];
+  sight = expect (Checked.Refused (ScopeFault 13)) [] (Ran.Refused (ScopeFault 13) 0) (replicate 24 0);
+}
+
+-- An edition above 1.
+abbrev pub rowJthree : Row
+rowJthree = record {
+  program = programIn 2 arriving;
+  records = [];
+  sight = expect (Checked.Refused (BlockNumber 0)) [] (Ran.Refused (BlockNumber 0) 0) (replicate 24 0);
+}
+
+-- The table: the paper's readings, and rows that tell each operation, the smallest place and the absent words; and edition two's.
 abbrev pub readings : List Row
 readings =
     rowA ∷ rowB ∷ rowC ∷ rowD ∷ rowE ∷ rowF ∷ rowFnorth ∷ rowFboth ∷ rowFlowest ∷ rowG ∷ rowH ∷ rowI ∷ rowTime
-    ∷ rowSubtract ∷ rowMultiply ∷ rowLess ∷ rowEqual ∷ rowNot ∷ rowAnd ∷ rowOr ∷ rowSmallerFirst ∷ rowSmallerLast ∷ rowAbsent ∷ []
+    ∷ rowSubtract ∷ rowMultiply ∷ rowLess ∷ rowEqual ∷ rowNot ∷ rowAnd ∷ rowOr ∷ rowSmallerFirst ∷ rowSmallerLast ∷ rowAbsent
+    ∷ rowJ ∷ rowJone ∷ rowJthree ∷ []
 
 -- Every row is seen as it should be.
 abbrev pub sights : List Row → List Seen

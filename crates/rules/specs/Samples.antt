@@ -77,20 +77,27 @@ abbrev pub joined : List Bytes → Bytes
 joined [] = []
 joined (x ∷ xs) = x ++ joined xs
 
--- Blocks of 42 nodes each, with number, count and check.
+-- Blocks of 42 nodes each, with number, count, edition and check.
 abbrev pub padded : ℕ → Bytes → Bytes
 padded n s = s ++ replicate (n - length s) 0
 
 abbrev pub checked : Bytes → Bytes
 checked s = s ++ bytesOf 4 (checkOf s)
 
-abbrev pub blocksFrom : ℕ → ℕ → ℕ → Bytes → Bytes
-blocksFrom zero j count s = []
-blocksFrom (suc left) j count s =
-    checked (bytesOf 2 j ++ bytesOf 2 count ++ padded 504 (take 504 s)) ++ blocksFrom left (suc j) count (drop 504 s)
+abbrev pub blocksFrom : ℕ → ℕ → ℕ → ℕ → Bytes → Bytes
+blocksFrom zero j count e s = []
+blocksFrom (suc left) j count e s =
+    checked (bytesOf 2 j ++ count ∷ e ∷ padded 504 (take 504 s)) ++ blocksFrom left (suc j) count e (drop 504 s)
 
+abbrev pub programIn : ℕ → List Bytes → Bytes
+programIn e rows = let count = (length rows + 41) / 42 in blocksFrom count 0 count e (joined rows)
+
+-- In edition one, and in edition two.
 abbrev pub program : List Bytes → Bytes
-program rows = let count = (length rows + 41) / 42 in blocksFrom count 0 count (joined rows)
+program rows = programIn 0 rows
+
+abbrev pub programTwo : List Bytes → Bytes
+programTwo rows = programIn 1 rows
 
 -- A record: time, channels 0-3, and channels 4-7, each absent or present.
 abbrev pub words : List ℕ → Bytes
@@ -110,12 +117,16 @@ eventWords (some w ∷ es) = bytesOf 4 w ++ eventWords es
 abbrev pub reading : ℕ → List ℕ → List (Option ℕ) → Bytes
 reading t channels events = bytesOf 4 t ++ words channels ++ flags events ∷ 0 ∷ 0 ∷ 0 ∷ eventWords events
 
--- A record at a time whose channels 0-3 are zero: with no event, with one on channel 4, with one each on channels 4 and 5.
+-- A record at a time whose channels 0-3 are zero: with no event, with one on channel 4, with one on channel 5, with one
+-- each on channels 4 and 5.
 abbrev pub quiet : ℕ → Bytes
 quiet t = reading t (0 ∷ 0 ∷ 0 ∷ 0 ∷ []) (none ∷ none ∷ none ∷ none ∷ [])
 
 abbrev pub event : ℕ → ℕ → Bytes
 event t x = reading t (0 ∷ 0 ∷ 0 ∷ 0 ∷ []) (some x ∷ none ∷ none ∷ none ∷ [])
+
+abbrev pub eventFive : ℕ → ℕ → Bytes
+eventFive t x = reading t (0 ∷ 0 ∷ 0 ∷ 0 ∷ []) (none ∷ some x ∷ none ∷ none ∷ [])
 
 abbrev pub twoEvents : ℕ → ℕ → ℕ → Bytes
 twoEvents t x y = reading t (0 ∷ 0 ∷ 0 ∷ 0 ∷ []) (some x ∷ some y ∷ none ∷ none ∷ [])

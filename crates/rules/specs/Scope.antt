@@ -1,12 +1,12 @@
--- Code 6: scope. Going down, a context says which binders are in scope and which branches the first group upward offers.
+-- Code 6: scope. Going down, a context says which binders are in scope and which branches the groups upward offer.
 -- Assumes nothing: these are definitions.
-use Prim.Native.Nat.{ℕ}
+use Prim.Native.Nat.{ℕ, zero, suc}
 use mathlib.Core.List.{List, [], _∷_}
 use mathlib.Core.Bool.{Bool, false}
 use lib.ListN.{getD, set, replicate}
 use lib.Dec.{eqb}
 use Rattle.rules.specs.Bytes.{Bytes, _or_}
-use Rattle.rules.specs.Layout.{mostNodes}
+use Rattle.rules.specs.Layout.{mostNodes, edition}
 use Rattle.rules.specs.Places.{sooner, wrongUnless}
 use Rattle.rules.specs.Tree.{Expr, variable, constant, operation, negation, choice, just, taking, Signal, input, time, ext, delay, letSignal, switch, group, until, Branches, noBranch, branch, Cases, noCase, case, root}
 use Rattle.rules.specs.declared.Place.{Place}
@@ -30,13 +30,19 @@ unfoldable pub hasBranch : ℕ → Branches → Bool
 hasBranch k noBranch = false
 hasBranch k (branch n t body next) = eqb n k or hasBranch k next
 
--- The groups that a case may leave for: their branches. (At most one: the first group upward.)
+-- The groups that a case may leave for: their branches.
 abbrev pub Offers : Type 0
 Offers = List Branches
 
 unfoldable pub isOffered : ℕ → Offers → Bool
 isOffered k [] = false
 isOffered k (brs ∷ more) = hasBranch k brs or isOffered k more
+
+-- Those that a group hands on to its parts: none in edition one, where only the first group upward counts; all in edition two, where the way up
+-- may pass on through an inner let continue's body or branches.
+unfoldable pub onward : ℕ → Offers → Offers
+onward zero Δ = []
+onward (suc e) Δ = Δ
 
 -- A variable's binder is above it; a take is entered by its present arm.
 unfoldable pub scopeE : Marks → Expr → Place
@@ -49,29 +55,30 @@ scopeE Γ (just n x) = scopeE Γ x
 scopeE Γ (taking n t m x y) = sooner (scopeE Γ m) (sooner (scopeE Γ x) (scopeE (mark Γ n) y))
 
 -- A let is entered by either part, a switch by its second, a branch by its body. Only let bodies, let continue bodies, branch bodies and
--- branch lists lead on to the group (Δ); a group's own branches are offered in its body and its branches.
+-- branch lists lead on to the group (Δ); a group's own branches are offered in its body and its branches, beside what it hands on.
 unfoldable mutual
-  pub scopeS : Marks → Offers → Signal → Place
-  scopeS Γ Δ (input n c) = Nowhere
-  scopeS Γ Δ (time n) = Nowhere
-  scopeS Γ Δ (ext n e) = scopeE Γ e
-  scopeS Γ Δ (delay n k v s) = scopeS Γ [] s
-  scopeS Γ Δ (letSignal n t d b) = sooner (scopeS (mark Γ n) [] d) (scopeS (mark Γ n) Δ b)
-  scopeS Γ Δ (switch n k t x e y) =
-      sooner (scopeS Γ [] x) (sooner (scopeS Γ [] e) (scopeS (mark Γ n) [] y))
-  scopeS Γ Δ (group n k body brs) = sooner (scopeS Γ (brs ∷ []) body) (scopeB Γ (brs ∷ []) brs)
-  scopeS Γ Δ (until n s cs) = sooner (scopeS Γ [] s) (scopeC Γ Δ cs)
+  pub scopeS : ℕ → Marks → Offers → Signal → Place
+  scopeS e Γ Δ (input n c) = Nowhere
+  scopeS e Γ Δ (time n) = Nowhere
+  scopeS e Γ Δ (ext n x) = scopeE Γ x
+  scopeS e Γ Δ (delay n k v s) = scopeS e Γ [] s
+  scopeS e Γ Δ (letSignal n t d b) = sooner (scopeS e (mark Γ n) [] d) (scopeS e (mark Γ n) Δ b)
+  scopeS e Γ Δ (switch n k t x event y) =
+      sooner (scopeS e Γ [] x) (sooner (scopeS e Γ [] event) (scopeS e (mark Γ n) [] y))
+  scopeS e Γ Δ (group n k body brs) =
+      sooner (scopeS e Γ (brs ∷ onward e Δ) body) (scopeB e Γ (brs ∷ onward e Δ) brs)
+  scopeS e Γ Δ (until n s cs) = sooner (scopeS e Γ [] s) (scopeC e Γ Δ cs)
 
-  pub scopeB : Marks → Offers → Branches → Place
-  scopeB Γ Δ noBranch = Nowhere
-  scopeB Γ Δ (branch n t body next) = sooner (scopeS (mark Γ n) Δ body) (scopeB Γ Δ next)
+  pub scopeB : ℕ → Marks → Offers → Branches → Place
+  scopeB e Γ Δ noBranch = Nowhere
+  scopeB e Γ Δ (branch n t body next) = sooner (scopeS e (mark Γ n) Δ body) (scopeB e Γ Δ next)
 
-  -- A case's target is a branch of that group.
-  pub scopeC : Marks → Offers → Cases → Place
-  scopeC Γ Δ noCase = Nowhere
-  scopeC Γ Δ (case n event target t next) =
-      sooner (wrongUnless (isOffered target Δ) n) (sooner (scopeS Γ [] event) (scopeC Γ Δ next))
+  -- A case's target is a branch of that group, or in edition two of any group met.
+  pub scopeC : ℕ → Marks → Offers → Cases → Place
+  scopeC e Γ Δ noCase = Nowhere
+  scopeC e Γ Δ (case n event target t next) =
+      sooner (wrongUnless (isOffered target Δ) n) (sooner (scopeS e Γ [] event) (scopeC e Γ Δ next))
 
 -- The smallest variable or case out of scope.
 unfoldable pub scopeFault : Bytes → Place
-scopeFault p = scopeS (unmarked mostNodes) [] (root p)
+scopeFault p = scopeS (edition p) (unmarked mostNodes) [] (root p)

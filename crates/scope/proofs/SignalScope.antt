@@ -13,109 +13,73 @@ use Rattle.rules.specs.Kinds.{isSignal, isBranch, isCase}
 use Rattle.rules.specs.Places.{sooner, wrongUnless}
 use Rattle.rules.specs.declared.Place.the-variants.{Nowhere}
 use Rattle.rules.specs.Tree.{exprAt, signalAt, branchesAt, casesAt, noBranch, noCase}
-use Rattle.rules.specs.Scope.{Marks, Offers, mark, hasBranch, isOffered, scopeE, scopeS, scopeB, scopeC}
+use Rattle.rules.specs.Scope.{Marks, Offers, mark, onward, isOffered, scopeE, scopeS, scopeB, scopeC}
 use Rattle.rules.proofs.Static.{and-both}
 use Rattle.rules.proofs.Nodes.{below-lt, below-ge, signal-input, signal-time, signal-ext, signal-delay, signal-let, signal-switch, signal-group, signal-until}
 use Rattle.rules.specs.Shaped.{NodeOf}
 use Rattle.rules.proofs.Signals.{less, ext-kid, delay-kid, let-kids, switch-kids, group-kids, until-kids, branch-next, branch-law, case-next, case-law}
-use Rattle.cells.specs.Indexed.{Listed}
-use Rattle.scope.specs.Offers.{offersAt, Offered}
 
-pub none-offered : (p : Bytes) → offersAt p 65535 ≡ []
-unfolding offersAt
-none-offered p = refl
-
-pub some-offered : (p : Bytes) (g : ℕ) → (g ≡ 65535 → ⊥) → offersAt p g ≡ branchesAt p g ∷ []
-unfolding offersAt
-some-offered p g d = simp (ne-eqb g 65535 d)
-
-or-false : (b : Bool) → (b or false) ≡ b
-unfolding _or_
-or-false true = refl
-or-false false = refl
-
-pub offered-none : (p : Bytes) (g k : ℕ) → g ≡ 65535 → isOffered k (offersAt p g) ≡ false
-unfolding offersAt isOffered
-offered-none p g k e = simp (eq-eqb g 65535 e)
-
-pub offered-some : (p : Bytes) (g k : ℕ) → (g ≡ 65535 → ⊥) → isOffered k (offersAt p g) ≡ hasBranch k (branchesAt p g)
-unfolding isOffered
-offered-some p g k d = ap (isOffered k) (some-offered p g d) ∙ or-false _
-
--- What the recursion carries where no group is to be left for,
-pub no-offer : {p : Bytes} {homes : List ℕ} → Listed p homes → Offered p homes 65535
-no-offer x = record { listed = x; offered = λ d. absurd (d refl); first = λ d. absurd (d refl) }
-
--- and below a group, by the field that was read: its first branch has its own number in the table.
-pub own-offer : {p : Bytes} {homes : List ℕ} {i b : ℕ} → Listed p homes → NodeOf isSignal p i → kindAt p i ≡ 7 → b ≡ bAt p i → Offered p homes b
-own-offer {p} {i = i} x w k e = rw e (record { listed = x; offered = λ _. group-kids p i w k .1 .node; first = λ _. x .firsts i w k })
-
-module _ (p : Bytes) (n : ℕ) (w : NodeOf isBranch p n) where
+module _ (ed : ℕ) (p : Bytes) (n : ℕ) (w : NodeOf isBranch p n) where
   pub branch-last-scope : (Γ : Marks) (Δ : Offers) → bAt p n ≡ 65535
-      → scopeB Γ Δ (branchesAt p n) ≡ sooner (scopeS (mark Γ n) Δ (signalAt p (aAt p n))) Nowhere
+      → scopeB ed Γ Δ (branchesAt p n) ≡ sooner (scopeS ed (mark Γ n) Δ (signalAt p (aAt p n))) Nowhere
   unfolding scopeB
   branch-last-scope Γ Δ e =
-      ap (scopeB Γ Δ) (branch-law p n w (below-ge n noBranch (branchesAt p) (bAt p n) (omega (arith, w .inside, w .shaped .small))))
+      ap (scopeB ed Γ Δ) (branch-law p n w (below-ge n noBranch (branchesAt p) (bAt p n) (omega (arith, w .inside, w .shaped .small))))
 
   pub branch-more-scope : (Γ : Marks) (Δ : Offers) → (bAt p n ≡ 65535 → ⊥)
-      → scopeB Γ Δ (branchesAt p n) ≡ sooner (scopeS (mark Γ n) Δ (signalAt p (aAt p n))) (scopeB Γ Δ (branchesAt p (bAt p n)))
+      → scopeB ed Γ Δ (branchesAt p n) ≡ sooner (scopeS ed (mark Γ n) Δ (signalAt p (aAt p n))) (scopeB ed Γ Δ (branchesAt p (bAt p n)))
   unfolding scopeB
   branch-more-scope Γ Δ e =
-      ap (scopeB Γ Δ) (branch-law p n w (below-lt n noBranch (branchesAt p) (bAt p n) (branch-next p n w e .less)))
+      ap (scopeB ed Γ Δ) (branch-law p n w (below-lt n noBranch (branchesAt p) (bAt p n) (branch-next p n w e .less)))
 
-module _ (p : Bytes) (n : ℕ) (w : NodeOf isCase p n) (Γ : Marks) (Δ : Offers) where
+module _ (ed : ℕ) (p : Bytes) (n : ℕ) (w : NodeOf isCase p n) (Γ : Marks) (Δ : Offers) where
   pub case-last-scope : bAt p n ≡ 65535
-      → scopeC Γ Δ (casesAt p n) ≡ sooner (wrongUnless (isOffered (cAt p n) Δ) n) (sooner (scopeS Γ (offersAt p 65535) (signalAt p (aAt p n))) Nowhere)
-  unfolding scopeC offersAt
+      → scopeC ed Γ Δ (casesAt p n) ≡ sooner (wrongUnless (isOffered (cAt p n) Δ) n) (sooner (scopeS ed Γ [] (signalAt p (aAt p n))) Nowhere)
+  unfolding scopeC
   case-last-scope e =
-      ap (scopeC Γ Δ) (case-law p n w (below-ge n noCase (casesAt p) (bAt p n) (omega (arith, w .inside, w .shaped .small))))
+      ap (scopeC ed Γ Δ) (case-law p n w (below-ge n noCase (casesAt p) (bAt p n) (omega (arith, w .inside, w .shaped .small))))
 
   pub case-more-scope : (bAt p n ≡ 65535 → ⊥)
-      → scopeC Γ Δ (casesAt p n) ≡ sooner (wrongUnless (isOffered (cAt p n) Δ) n) (sooner (scopeS Γ (offersAt p 65535) (signalAt p (aAt p n))) (scopeC Γ Δ (casesAt p (bAt p n))))
-  unfolding scopeC offersAt
+      → scopeC ed Γ Δ (casesAt p n) ≡ sooner (wrongUnless (isOffered (cAt p n) Δ) n) (sooner (scopeS ed Γ [] (signalAt p (aAt p n))) (scopeC ed Γ Δ (casesAt p (bAt p n))))
+  unfolding scopeC
   case-more-scope e =
-      ap (scopeC Γ Δ) (case-law p n w (below-lt n noCase (casesAt p) (bAt p n) (case-next p n w e .less)))
+      ap (scopeC ed Γ Δ) (case-law p n w (below-lt n noCase (casesAt p) (bAt p n) (case-next p n w e .less)))
 
-module _ (p : Bytes) (n : ℕ) (w : NodeOf isSignal p n) (Γ : Marks) (Δ : Offers) where
-  pub ext-scope : kindAt p n ≡ 3 → scopeS Γ Δ (signalAt p n) ≡ scopeE Γ (exprAt p (aAt p n))
+module _ (ed : ℕ) (p : Bytes) (n : ℕ) (w : NodeOf isSignal p n) (Γ : Marks) (Δ : Offers) where
+  pub ext-scope : kindAt p n ≡ 3 → scopeS ed Γ Δ (signalAt p n) ≡ scopeE Γ (exprAt p (aAt p n))
   unfolding scopeS
-  ext-scope e = ap (scopeS Γ Δ) (signal-ext p n e (ext-kid p n w e .less))
+  ext-scope e = ap (scopeS ed Γ Δ) (signal-ext p n e (ext-kid p n w e .less))
 
-  pub delay-scope : kindAt p n ≡ 4 → scopeS Γ Δ (signalAt p n) ≡ scopeS Γ (offersAt p 65535) (signalAt p (aAt p n))
-  unfolding scopeS offersAt
-  delay-scope e = ap (scopeS Γ Δ) (signal-delay p n e (delay-kid p n w e .less))
+  pub delay-scope : kindAt p n ≡ 4 → scopeS ed Γ Δ (signalAt p n) ≡ scopeS ed Γ [] (signalAt p (aAt p n))
+  unfolding scopeS
+  delay-scope e = ap (scopeS ed Γ Δ) (signal-delay p n e (delay-kid p n w e .less))
 
   pub let-scope : kindAt p n ≡ 5
-      → scopeS Γ Δ (signalAt p n) ≡ sooner (scopeS (mark Γ n) (offersAt p 65535) (signalAt p (aAt p n))) (scopeS (mark Γ n) Δ (signalAt p (bAt p n)))
-  unfolding scopeS offersAt
-  let-scope e = let k = let-kids p n w e in ap (scopeS Γ Δ) (signal-let p n e (k .0 .less) (k .1 .less))
+      → scopeS ed Γ Δ (signalAt p n) ≡ sooner (scopeS ed (mark Γ n) [] (signalAt p (aAt p n))) (scopeS ed (mark Γ n) Δ (signalAt p (bAt p n)))
+  unfolding scopeS
+  let-scope e = let k = let-kids p n w e in ap (scopeS ed Γ Δ) (signal-let p n e (k .0 .less) (k .1 .less))
 
   pub switch-scope : kindAt p n ≡ 6
-      → scopeS Γ Δ (signalAt p n) ≡ sooner (scopeS Γ (offersAt p 65535) (signalAt p (aAt p n)))
-      (sooner (scopeS Γ (offersAt p 65535) (signalAt p (bAt p n))) (scopeS (mark Γ n) (offersAt p 65535) (signalAt p (cAt p n))))
-  unfolding scopeS offersAt
-  switch-scope e = let k = switch-kids p n w e in ap (scopeS Γ Δ) (signal-switch p n e (k .0 .less) (k .1 .less) (k .2 .less))
-
-  pub group-offer : kindAt p n ≡ 7 → offersAt p (bAt p n) ≡ branchesAt p (bAt p n) ∷ []
-  group-offer e = some-offered p (bAt p n) λ d. omega (arith, group-kids p n w e .1 .less, w .inside, w .shaped .small)
+      → scopeS ed Γ Δ (signalAt p n) ≡ sooner (scopeS ed Γ [] (signalAt p (aAt p n)))
+      (sooner (scopeS ed Γ [] (signalAt p (bAt p n))) (scopeS ed (mark Γ n) [] (signalAt p (cAt p n))))
+  unfolding scopeS
+  switch-scope e = let k = switch-kids p n w e in ap (scopeS ed Γ Δ) (signal-switch p n e (k .0 .less) (k .1 .less) (k .2 .less))
 
   pub group-scope : kindAt p n ≡ 7
-      → scopeS Γ Δ (signalAt p n) ≡ sooner (scopeS Γ (offersAt p (bAt p n)) (signalAt p (aAt p n))) (scopeB Γ (offersAt p (bAt p n)) (branchesAt p (bAt p n)))
+      → scopeS ed Γ Δ (signalAt p n)
+      ≡ sooner (scopeS ed Γ (branchesAt p (bAt p n) ∷ onward ed Δ) (signalAt p (aAt p n))) (scopeB ed Γ (branchesAt p (bAt p n) ∷ onward ed Δ) (branchesAt p (bAt p n)))
   unfolding scopeS
-  group-scope e =
-      let k = group-kids p n w e in
-      ap (scopeS Γ Δ) (signal-group p n e (k .0 .less) (k .1 .less))
-      ∙ ap (λ (o : Offers). sooner (scopeS Γ o (signalAt p (aAt p n))) (scopeB Γ o (branchesAt p (bAt p n)))) (sym (group-offer e))
+  group-scope e = let k = group-kids p n w e in ap (scopeS ed Γ Δ) (signal-group p n e (k .0 .less) (k .1 .less))
 
   pub until-scope : kindAt p n ≡ 8
-      → scopeS Γ Δ (signalAt p n) ≡ sooner (scopeS Γ (offersAt p 65535) (signalAt p (aAt p n))) (scopeC Γ Δ (casesAt p (bAt p n)))
-  unfolding scopeS offersAt
-  until-scope e = let k = until-kids p n w e in ap (scopeS Γ Δ) (signal-until p n e (k .0 .less) (k .1 .less))
-
-  one-or-two : (b : Bool) → eqb (kindAt p n) 1 ≡ b → 1 ≤ kindAt p n → kindAt p n ≤ 2 → scopeS Γ Δ (signalAt p n) ≡ Nowhere
+      → scopeS ed Γ Δ (signalAt p n) ≡ sooner (scopeS ed Γ [] (signalAt p (aAt p n))) (scopeC ed Γ Δ (casesAt p (bAt p n)))
   unfolding scopeS
-  one-or-two true q l u = ap (scopeS Γ Δ) (signal-input p n (eqb-true _ _ q))
-  one-or-two false q l u = ap (scopeS Γ Δ) (signal-time p n (two (kindAt p n) q l u))
+  until-scope e = let k = until-kids p n w e in ap (scopeS ed Γ Δ) (signal-until p n e (k .0 .less) (k .1 .less))
+
+  one-or-two : (b : Bool) → eqb (kindAt p n) 1 ≡ b → 1 ≤ kindAt p n → kindAt p n ≤ 2 → scopeS ed Γ Δ (signalAt p n) ≡ Nowhere
+  unfolding scopeS
+  one-or-two true q l u = ap (scopeS ed Γ Δ) (signal-input p n (eqb-true _ _ q))
+  one-or-two false q l u = ap (scopeS ed Γ Δ) (signal-time p n (two (kindAt p n) q l u))
     where
       two : (m : ℕ) → eqb m 1 ≡ false → 1 ≤ m → m ≤ 2 → m ≡ 2
       two m q l u = omega (arith, eqb-false m 1 q)
@@ -123,7 +87,7 @@ module _ (p : Bytes) (n : ℕ) (w : NodeOf isSignal p n) (Γ : Marks) (Δ : Offe
   -- Input and time.
   pub leaf-scope : {A : Type 0} {m : ℕ} → m ≡ kindAt p n
       → ((((((A × (m ≡ 3 → ⊥)) × (m ≡ 4 → ⊥)) × (m ≡ 5 → ⊥)) × (m ≡ 6 → ⊥)) × (m ≡ 7 → ⊥)) × (m ≡ 8 → ⊥))
-      → scopeS Γ Δ (signalAt p n) ≡ Nowhere
+      → scopeS ed Γ Δ (signalAt p n) ≡ Nowhere
   unfolding isSignal
   leaf-scope e r =
       let b = and-both _ _ (w .sorted) in

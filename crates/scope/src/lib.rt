@@ -1,8 +1,9 @@
-// Code 6: scope, with the binders in scope marked in lent bytes, set and put back.
+// Code 6: scope, with the binders in scope marked in lent bytes and the groups upward in lent numbers, both set and put back.
 ghost use mathlib.Core.Path.{_≡_};
 ghost use mathlib.Core.Bool.{Bool};
 ghost use Prim.Native.Nat.{_+_, _-_, _*_, _≤_, _<_};
-ghost use Rattle.rules.specs.Layout.{nodes};
+ghost use lib.ListN.{length};
+ghost use Rattle.rules.specs.Layout.{nodes, edition, kindAt, aAt, bAt};
 ghost use Rattle.rules.specs.Kinds.{isExpression, isSignal, isBranch, isCase};
 ghost use Rattle.rules.specs.Places.{sooner as soonerOf, wrongUnless};
 ghost use Rattle.rules.specs.Tree.{exprAt, signalAt, branchesAt, casesAt};
@@ -10,9 +11,11 @@ ghost use Rattle.rules.specs.Scope.{mark, isMarked, isOffered, scopeE, scopeS, 
 ghost use Rattle.rules.specs.Shaped.{NodeOf};
 ghost use Rattle.places.specs.Numbers.{placeIn};
 ghost use Rattle.cells.specs.Indexed.{ListedOnce};
-ghost use Rattle.scope.specs.Offers.{offersAt, Offered};
-use branches::lists;
+ghost use Rattle.scope.specs.Open.{offersBelow, limitBelow};
+ghost use Rattle.scope.specs.Doors.{Doors};
 use cells::index_branches;
+use cells::kind_of;
+use cells::number_of;
 use places::NOWHERE;
 use places::place;
 use places::sooner;
@@ -88,52 +91,78 @@ fn inside_e(p: &&[u8], marks: &mut [u8; 1008], i: usize, k: usize) -> u32
     r
 }
 
-// Whether a case may leave for branch k, by the table of the lists' first branches.
-fn offered(p: &&[u8], homes: &[u16; 1008], group: usize, k: usize) -> bool
-    requires { ⌜ Offered (now (now p)) (now homes) group ⌝ }
-    ensures { λ r. ⌜ r ≡ isOffered k (offersAt (now (now (p .entry))) group) ⌝ }
+// Whether a case may leave for branch k: the door of its list is open, of a group below the limit.
+fn offered(
+    p: &&[u8],
+    homes: &[u16; 1008],
+    doors: &[u16; 1008],
+    limit: usize,
+    j: usize,
+    k: usize,
+) -> bool
+    requires { ⌜ NodeOf isCase (now (now p)) j × Doors (now (now p)) (now homes) (now doors) limit j ⌝ }
+    ensures { λ r. ⌜ r ≡ isOffered k (offersBelow (now (now (p .entry))) (now (doors .entry)) limit) ⌝ }
 {
-    if group == 65535 {
+    if limit <= k {
         return false;
     }
-    lists(*p, homes, group, k)
+    if kind_of(*p, k) != 9 {
+        return false;
+    }
+    let first = number_of(homes, k);
+    if first >= 1008 {
+        return false;
+    }
+    let door = number_of(doors, first);
+    if door == 0 {
+        return false;
+    }
+    door <= limit
 }
 
-// Signal i; a case may leave for the group whose first branch is given, if it is not 65535.
+// The limit below group i: in edition one only the group itself counts.
+fn within(p: &[u8], i: usize, limit: usize) -> usize
+    requires { ⌜ (4 ≤ length (now p)) × (i < 1008) ⌝ }
+    ensures { λ r. ⌜ r ≡ limitBelow (edition (now (p .entry))) i limit ⌝ }
+{
+    if p[3] == 0 {
+        return i + 1;
+    }
+    limit
+}
+
+// Signal i; a case may leave for the open groups below the limit.
 pub fn scope_s(
     p: &&[u8],
     homes: &[u16; 1008],
     marks: &mut [u8; 1008],
+    doors: &mut [u16; 1008],
     i: usize,
-    group: usize,
+    limit: usize,
 ) -> u32
-    requires { ⌜ NodeOf isSignal (now (now p)) i × Offered (now (now p)) (now homes) group ⌝ }
-    ensures { λ r. ⌜ (placeIn r ≡ scopeS (now (marks .entry)) (offersAt (now (now (p .entry))) group) (signalAt (now (now (p .entry))) i)) × (now (marks .exit) ≡ now (marks .entry)) ⌝ }
+    requires { ⌜ NodeOf isSignal (now (now p)) i × Doors (now (now p)) (now homes) (now doors) limit i ⌝ }
+    ensures { λ r. ⌜ (placeIn r ≡ scopeS (edition (now (now (p .entry)))) (now (marks .entry)) (offersBelow (now (now (p .entry))) (now (doors .entry)) limit) (signalAt (now (now (p .entry))) i)) × (now (marks .exit) ≡ now (marks .entry)) × (now (doors .exit) ≡ now (doors .entry)) ⌝ }
 {
     let n = node(*p, i);
     let k = n.kind;
     match k {
         3 => scope_e(p, marks, n.a),
-        4 => scope_s(p, homes, marks, n.a, 65535),
+        4 => scope_s(p, homes, marks, doors, n.a, i),
         5 => {
-            let d = inside_s(p, homes, marks, i, n.a, 65535);
-            let b = inside_s(p, homes, marks, i, n.b, group);
+            let d = inside_s(p, homes, marks, doors, i, n.a, i);
+            let b = inside_s(p, homes, marks, doors, i, n.b, limit);
             sooner(d, b)
         }
         6 => {
-            let x = scope_s(p, homes, marks, n.a, 65535);
-            let e = scope_s(p, homes, marks, n.b, 65535);
-            let y = inside_s(p, homes, marks, i, n.c, 65535);
+            let x = scope_s(p, homes, marks, doors, n.a, i);
+            let e = scope_s(p, homes, marks, doors, n.b, i);
+            let y = inside_s(p, homes, marks, doors, i, n.c, i);
             sooner(x, sooner(e, y))
         }
-        7 => {
-            let body = scope_s(p, homes, marks, n.a, n.b);
-            let brs = scope_b(p, homes, marks, n.b, n.b);
-            sooner(body, brs)
-        }
+        7 => inside_g(p, homes, marks, doors, i, n.a, n.b, limit),
         8 => {
-            let s = scope_s(p, homes, marks, n.a, 65535);
-            let cases = scope_c(p, homes, marks, n.b, group);
+            let s = scope_s(p, homes, marks, doors, n.a, i);
+            let cases = scope_c(p, homes, marks, doors, n.b, limit);
             sooner(s, cases)
         }
         _ => NOWHERE,
@@ -145,44 +174,82 @@ fn inside_s(
     p: &&[u8],
     homes: &[u16; 1008],
     marks: &mut [u8; 1008],
+    doors: &mut [u16; 1008],
     i: usize,
     k: usize,
-    group: usize,
+    limit: usize,
 ) -> u32
-    requires { ⌜ NodeOf isSignal (now (now p)) k × Offered (now (now p)) (now homes) group × (i < 1008) ⌝ }
-    ensures { λ r. ⌜ (placeIn r ≡ scopeS (mark (now (marks .entry)) i) (offersAt (now (now (p .entry))) group) (signalAt (now (now (p .entry))) k)) × (now (marks .exit) ≡ now (marks .entry)) ⌝ }
+    requires { ⌜ NodeOf isSignal (now (now p)) k × Doors (now (now p)) (now homes) (now doors) limit k × (i < 1008) ⌝ }
+    ensures { λ r. ⌜ (placeIn r ≡ scopeS (edition (now (now (p .entry)))) (mark (now (marks .entry)) i) (offersBelow (now (now (p .entry))) (now (doors .entry)) limit) (signalAt (now (now (p .entry))) k)) × (now (marks .exit) ≡ now (marks .entry)) × (now (doors .exit) ≡ now (doors .entry)) ⌝ }
 {
     let old = marks[i];
     marks[i] = 1;
-    let r = scope_s(p, homes, marks, k, group);
+    let r = scope_s(p, homes, marks, doors, k, limit);
     marks[i] = old;
     r
 }
 
-fn scope_b(p: &&[u8], homes: &[u16; 1008], marks: &mut [u8; 1008], j: usize, group: usize) -> u32
-    requires { ⌜ NodeOf isBranch (now (now p)) j × Offered (now (now p)) (now homes) group ⌝ }
-    ensures { λ r. ⌜ (placeIn r ≡ scopeB (now (marks .entry)) (offersAt (now (now (p .entry))) group) (branchesAt (now (now (p .entry))) j)) × (now (marks .exit) ≡ now (marks .entry)) ⌝ }
+// The parts of group i, with its door open: the body, and the branches from the first on.
+fn inside_g(
+    p: &&[u8],
+    homes: &[u16; 1008],
+    marks: &mut [u8; 1008],
+    doors: &mut [u16; 1008],
+    i: usize,
+    body: usize,
+    first: usize,
+    limit: usize,
+) -> u32
+    requires { ⌜ NodeOf isSignal (now (now p)) i × (kindAt (now (now p)) i ≡ 7) × (body ≡ aAt (now (now p)) i) × (first ≡ bAt (now (now p)) i) × Doors (now (now p)) (now homes) (now doors) limit i ⌝ }
+    ensures { λ r. ⌜ (placeIn r ≡ scopeS (edition (now (now (p .entry)))) (now (marks .entry)) (offersBelow (now (now (p .entry))) (now (doors .entry)) limit) (signalAt (now (now (p .entry))) i)) × (now (marks .exit) ≡ now (marks .entry)) × (now (doors .exit) ≡ now (doors .entry)) ⌝ }
+{
+    let old = doors[first];
+    doors[first] = i as u16 + 1;
+    let below = within(*p, i, limit);
+    let b = scope_s(p, homes, marks, doors, body, below);
+    let r = scope_b(p, homes, marks, doors, first, below);
+    doors[first] = old;
+    sooner(b, r)
+}
+
+fn scope_b(
+    p: &&[u8],
+    homes: &[u16; 1008],
+    marks: &mut [u8; 1008],
+    doors: &mut [u16; 1008],
+    j: usize,
+    limit: usize,
+) -> u32
+    requires { ⌜ NodeOf isBranch (now (now p)) j × Doors (now (now p)) (now homes) (now doors) limit j ⌝ }
+    ensures { λ r. ⌜ (placeIn r ≡ scopeB (edition (now (now (p .entry)))) (now (marks .entry)) (offersBelow (now (now (p .entry))) (now (doors .entry)) limit) (branchesAt (now (now (p .entry))) j)) × (now (marks .exit) ≡ now (marks .entry)) × (now (doors .exit) ≡ now (doors .entry)) ⌝ }
 {
     let n = node(*p, j);
-    let body = inside_s(p, homes, marks, j, n.a, group);
+    let body = inside_s(p, homes, marks, doors, j, n.a, limit);
     if n.b == 65535 {
         return sooner(body, NOWHERE);
     }
-    let rest = scope_b(p, homes, marks, n.b, group);
+    let rest = scope_b(p, homes, marks, doors, n.b, limit);
     sooner(body, rest)
 }
 
-fn scope_c(p: &&[u8], homes: &[u16; 1008], marks: &mut [u8; 1008], j: usize, group: usize) -> u32
-    requires { ⌜ NodeOf isCase (now (now p)) j × Offered (now (now p)) (now homes) group ⌝ }
-    ensures { λ r. ⌜ (placeIn r ≡ scopeC (now (marks .entry)) (offersAt (now (now (p .entry))) group) (casesAt (now (now (p .entry))) j)) × (now (marks .exit) ≡ now (marks .entry)) ⌝ }
+fn scope_c(
+    p: &&[u8],
+    homes: &[u16; 1008],
+    marks: &mut [u8; 1008],
+    doors: &mut [u16; 1008],
+    j: usize,
+    limit: usize,
+) -> u32
+    requires { ⌜ NodeOf isCase (now (now p)) j × Doors (now (now p)) (now homes) (now doors) limit j ⌝ }
+    ensures { λ r. ⌜ (placeIn r ≡ scopeC (edition (now (now (p .entry)))) (now (marks .entry)) (offersBelow (now (now (p .entry))) (now (doors .entry)) limit) (casesAt (now (now (p .entry))) j)) × (now (marks .exit) ≡ now (marks .entry)) × (now (doors .exit) ≡ now (doors .entry)) ⌝ }
 {
     let n = node(*p, j);
-    let here = wrong_unless(offered(p, homes, group, n.c), j);
-    let event = scope_s(p, homes, marks, n.a, 65535);
+    let here = wrong_unless(offered(p, homes, doors, limit, j, n.c), j);
+    let event = scope_s(p, homes, marks, doors, n.a, j);
     if n.b == 65535 {
         return sooner(here, sooner(event, NOWHERE));
     }
-    let rest = scope_c(p, homes, marks, n.b, group);
+    let rest = scope_c(p, homes, marks, doors, n.b, limit);
     sooner(here, sooner(event, rest))
 }
 
@@ -193,6 +260,7 @@ pub fn scope_fault(p: &[u8], count: usize) -> Place
 {
     let mut marks: [u8; 1008] = [0; 1008];
     let mut homes: [u16; 1008] = [0; 1008];
+    let mut doors: [u16; 1008] = [0; 1008];
     index_branches(p, &mut homes, count);
-    place(scope_s(&p, &homes, &mut marks, count - 1, 65535))
+    place(scope_s(&p, &homes, &mut marks, &mut doors, count - 1, count))
 }

@@ -10,13 +10,15 @@ fn sentence(code: u8) -> bool {
     match code {
         1 => put(b"the program is empty, longer than 24 blocks or not whole blocks of 512 bytes"),
         2 => put(b"the check sum of this block is not that of its bytes"),
-        3 => put(b"this block has not its own number, or not the count of all blocks"),
+        3 => put(
+            b"this block has not its own number, the count of all blocks or the edition of block 0",
+        ),
         4 => put(
             b"this record by itself is wrong: its kind, type, constant, channel, a field that must be zero, or the end of the records",
         ),
         5 => put(b"the nodes do not make one tree of the right sorts"),
         6 => put(
-            b"the binder of this variable does not hold here, or the target of this case is no branch of the nearest group",
+            b"the binder of this variable does not hold here, or the target of this case is no branch of a group that it may leave",
         ),
         7 => put(b"the types at this node do not agree"),
         8 => put(b"the definition of this let needs its own value of the same step"),
@@ -32,39 +34,45 @@ fn sentence(code: u8) -> bool {
     }
 }
 
-// The word of a kind, behind a comma; nothing where there is no such kind.
-fn kind_word(kind: u8) -> bool {
+// A word, and what stands before it.
+fn behind(before: &[u8], word: &[u8]) -> bool {
+    put(before);
+    put(word)
+}
+
+// The word of a kind, and what stands before it; nothing where there is no such kind.
+pub fn kind_word(before: &[u8], kind: u8) -> bool {
     match kind {
-        1 => put(b", input"),
-        2 => put(b", time"),
-        3 => put(b", ext"),
-        4 => put(b", delay"),
-        5 => put(b", let signal"),
-        6 => put(b", switch"),
-        7 => put(b", let continue"),
-        8 => put(b", until"),
-        9 => put(b", branch"),
-        10 => put(b", case"),
-        16 => put(b", variable"),
-        17 => put(b", constant"),
-        18 => put(b", add"),
-        19 => put(b", subtract"),
-        20 => put(b", multiply"),
-        21 => put(b", divide"),
-        22 => put(b", less"),
-        23 => put(b", equal"),
-        24 => put(b", not"),
-        25 => put(b", and"),
-        26 => put(b", or"),
-        27 => put(b", if"),
-        28 => put(b", just"),
-        29 => put(b", take"),
+        1 => behind(before, b"input"),
+        2 => behind(before, b"time"),
+        3 => behind(before, b"ext"),
+        4 => behind(before, b"delay"),
+        5 => behind(before, b"let signal"),
+        6 => behind(before, b"switch"),
+        7 => behind(before, b"let continue"),
+        8 => behind(before, b"until"),
+        9 => behind(before, b"branch"),
+        10 => behind(before, b"case"),
+        16 => behind(before, b"variable"),
+        17 => behind(before, b"constant"),
+        18 => behind(before, b"add"),
+        19 => behind(before, b"subtract"),
+        20 => behind(before, b"multiply"),
+        21 => behind(before, b"divide"),
+        22 => behind(before, b"less"),
+        23 => behind(before, b"equal"),
+        24 => behind(before, b"not"),
+        25 => behind(before, b"and"),
+        26 => behind(before, b"or"),
+        27 => behind(before, b"if"),
+        28 => behind(before, b"just"),
+        29 => behind(before, b"take"),
         _ => true,
     }
 }
 
 // The kind of record r, where there is such a record.
-fn kind_at(p: &[u8], r: usize) -> u8
+pub fn kind_at(p: &[u8], r: usize) -> u8
     ensures { λ k. ⌜ (r < records (now (p .entry)) → k ≡ kindAt (now (p .entry)) r) ⌝ }
 {
     if r < p.len() / 512 * 42 {
@@ -75,7 +83,7 @@ fn kind_at(p: &[u8], r: usize) -> u8
 }
 
 // A number behind a word.
-fn numbered(word: &[u8], n: u32) -> bool {
+pub fn numbered(word: &[u8], n: u32) -> bool {
     let mut digits = [0u8; 20];
     let k = io::decimal(n as u64, &mut digits);
     put(word);
@@ -89,7 +97,7 @@ fn place_words(p: &[u8], code: u8, place: u32) -> bool {
         3 => numbered(b": block ", place),
         4 => {
             numbered(b": record ", place);
-            kind_word(kind_at(p, place as usize))
+            kind_word(b", ", kind_at(p, place as usize))
         }
         5 => node_words(p, place),
         6 => node_words(p, place),
@@ -101,7 +109,7 @@ fn place_words(p: &[u8], code: u8, place: u32) -> bool {
 
 fn node_words(p: &[u8], place: u32) -> bool {
     numbered(b": node ", place);
-    kind_word(kind_at(p, place as usize))
+    kind_word(b", ", kind_at(p, place as usize))
 }
 
 // A line in words, for people; the line of numbers follows it.
@@ -110,5 +118,11 @@ pub fn told(p: &[u8], r: Refusal) -> bool {
     let place = rules::place_of(r);
     sentence(code);
     place_words(p, code, place);
+    put(b"\n")
+}
+
+// The same for a code that has no place.
+pub fn told_alone(code: u8) -> bool {
+    sentence(code);
     put(b"\n")
 }

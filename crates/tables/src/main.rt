@@ -3,11 +3,16 @@ mod checking;
 mod codes;
 mod files;
 mod say;
+mod why;
 
 // Does what a word names. (Twelve such tests are proved with no proof file; the same tests on a part of main's array are not, from the eighth on.)
 fn chosen(word: &[u8]) {
     if check::same(word, b"check") {
         checking::check();
+        return;
+    }
+    if check::same(word, b"why") {
+        why::why();
         return;
     }
     if check::same(word, b"version") {

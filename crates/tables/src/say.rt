@@ -29,10 +29,18 @@ pub fn refused(r: Refusal) -> bool {
     put(&line[..k])
 }
 
+// The let that is explained and how many entries its chain has, as a run's last line.
+pub fn ended(x: u32, entries: u32) -> bool {
+    let mut line = [0u8; 64];
+    let k = lines::end_line(x, entries, &mut line);
+    put(&line[..k])
+}
+
 pub fn help() -> bool {
     put(
         b"tables check FILE      checks a table, and prints the channels that it names; - is standard input
 tables run             prints a run of blocks and records on standard input, as watchrun does
+tables why FILE        prints why the let that code 8 names is not ready: the nodes from its definition to its own variable
 tables version         prints the version
 tables help            prints this
 ",

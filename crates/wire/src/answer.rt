@@ -3,25 +3,34 @@ ghost use mathlib.Core.Path.{_≡_};
 ghost use lib.ListN.{take};
 ghost use Rattle.io.specs.Counts.{Counts};
 ghost use Rattle.rules.specs.declared.Started.the-variants.{Ready};
-ghost use Rattle.wire.specs.Lines.{acceptedLine, checkedLine, finishedLine, ranLine, refusedLine, startedLine};
+ghost use Rattle.wire.specs.Lines.{acceptedLine, checkedLine, codedLine, explainedLine, finishedLine, ranLine, refusedLine, startedLine};
 use crate::text::put;
 use crate::text::put_field;
+use chains::Explained;
 use rules::Checked;
 use rules::Ran;
 use rules::Refusal;
 use rules::Started;
 
 // Puts `REFUSED code place work` at the start of line, and answers its length.
+fn coded_line(code: u32, place: u32, work: u32, line: &mut [u8; 64]) -> usize
+    ensures { λ n. ⌜ Counts n (now (line .exit)) ⌝ }
+    ensures { λ n. ⌜ take n (now (line .exit)) ≡ codedLine code place work ⌝ }
+{
+    let a = put(b"REFUSED ", line, 0);
+    let b = put_field(code, b' ', line, a);
+    let c = put_field(place, b' ', line, b);
+    put_field(work, b'\n', line, c)
+}
+
+// The same of a refusal.
 pub(crate) fn refused_line(r: Refusal, work: u32, line: &mut [u8; 64]) -> usize
     ensures { λ n. ⌜ Counts n (now (line .exit)) ⌝ }
     ensures { λ n. ⌜ take n (now (line .exit)) ≡ refusedLine r work ⌝ }
 {
     let code = rules::code_of(r) as u32;
     let place = rules::place_of(r);
-    let a = put(b"REFUSED ", line, 0);
-    let b = put_field(code, b' ', line, a);
-    let c = put_field(place, b' ', line, b);
-    put_field(work, b'\n', line, c)
+    coded_line(code, place, work, line)
 }
 
 // Puts the answer of a check, `OK nodes cells bound type`, at the start of line, and answers its length.
@@ -66,7 +75,8 @@ pub fn started_line(answer: Started, line: &mut [u8; 64]) -> usize
     }
 }
 
-// Puts the answer of steps that are done, `OK steps work`, at the start of line, and answers its length.
+// Puts `OK` and two numbers, the steps and the work of a run or the let and the entries of a chain, at the start of line, and answers its
+// length.
 fn finished_line(steps: u32, work: u32, line: &mut [u8; 64]) -> usize
     ensures { λ r. ⌜ Counts r (now (line .exit)) ⌝ }
     ensures { λ r. ⌜ take r (now (line .exit)) ≡ finishedLine steps work ⌝ }
@@ -84,5 +94,18 @@ pub fn ran_line(answer: Ran, line: &mut [u8; 64]) -> usize
     match answer {
         Ran::Finished(steps, work) => finished_line(steps, work, line),
         Ran::Refused(r, work) => refused_line(r, work, line),
+    }
+}
+
+// Puts the answer of explain at the start of line, and answers its length.
+pub fn explained_line(answer: Explained, line: &mut [u8; 64]) -> usize
+    ensures { λ r. ⌜ Counts r (now (line .exit)) ⌝ }
+    ensures { λ r. ⌜ take r (now (line .exit)) ≡ explainedLine answer ⌝ }
+{
+    match answer {
+        Explained::Chain(node, entries) => finished_line(node, entries, line),
+        Explained::Refused(r) => refused_line(r, 0, line),
+        Explained::NoLet => coded_line(25, 0, 0, line),
+        Explained::RoomLength => coded_line(26, 0, 0, line),
     }
 }

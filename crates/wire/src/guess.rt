@@ -72,12 +72,27 @@ fn guess_run(line: &[u8]) -> Request {
     Request::Run(p.value, s.value, r.value, o.value)
 }
 
+// A chain with the two numbers that stand behind `chain `: the second is of bytes, two for each entry.
+fn guess_chain(line: &[u8]) -> Request {
+    let p = number(line, 6);
+    let c = number(line, p.next);
+    Request::Chain(p.value, (c.value / 2 % 65536) as u16)
+}
+
+// A check or a chain, by the third byte.
+fn guess_program(line: &[u8]) -> Request {
+    if byte_at(line, 2) == b'a' {
+        return guess_chain(line);
+    }
+    let p = number(line, 6);
+    Request::Check(p.value)
+}
+
 // The call goes by the first byte.
 pub(crate) fn guess(line: &[u8]) -> Request {
     let first = byte_at(line, 0);
     if first == b'c' {
-        let p = number(line, 6);
-        return Request::Check(p.value);
+        return guess_program(line);
     }
     if first == b'r' {
         return guess_run(line);

@@ -3,13 +3,13 @@ ghost use mathlib.Core.Path.{_≡_};
 ghost use lib.ListN.{take};
 ghost use Rattle.io.specs.Counts.{Counts};
 ghost use Rattle.wire.specs.declared.Request.the-variants.{Broken};
-ghost use Rattle.wire.specs.Lines.{headerLine, checkLine, startLine, runLine};
+ghost use Rattle.wire.specs.Lines.{headerLine, checkLine, startLine, runLine, chainLine};
 use crate::Request;
 use crate::guess::guess;
 use crate::text::put;
 use crate::text::put_field;
 
-// The header line of a check, at the start of line; answers its length, as the next two do.
+// The header line of a check, at the start of line; answers its length, as the next three do.
 fn check_header(p: u32, line: &mut [u8; 64]) -> usize
     ensures { λ n. ⌜ Counts n (now (line .exit)) ⌝ }
     ensures { λ n. ⌜ take n (now (line .exit)) ≡ checkLine p ⌝ }
@@ -40,6 +40,16 @@ fn run_header(p: u32, s: u32, r: u32, o: u32, line: &mut [u8; 64]) -> usize
     put_field(o, b'\n', line, d)
 }
 
+// The header line of a chain, with the room's length in bytes.
+fn chain_header(p: u32, c: u32, line: &mut [u8; 64]) -> usize
+    ensures { λ n. ⌜ Counts n (now (line .exit)) ⌝ }
+    ensures { λ n. ⌜ take n (now (line .exit)) ≡ chainLine p c ⌝ }
+{
+    let a = put(b"chain ", line, 0);
+    let b = put_field(p, b' ', line, a);
+    put_field(c, b'\n', line, b)
+}
+
 // Puts a request's header line at the start of line, and answers its length.
 pub fn header(request: Request, line: &mut [u8; 64]) -> usize
     ensures { λ n. ⌜ Counts n (now (line .exit)) ⌝ }
@@ -49,6 +59,7 @@ pub fn header(request: Request, line: &mut [u8; 64]) -> usize
         Request::Check(p) => check_header(p, line),
         Request::Start(p, s) => start_header(p, s, line),
         Request::Run(p, s, r, o) => run_header(p, s, r, o, line),
+        Request::Chain(p, n) => chain_header(p, 2 * (n as u32), line),
         Request::Broken => 0,
     }
 }

@@ -6,6 +6,7 @@ mod header;
 mod text;
 
 pub use answer::checked_line;
+pub use answer::explained_line;
 pub use answer::ran_line;
 pub use answer::started_line;
 pub use digits::hex;
@@ -14,10 +15,11 @@ pub use text::put;
 pub use text::put_field;
 pub use text::put_number;
 
-// A request by its header line: the call and the lengths of its lent memory.
+// A request by its header line: the call and the lengths of its lent memory; of a chain's room, how many entries it has.
 pub enum Request {
     Check(u32),
     Start(u32, u32),
     Run(u32, u32, u32, u32),
+    Chain(u32, u16),
     Broken,
 }

@@ -11,7 +11,8 @@ pub enum Code {
     ProgramLength = raw::PROGRAM_LENGTH,
     /// The check of a block is wrong; the place is the block.
     CheckSum = raw::CHECK_SUM,
-    /// The number or count of a block is wrong; the place is the block.
+    /// The number or count of a block is wrong, its edition differs from block 0's or is above 1;
+    /// the place is the block.
     BlockNumber = raw::BLOCK_NUMBER,
     /// A kind, type, constant, channel, zero field or the end of records is wrong; the place is the
     /// record of the table.
@@ -78,10 +79,10 @@ impl Code {
         match self as u32 {
             1 => "the program is empty, longer than 24 blocks or not whole blocks of 512 bytes",
             2 => "the check sum of this block is not that of its bytes",
-            3 => "this block has not its own number, or not the count of all blocks",
+            3 => "this block has not its own number, the count of all blocks or the edition of block 0",
             4 => "this record by itself is wrong: its kind, type, constant, channel, a field that must be zero, or the end of the records",
             5 => "the nodes do not make one tree of the right sorts",
-            6 => "the binder of this variable does not hold here, or the target of this case is no branch of the nearest group",
+            6 => "the binder of this variable does not hold here, or the target of this case is no branch of a group that it may leave",
             7 => "the types at this node do not agree",
             8 => "the definition of this let needs its own value of the same step",
             9 => "the state is not one that this program can have, or has not its length",

@@ -210,7 +210,7 @@ fn a_state_knows_its_program() {
     let restored = run(&by_twos, &mut state, &record(200, None), &mut output);
     assert_eq!(restored, Err(refusal(Code::OtherProgram, 0)));
     assert_eq!((state, output), (kept, room));
-    assert_eq!(restored.unwrap_err().to_string(), "refused: code 15 (OtherProgram) at 0");
+    assert_eq!(restored.unwrap_err().to_string(), "refused: code 15 (OtherProgram) at 0: the state is that of another program");
     // Equal sums are not told apart.
     assert_eq!(by_ones[508..], by_sixty_twos[508..]);
     let ran = run(&by_sixty_twos, &mut state, &record(200, None), &mut output);

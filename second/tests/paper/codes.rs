@@ -27,9 +27,18 @@ fn code_2_each_byte_counts() {
 
 #[test]
 fn code_3_number_and_count() {
-    for (line, place) in [(".number 0 1", 0), (".count 0 2", 0), (".count 0 257", 0)] {
+    for (line, place) in [(".number 0 1", 0), (".count 0 2", 0), (".count 0 513", 0)] {
         assert_eq!(refused(&format!("time\n{line}")), (3, place));
     }
+    // Bytes 2-3 of 257 were a wrong count in edition one: now they are edition two's.
+    assert_eq!(accepted("time\n.count 0 257").nodes, 1);
+}
+
+#[test]
+fn code_3_editions() {
+    assert_eq!(refused("time\n.edition 2"), (3, 0));
+    assert_eq!(refused("time\n.edition 255"), (3, 0));
+    assert_eq!(accepted("time\n.edition 1").nodes, 1);
 }
 
 #[test]

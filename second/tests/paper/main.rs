@@ -1,6 +1,7 @@
 //! The paper's cases, wrong turns and codes, and every point of the readings.
 
 mod codes;
+mod editions;
 mod points;
 mod readings;
 mod restored;

@@ -178,3 +178,21 @@ fn an_empty_run() {
     assert_eq!(run(&program, &mut state, &[], &mut []), Ok(Done { steps: 0, work: 0 }));
     assert_eq!(state, before);
 }
+
+/// Row J's table, whose byte 3 is the number given.
+fn arriving(edition: u8) -> String {
+    let sample = include_str!("../../../samples/readings/j.txt");
+    let table = sample.split("records\n").next().unwrap();
+    table.replace(".edition 1", &format!(".edition {edition}"))
+}
+
+#[test]
+fn j_jump_out_of_an_inner_group() {
+    let played = play(&arriving(1), "0\n1 c4=7\n2 c4=9\n3 c5=8\n4 c4=6\n5");
+    assert_eq!(played.values, ["0", "0", "1", "9", "8", "1"]);
+    assert_eq!(played.works, [9, 7, 9, 9, 7, 11]);
+    // Both at once: arrival is in around, and berth is at start.
+    assert_eq!(played.states[3][8..], [0, 0, 0, 0, 0, 0, 0, 0, 3, 1, 23, 0, 8, 0, 0, 0]);
+    assert_eq!(refused(&arriving(0)), (6, 13));
+    assert_eq!(refused(&arriving(2)), (3, 0));
+}

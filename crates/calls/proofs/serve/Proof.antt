@@ -6,11 +6,11 @@ use Rattle.calls.proofs.serve.Statement.{statement}
 use Rattle.calls.proofs.serve.Tie as tie
 
 abbrev Inv-loop : tie.InvT-loop
-Inv-loop input₀ program₀ state₀ records₀ room₀ out₀ at₀ end₀ full₀ turns₀ input program state records room out at end full turns =
-    (length input ≡ length input₀) × (length program ≡ length program₀) × (length state ≡ length state₀) × (length records ≡ length records₀) × (length room ≡ length room₀) × (length out ≡ length out₀)
+Inv-loop input₀ program₀ state₀ records₀ room₀ entries₀ out₀ at₀ end₀ full₀ turns₀ input program state records room entries out at end full turns =
+    (length input ≡ length input₀) × (length program ≡ length program₀) × (length state ≡ length state₀) × (length records ≡ length records₀) × (length room ≡ length room₀) × (length entries ≡ length entries₀) × (length out ≡ length out₀)
 
 abbrev μ-loop : tie.MeasureT-loop
-μ-loop input₀ program₀ state₀ records₀ room₀ out₀ at₀ end₀ full₀ turns₀ input program state records room out at end full turns =
+μ-loop input₀ program₀ state₀ records₀ room₀ entries₀ out₀ at₀ end₀ full₀ turns₀ input program state records room entries out at end full turns =
     turns
 
 loop-holds : tie.Need-loop-holds Inv-loop μ-loop
@@ -40,6 +40,9 @@ same-length-5 c = search needs
 same-length-6 : tie.Need-same-length-6 Inv-loop μ-loop
 same-length-6 c = search needs
 
+same-length-7 : tie.Need-same-length-7 Inv-loop μ-loop
+same-length-7 c = search needs
+
 returns : tie.Need-returns Inv-loop μ-loop
 returns c = search needs
 
@@ -55,9 +58,6 @@ loop-again c = search needs
 flush-requires-2 : tie.Need-flush-requires-2 Inv-loop μ-loop
 flush-requires-2 c κs = search needs
 
-same-length-7 : tie.Need-same-length-7 Inv-loop μ-loop
-same-length-7 c = search needs
-
 same-length-8 : tie.Need-same-length-8 Inv-loop μ-loop
 same-length-8 c = search needs
 
@@ -72,6 +72,12 @@ same-length-11 c = search needs
 
 same-length-12 : tie.Need-same-length-12 Inv-loop μ-loop
 same-length-12 c = search needs
+
+same-length-13 : tie.Need-same-length-13 Inv-loop μ-loop
+same-length-13 c = search needs
+
+same-length-14 : tie.Need-same-length-14 Inv-loop μ-loop
+same-length-14 c = search needs
 
 returns-2 : tie.Need-returns-2 Inv-loop μ-loop
 returns-2 c = search needs
@@ -91,15 +97,17 @@ serve-spec =
     same-length-4
     same-length-5
     same-length-6
+    same-length-7
     returns
     sub-turns
     loop-less
     loop-again
     flush-requires-2
-    same-length-7
     same-length-8
     same-length-9
     same-length-10
     same-length-11
     same-length-12
+    same-length-13
+    same-length-14
     returns-2)

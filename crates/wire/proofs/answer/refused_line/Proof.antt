@@ -1,9 +1,7 @@
--- `wire::answer::refused_line` meets its contract: the four parts stand one behind the other. Assumes nothing.
+-- `wire::answer::refused_line` meets its contract: the line of its code and place. Assumes nothing.
 use mathlib.Core.Path.{sym}
-use native.Mathlib.Omega.{arith}
 use borrow.Author.Needs.{needs}
 use Rattle.wire.specs.Lines.{refusedLine}
-use Rattle.wire.proofs.PutLaws.{behind, line-is}
 use Rattle.wire.proofs.answer.refused_line.Statement.{statement}
 use Rattle.wire.proofs.answer.refused_line.Tie as tie
 
@@ -16,36 +14,14 @@ cast-code c = search needs
 place-of-requires : tie.Need-place-of-requires
 place-of-requires c κs = search needs
 
-slice-aggregate-put : tie.Need-slice-aggregate-put
-slice-aggregate-put c = search needs
-
-put-requires : tie.Need-put-requires
-put-requires c κs = search needs
-
-put-field-requires : tie.Need-put-field-requires
-put-field-requires c κs = search needs
-
-put-field-requires-2 : tie.Need-put-field-requires-2
-put-field-requires-2 c κs = search needs
-
-put-field-requires-3 : tie.Need-put-field-requires-3
-put-field-requires-3 c κs = search needs
+coded-line-requires : tie.Need-coded-line-requires
+coded-line-requires c κs = search needs
 
 returns : tie.Need-returns
 unfolding refusedLine
 returns c =
-    rw (sym (c .before .before .before .before .before .before .before .before .before .before .code-of .ensures), sym (c .before .before .before .before .before .before .before .before .before .place-of .ensures)) (line-is (behind (behind (behind (c .before .before .before .before .before .before .put .ensures) (c .before .before .before .before .put-field .ensures .0)) (c .before .before .put-field2 .ensures .0)) (c .put-field3 .ensures .0)) (omega arith))
+    rw (sym (c .before .before .before .code-of .ensures), sym (c .before .before .place-of .ensures)) (c .coded-line .ensures)
 
 pub refused-line-spec : {M : Type 1} → statement M
 refused-line-spec =
-    tie.close
-    (tie.spec
-    code-of-requires
-    cast-code
-    place-of-requires
-    slice-aggregate-put
-    put-requires
-    put-field-requires
-    put-field-requires-2
-    put-field-requires-3
-    returns)
+    tie.close (tie.spec code-of-requires cast-code place-of-requires coded-line-requires returns)

@@ -24,6 +24,18 @@ enum-known-request-3 c = search needs
 run-header-requires : tie.Need-run-header-requires
 run-header-requires c κs = search needs
 
+enum-known-request-4 : tie.Need-enum-known-request-4
+enum-known-request-4 c = search needs
+
+cast-chain-header : tie.Need-cast-chain-header
+cast-chain-header c = search needs
+
+mul-chain-header : tie.Need-mul-chain-header
+mul-chain-header c = search needs
+
+chain-header-requires : tie.Need-chain-header-requires
+chain-header-requires c κs = search needs
+
 enum-told : tie.Need-enum-told
 enum-told c = search needs
 
@@ -41,7 +53,11 @@ returns-3 c = let e = c .run-header .ensures in (e .0, e .1 ∙ sym (ap headerLi
 
 returns-4 : tie.Need-returns-4
 unfolding headerLine
-returns-4 c = ((zero-le, refl), sym (ap headerLine (c .enum-told .given .1)))
+returns-4 c = let e = c .chain-header .ensures in (e .0, e .1 ∙ sym (ap headerLine (c .before .before .before .request4 .given .1)))
+
+returns-5 : tie.Need-returns-5
+unfolding headerLine
+returns-5 c = ((zero-le, refl), sym (ap headerLine (c .enum-told .given .1)))
 
 pub header-spec : {M : Type 1} → statement M
 header-spec =
@@ -53,8 +69,13 @@ header-spec =
     start-header-requires
     enum-known-request-3
     run-header-requires
+    enum-known-request-4
+    cast-chain-header
+    mul-chain-header
+    chain-header-requires
     enum-told
     returns
     returns-2
     returns-3
-    returns-4)
+    returns-4
+    returns-5)

@@ -1,0 +1,5 @@
+pub mod SameTree
+pub mod SameRules
+pub mod Wider
+pub mod Everywhere
+pub mod Editions

@@ -11,10 +11,10 @@ use Rattle.rules.specs.Size.{sizeE}
 use Rattle.rules.specs.Bound.{boundE}
 use Rattle.rules.proofs.Nodes.{expr-variable, expr-constant}
 use Rattle.rules.proofs.Expressions.{IsOperation, negation-kid, just-kid, choice-kids, taking-kids, operation-kids, negation-tree, just-tree, choice-tree, taking-tree, operation-tree}
-use Rattle.bound.specs.Small.{nodesE, Small}
+use Rattle.bound.specs.SmallTree.{nodesE, SmallTree}
 use Rattle.bound.proofs.Parts.{Part, part}
 
-module _ (p : Bytes) (n : ℕ) (w : Small isExpression nodesE p n) where
+module _ (p : Bytes) (n : ℕ) (w : SmallTree isExpression nodesE p n) where
   -- What a part has, the whole has.
   within : {m : ℕ} → m ≤ sizeE (exprAt p n) → m ≤ 1008
   within h = omega (arith, w .small)

@@ -11,10 +11,10 @@ use Rattle.rules.specs.Size.{sizeE, sizeS, sizeB, sizeC}
 use Rattle.rules.specs.Bound.{boundE, boundS, boundSB, boundSC, boundU, boundUB, boundUC}
 use Rattle.rules.proofs.Nodes.{signal-input, signal-time}
 use Rattle.rules.proofs.Signals.{ext-kid, delay-kid, let-kids, switch-kids, group-kids, until-kids, branch-kid, branch-next, case-kid, case-next, ext-tree, delay-tree, let-tree, switch-tree, group-tree, until-tree, branch-law, branch-end, branch-on, case-law, case-end, case-on}
-use Rattle.bound.specs.Small.{nodesE, nodesS, nodesB, nodesC, Small}
+use Rattle.bound.specs.SmallTree.{nodesE, nodesS, nodesB, nodesC, SmallTree}
 use Rattle.bound.proofs.Parts.{Part, part}
 
-module _ (p : Bytes) (n : ℕ) (w : Small isSignal nodesS p n) where
+module _ (p : Bytes) (n : ℕ) (w : SmallTree isSignal nodesS p n) where
   -- What a part has, the whole has.
   within : {m : ℕ} → m ≤ sizeS (signalAt p n) → m ≤ 1008
   within h = omega (arith, w .small)
@@ -103,7 +103,7 @@ module _ (p : Bytes) (n : ℕ) (w : Small isSignal nodesS p n) where
   unfolding boundS boundU
   until-bound e = let x = until-tree p n (w .node) e in (ap boundS x, ap boundU x)
 
-module _ (p : Bytes) (n : ℕ) (w : Small isBranch nodesB p n) where
+module _ (p : Bytes) (n : ℕ) (w : SmallTree isBranch nodesB p n) where
   pub branch-part : Part isSignal nodesS p n (aAt p n)
   unfolding sizeB
   branch-part = part (branch-kid p n (w .node)) (omega (arith, w .small, by-size))
@@ -127,7 +127,7 @@ module _ (p : Bytes) (n : ℕ) (w : Small isBranch nodesB p n) where
   unfolding boundS boundU
   branch-more-bound d = let x = branch-on p n (w .node) d in (ap boundSB x, ap boundUB x)
 
-module _ (p : Bytes) (n : ℕ) (w : Small isCase nodesC p n) where
+module _ (p : Bytes) (n : ℕ) (w : SmallTree isCase nodesC p n) where
   pub case-part : Part isSignal nodesS p n (aAt p n)
   unfolding sizeC
   case-part = part (case-kid p n (w .node)) (omega (arith, w .small, by-size))

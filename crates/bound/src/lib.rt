@@ -7,7 +7,8 @@ ghost use Rattle.rules.specs.Tree.{exprAt, signalAt, branchesAt, casesAt, root}
 ghost use Rattle.rules.specs.Size.{sizeS};
 ghost use Rattle.rules.specs.Bound.{boundE, boundS, boundSB, boundSC, boundU, boundUB, boundUC, bound};
 ghost use Rattle.rules.specs.Shaped.{NodeOf};
-ghost use Rattle.bound.specs.Small.{nodesE, nodesS, nodesB, nodesC, evalIn, updateIn, Small, Most, BoundsOf};
+ghost use Rattle.bound.specs.SmallTree.{nodesE, nodesS, nodesB, nodesC, evalIn, updateIn, SmallTree, Most, BoundsOf};
+use table::LAST;
 use table::node;
 
 // The bounds of a signal's evaluation and of its update as one number, so that a recursion answers both in a register.
@@ -145,7 +146,7 @@ fn sum(event: u64, rest: u64) -> u64
 
 // Expression i as a part: a variable or a constant is one rule, answered without a call.
 fn leaf(p: &&[u8], i: usize) -> u32
-    requires { ⌜ Small isExpression nodesE (now (now p)) i ⌝ }
+    requires { ⌜ SmallTree isExpression nodesE (now (now p)) i ⌝ }
     ensures { λ r. ⌜ (r ≡ boundE (exprAt (now (now (p .entry))) i)) × (r ≤ 1008) ⌝ }
 {
     let n = node(*p, i);
@@ -159,7 +160,7 @@ fn leaf(p: &&[u8], i: usize) -> u32
 
 // Expression i.
 pub fn bound_e(p: &&[u8], i: usize) -> u32
-    requires { ⌜ Small isExpression nodesE (now (now p)) i ⌝ }
+    requires { ⌜ SmallTree isExpression nodesE (now (now p)) i ⌝ }
     ensures { λ r. ⌜ (r ≡ boundE (exprAt (now (now (p .entry))) i)) × (r ≤ 1008) ⌝ }
 {
     let n = node(*p, i);
@@ -191,7 +192,7 @@ pub fn bound_e(p: &&[u8], i: usize) -> u32
 
 // Signal i.
 pub fn bound_s(p: &&[u8], i: usize) -> u64
-    requires { ⌜ Small isSignal nodesS (now (now p)) i ⌝ }
+    requires { ⌜ SmallTree isSignal nodesS (now (now p)) i ⌝ }
     ensures { λ r. ⌜ BoundsOf (boundS (signalAt (now (now (p .entry))) i)) (boundU (signalAt (now (now (p .entry))) i)) r ⌝ }
 {
     let n = node(*p, i);
@@ -227,12 +228,12 @@ pub fn bound_s(p: &&[u8], i: usize) -> u64
 
 // The list of branches at node j: the largest of both.
 pub fn bound_b(p: &&[u8], j: usize) -> u64
-    requires { ⌜ Small isBranch nodesB (now (now p)) j ⌝ }
+    requires { ⌜ SmallTree isBranch nodesB (now (now p)) j ⌝ }
     ensures { λ r. ⌜ BoundsOf (boundSB (branchesAt (now (now (p .entry))) j)) (boundUB (branchesAt (now (now (p .entry))) j)) r ⌝ }
 {
     let n = node(*p, j);
     let body = bound_s(p, n.a);
-    if n.b == 65535 {
+    if n.b == LAST {
         return largest(body, bounds(0, 0));
     }
     let rest = bound_b(p, n.b);
@@ -241,12 +242,12 @@ pub fn bound_b(p: &&[u8], j: usize) -> u64
 
 // The list of cases at node j: the sum of both.
 pub fn bound_c(p: &&[u8], j: usize) -> u64
-    requires { ⌜ Small isCase nodesC (now (now p)) j ⌝ }
+    requires { ⌜ SmallTree isCase nodesC (now (now p)) j ⌝ }
     ensures { λ r. ⌜ BoundsOf (boundSC (casesAt (now (now (p .entry))) j)) (boundUC (casesAt (now (now (p .entry))) j)) r ⌝ }
 {
     let n = node(*p, j);
     let event = bound_s(p, n.a);
-    if n.b == 65535 {
+    if n.b == LAST {
         return sum(event, bounds(0, 0));
     }
     let rest = bound_c(p, n.b);

@@ -8,6 +8,7 @@ ghost use Rattle.rules.specs.Node.{IsNode};
 ghost use Rattle.rules.specs.Shaped.{Shaped};
 ghost use Rattle.cells.specs.Indexed.{ListedOnce, Numbers, SignalsKept, ListedFrom, Listed, Indexed};
 use rules::Node;
+use table::LAST;
 use table::node;
 use table::node_at;
 use table::read;
@@ -130,6 +131,15 @@ pub fn number_of(index: &[u16], i: usize) -> usize
     index[i] as usize
 }
 
+// The content of the cell of node i.
+pub fn own_cell(index: &[u16], st: &[u8], i: usize) -> u64
+    requires { ⌜ (i < length (now index)) × (cellAt (getD (now index) i 0) + 8 ≤ length (now st)) ⌝ }
+    ensures { λ r. ⌜ r ≡ cellIn (now (st .entry)) (getD (now (index .entry)) i 0) ⌝ }
+{
+    let k = number_of(index, i);
+    cell(st, k)
+}
+
 // The branch that node i names gets its number: a group's first branch its own, a branch's next one what the branch has.
 fn name_branch(p: &[u8], index: &mut [u16], i: usize)
     requires { ⌜ Shaped (now p) × (i < nodes (now p)) × ListedOnce (now p) × ListedFrom (i + 1) (now p) (now index) ⌝ }
@@ -147,7 +157,7 @@ fn name_branch(p: &[u8], index: &mut [u16], i: usize)
     }
     let branch = node(p, i);
     let next = branch.b;
-    if next == 65535 {
+    if next == LAST {
         return;
     }
     index[next] = index[i];

@@ -12,7 +12,7 @@ use Rattle.rules.specs.Layout.{kindAt, aAt, bAt, cAt, hasCell, cellsBefore, cel
 use Rattle.rules.specs.Values.{intT, unpacked, middleIn}
 use Rattle.rules.specs.Kinds.{isSignal, isBranch}
 use Rattle.rules.specs.Tree.{exprAt, signalAt, branchesAt}
-use Rattle.rules.specs.Work.{give, after, rule, _then_}
+use Rattle.rules.specs.Work.{nothing, oneRule, _plus_, give, after, rule, _then_}
 use Rattle.rules.specs.Bound.{boundS}
 use Rattle.rules.specs.Scope.{hasBranch}
 use Rattle.rules.specs.Evaluate.{Env, bind, evalE, evalS, evalB}
@@ -51,6 +51,11 @@ part-work-s {p} {n} {x} rec st env k e = rw e (omega (arith, work-within _ (eval
 pub own-work : (p : Bytes) (n : ℕ) {r : Evaluated} (rec st : Bytes) (env : Env) → boundS (signalAt p n) < 65535 → r ≡ evalS rec st env (signalAt p n)
     → workOf r < 65535
 own-work p n rec st env h e = rw e (omega (arith, work-within _ (evalS-within rec st env (signalAt p n))))
+
+-- A cell's content counts one rule, whatever node it is of.
+pub held-work : {r : Evaluated} (m : ℕ) → r ≡ rule (give (unpacked m)) → workOf r < 65535
+unfolding rule give after _plus_ oneRule nothing
+held-work m e = rw e (omega arith)
 
 -- What a definition and a body count together is small.
 pub let-work : (p : Bytes) (x y : ℕ) {r s : Evaluated} (rec st : Bytes) (env₁ env₂ : Env) → boundS (signalAt p x) + boundS (signalAt p y) < 65535

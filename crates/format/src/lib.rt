@@ -3,17 +3,21 @@ ghost use mathlib.Core.Path.{_≡_};
 ghost use mathlib.Core.Bool.{Bool, false};
 ghost use Prim.Native.Nat.{suc, _+_, _*_, _≤_, _<_};
 ghost use lib.ListN.{length, take, drop};
-ghost use Rattle.rules.specs.Bytes.{_or_, first};
+ghost use Rattle.rules.specs.Bytes.{_or_, u64At, first};
 ghost use Rattle.rules.specs.Values.{isType};
 ghost use Rattle.rules.specs.Layout.{blocks, records, nodes, kindAt};
-ghost use Rattle.rules.specs.Format.{lengthWrong, checkOf, sumWrong, numberWrong, fieldWrong, typeFieldWrong, nodeWrong, isZero, mayEnd, afterEnd, recordWrong};
+ghost use Rattle.rules.specs.Format.{lengthWrong, checkOf, sumWrong, numberWrong, typeFieldWrong, nodeWrong, isZero, mayEnd, afterEnd, recordWrong};
+ghost use Rattle.kinds.specs.Rows.{typeFieldIn, aIn};
+ghost use Rattle.format.specs.ByRow.{leftOut, rowWrong};
+use kinds::a_in;
 use kinds::both;
 use kinds::either;
-use rules::Field;
-use rules::Node;
+use kinds::is_child;
+use kinds::named_in;
+use kinds::row_of;
+use kinds::type_field_in;
 use rules::Place;
 use rules::TypeField;
-use table::node;
 use table::node_at;
 use table::u16_at;
 use table::u32_at;
@@ -112,114 +116,64 @@ pub fn is_type(t: u8) -> bool
     either(is_plain(t), is_maybe(t))
 }
 
-// A field not named for its kind is zero; a channel is 0-7.
-fn field_wrong(f: Field, x: usize) -> bool
-    ensures { λ r. ⌜ r ≡ fieldWrong f x ⌝ }
+// The type is as named, and with it the word: zero but in a value. A value's field a names a child or is zero.
+fn type_wrong(row: u32, t: u8, a: u64, b: u64, w: u32) -> bool
+    ensures { λ r. ⌜ r ≡ (typeFieldWrong (typeFieldIn row) t b w or leftOut (typeFieldIn row) (aIn row) a) ⌝ }
 {
-    match f {
-        Field::Unused => x != 0,
-        Field::Channel => 7 < x,
-        Field::PresentByte => false,
-        Field::Signal => false,
-        Field::Expression => false,
-        Field::FirstBranch => false,
-        Field::NextBranch => false,
-        Field::FirstCase => false,
-        Field::NextCase => false,
-        Field::Binder => false,
-        Field::Target => false,
-    }
-}
-
-// The type is as named, and with it the word: zero but in a value.
-fn type_field_wrong(f: TypeField, t: u8, b: usize, w: u32) -> bool
-    ensures { λ r. ⌜ r ≡ typeFieldWrong f t b w ⌝ }
-{
+    let f = type_field_in(row);
     match f {
         TypeField::NoType => !both(t == 0, w == 0),
         TypeField::AnyType => !both(is_type(t), w == 0),
         TypeField::PlainType => !both(is_plain(t), w == 0),
-        TypeField::ValueType => !both(is_type(t), value_fits(t, b as u64, w as u64)),
+        TypeField::ValueType => {
+            let fits = both(is_type(t), value_fits(t, b, w as u64));
+            !both(fits, either(is_child(a_in(row)), a == 0))
+        }
     }
 }
 
-// The fields of a record of a kind whose row is given are not as the row says.
-fn row_wrong(n: Node, t: TypeField, a: Field, b: Field, c: Field) -> bool
-    ensures { λ r. ⌜ r ≡ (typeFieldWrong t (n .ty) (n .b) (n .word) or fieldWrong a (n .a) or fieldWrong b (n .b) or fieldWrong c (n .c)) ⌝ }
+// A record is not as its kind's row says: a field not named for its kind is zero, so that none of the bits of a, b and c is set but those
+// that the row names.
+fn row_wrong(row: u32, low: u64, word: u32) -> bool
+    ensures { λ r. ⌜ r ≡ rowWrong row low word ⌝ }
 {
-    let ty = type_field_wrong(t, n.ty, n.b, n.word);
-    let x = field_wrong(a, n.a);
-    let y = field_wrong(b, n.b);
-    let z = field_wrong(c, n.c);
-    either(either(either(ty, x), y), z)
+    let rest = low / 65536 >> named_in(row);
+    let ty = type_wrong(
+        row,
+        (low / 256 % 256) as u8,
+        low / 65536 % 65536,
+        low / 4294967296 % 65536,
+        word,
+    );
+    either(rest != 0, ty)
 }
 
-// A row that names no type.
-fn no_type(n: Node, a: Field, b: Field, c: Field) -> bool
-    ensures { λ r. ⌜ r ≡ (typeFieldWrong TypeField.NoType (n .ty) (n .b) (n .word) or fieldWrong a (n .a) or fieldWrong b (n .b) or fieldWrong c (n .c)) ⌝ }
+// The first eight bytes of a record: kind, type, a, b and c.
+fn low_at(p: &[u8], at: usize) -> u64
+    requires { ⌜ at + 8 ≤ length (now p) ⌝ }
+    ensures { λ r. ⌜ r ≡ u64At (now (p .entry)) at ⌝ }
 {
-    row_wrong(n, TypeField::NoType, a, b, c)
+    u32_at(p, at) as u64 + 4294967296 * (u32_at(p, at + 4) as u64)
 }
 
-// A row that names a type.
-fn any_type(n: Node, a: Field, b: Field, c: Field) -> bool
-    ensures { λ r. ⌜ r ≡ (typeFieldWrong TypeField.AnyType (n .ty) (n .b) (n .word) or fieldWrong a (n .a) or fieldWrong b (n .b) or fieldWrong c (n .c)) ⌝ }
-{
-    row_wrong(n, TypeField::AnyType, a, b, c)
-}
-
-// A row that names a plain type.
-fn plain_type(n: Node, a: Field, b: Field, c: Field) -> bool
-    ensures { λ r. ⌜ r ≡ (typeFieldWrong TypeField.PlainType (n .ty) (n .b) (n .word) or fieldWrong a (n .a) or fieldWrong b (n .b) or fieldWrong c (n .c)) ⌝ }
-{
-    row_wrong(n, TypeField::PlainType, a, b, c)
-}
-
-// A row that names a value: a type, a present byte and a word.
-fn value_type(n: Node, a: Field, b: Field, c: Field) -> bool
-    ensures { λ r. ⌜ r ≡ (typeFieldWrong TypeField.ValueType (n .ty) (n .b) (n .word) or fieldWrong a (n .a) or fieldWrong b (n .b) or fieldWrong c (n .c)) ⌝ }
-{
-    row_wrong(n, TypeField::ValueType, a, b, c)
-}
-
-// A record is not as the paper's table says: one decision over its kind, a row for each.
+// A record is not as the paper's table says.
 fn node_wrong(p: &[u8], r: usize) -> bool
     requires { ⌜ (r < records (now p)) × (r < 1008) ⌝ }
     ensures { λ wrong. ⌜ wrong ≡ nodeWrong (now (p .entry)) r ⌝ }
 {
-    let n = node(p, r);
-    let k = n.kind;
-    match k {
-        1 => no_type(n, Field::Channel, Field::Unused, Field::Unused),
-        2 => no_type(n, Field::Unused, Field::Unused, Field::Unused),
-        3 => no_type(n, Field::Expression, Field::Unused, Field::Unused),
-        4 => value_type(n, Field::Signal, Field::PresentByte, Field::Unused),
-        5 => any_type(n, Field::Signal, Field::Signal, Field::Unused),
-        6 => plain_type(n, Field::Signal, Field::Signal, Field::Signal),
-        7 => no_type(n, Field::Signal, Field::FirstBranch, Field::Unused),
-        8 => no_type(n, Field::Signal, Field::FirstCase, Field::Unused),
-        9 => plain_type(n, Field::Signal, Field::NextBranch, Field::Unused),
-        10 => no_type(n, Field::Signal, Field::NextCase, Field::Target),
-        16 => no_type(n, Field::Binder, Field::Unused, Field::Unused),
-        17 => value_type(n, Field::Unused, Field::PresentByte, Field::Unused),
-        18..=23 => no_type(n, Field::Expression, Field::Expression, Field::Unused),
-        24 => no_type(n, Field::Expression, Field::Unused, Field::Unused),
-        25..=26 => no_type(n, Field::Expression, Field::Expression, Field::Unused),
-        27 => no_type(n, Field::Expression, Field::Expression, Field::Expression),
-        28 => no_type(n, Field::Expression, Field::Unused, Field::Unused),
-        29 => plain_type(n, Field::Expression, Field::Expression, Field::Expression),
-        _ => true,
-    }
+    let at = node_at(p, r);
+    let low = low_at(p, at);
+    let row = row_of((low % 256) as u8);
+    either(row == 0, row_wrong(row, low, u32_at(p, at + 8)))
 }
 
-// All 12 bytes of a record are zero: all its fields are.
+// All 12 bytes of a record are zero.
 fn is_zero(p: &[u8], r: usize) -> bool
     requires { ⌜ (r < records (now p)) × (r < 1008) ⌝ }
     ensures { λ zero. ⌜ zero ≡ isZero (now (p .entry)) r ⌝ }
 {
-    let n = node(p, r);
-    let low = both(both(n.kind == 0, n.ty == 0), n.a == 0);
-    both(both(low, both(n.b == 0, n.c == 0)), n.word == 0)
+    let at = node_at(p, r);
+    both(low_at(p, at) == 0, u32_at(p, at + 8) == 0)
 }
 
 // Kind 0 stands only in the last block, not as its first record.

@@ -18,6 +18,7 @@ use places::place;
 use places::sooner;
 use places::wrong_if;
 use rules::Place;
+use table::LAST;
 use table::node;
 
 // The let x, if its definition is around in this region; by all marks as a slice, whose length is told in the proof.
@@ -137,7 +138,7 @@ fn pass_b(p: &&[u8], marks: &mut [u16; 1008], region: usize, j: usize) -> u32
 {
     let n = node(*p, j);
     let body = pass_s(p, marks, region, n.a);
-    if n.b == 65535 {
+    if n.b == LAST {
         return sooner(body, NOWHERE);
     }
     let rest = pass_b(p, marks, region, n.b);
@@ -151,7 +152,7 @@ fn pass_c(p: &&[u8], marks: &mut [u16; 1008], j: usize) -> u32
 {
     let n = node(*p, j);
     let event = pass_s(p, marks, n.a + 1, n.a);
-    if n.b == 65535 {
+    if n.b == LAST {
         return sooner(event, NOWHERE);
     }
     let rest = pass_c(p, marks, n.b);

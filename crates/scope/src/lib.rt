@@ -21,6 +21,7 @@ use places::place;
 use places::sooner;
 use places::wrong_unless;
 use rules::Place;
+use table::LAST;
 use table::node;
 
 // Whether binder n is marked; by the whole array as a slice, whose length is told in the proof.
@@ -225,7 +226,7 @@ fn scope_b(
 {
     let n = node(*p, j);
     let body = inside_s(p, homes, marks, doors, j, n.a, limit);
-    if n.b == 65535 {
+    if n.b == LAST {
         return sooner(body, NOWHERE);
     }
     let rest = scope_b(p, homes, marks, doors, n.b, limit);
@@ -246,7 +247,7 @@ fn scope_c(
     let n = node(*p, j);
     let here = wrong_unless(offered(p, homes, doors, limit, j, n.c), j);
     let event = scope_s(p, homes, marks, doors, n.a, j);
-    if n.b == 65535 {
+    if n.b == LAST {
         return sooner(here, sooner(event, NOWHERE));
     }
     let rest = scope_c(p, homes, marks, doors, n.b, limit);

@@ -1,97 +1,71 @@
--- The children of a node by its row of the table: one, two or three fields that name a child, or none.
+-- The pass over a node's fields: a field counts and is wrong as far as it names a child.
 -- Assumes nothing.
 use mathlib.Core.Path.{_≡_, refl, sym, ap, _∙_}
-use mathlib.Core.Bool.{Bool, true, false}
-use Prim.Native.Nat.{ℕ, _<_, _≤_}
-use lib.Dec.{eqb}
-use borrow.Author.Tests.{eqb-true, eqb-false}
-use Rattle.rules.specs.Bytes.{Bytes, _or_, _and_}
+use mathlib.Core.Bool.{Bool}
+use Prim.Native.Nat.{ℕ}
+use Rattle.rules.specs.Bytes.{Bytes, _and_, _or_}
 use Rattle.rules.specs.Layout.{kindAt}
-use Rattle.rules.specs.declared.Field.{Field}
-use Rattle.rules.specs.declared.Fields.{Fields}
-use Rattle.rules.specs.declared.Node.{Node}
-use Rattle.rules.specs.Kinds.{row, fieldsOf}
 use Rattle.rules.specs.Node.{IsNode}
+use Rattle.rules.specs.Kinds.{fieldsOf}
 use Rattle.rules.specs.Shape.{isChild, childWrong, childrenWrong}
-use Rattle.kinds.proofs.KindLaws.{none-low, none-high}
+use Rattle.rules.specs.declared.Node.{Node}
+use Rattle.rules.specs.declared.Field.{Field}
+use Rattle.rules.specs.declared.Field.the-variants.{Unused, Channel, PresentByte, Signal, Expression, FirstBranch, NextBranch, FirstCase, NextCase, Binder, Target}
+use Rattle.kinds.specs.Rows.{childNumber, childNumbered, asChild, rowOf, aIn, bIn, cIn}
+use Rattle.kinds.proofs.Digits.{a-of, b-of, c-of}
 use Rattle.shape.specs.Counts.{counted, countedIn}
 
-or-false : (b : Bool) → (b or false) ≡ b
-unfolding _or_
-or-false true = refl
-or-false false = refl
+-- A field and what it is as a child are wrong alike, and counted alike.
+abbrev Alike : Field → Field → Type 0
+Alike g f =
+    ((p : Bytes) (i x : ℕ) → childWrong p i g x ≡ childWrong p i f x) × ((l : Bytes) (x : ℕ) → counted l g x ≡ counted l f x)
 
--- A field that names no child is never wrong and counts nothing.
-not-wrong : (p : Bytes) (i : ℕ) (f : Field) (x : ℕ) → isChild f ≡ false → childWrong p i f x ≡ false
-unfolding childWrong _and_
-not-wrong p i f x e = simp e
+alike : (f : Field) → Alike (asChild f) f
+unfolding asChild childNumbered childNumber childWrong counted isChild _and_
+alike Unused = (λ p i x. refl, λ l x. refl)
+alike Channel = (λ p i x. refl, λ l x. refl)
+alike PresentByte = (λ p i x. refl, λ l x. refl)
+alike Signal = (λ p i x. refl, λ l x. refl)
+alike Expression = (λ p i x. refl, λ l x. refl)
+alike FirstBranch = (λ p i x. refl, λ l x. refl)
+alike NextBranch = (λ p i x. refl, λ l x. refl)
+alike FirstCase = (λ p i x. refl, λ l x. refl)
+alike NextCase = (λ p i x. refl, λ l x. refl)
+alike Binder = (λ p i x. refl, λ l x. refl)
+alike Target = (λ p i x. refl, λ l x. refl)
 
-not-counted : (l : Bytes) (f : Field) (x : ℕ) → isChild f ≡ false → counted l f x ≡ l
-unfolding counted
-not-counted l f x e = simp e
+-- A child as the row of a kind says it.
+as-field : (g f : Field) → g ≡ asChild f → Alike g f
+as-field g f e = rw e (alike f)
 
--- What is asked of the pass at node i: whether a child is wrong, and the counts.
+-- What the pass over one node answers and leaves.
 abbrev pub Passed : Bytes → ℕ → Bytes → Bool → Bytes → Type 0
 Passed p i l r l' = (r ≡ childrenWrong p i) × (l' ≡ countedIn p l i)
 
--- The pass has seen the fields of a row q that name a child: it has seen the whole node.
-module _ {p l' : Bytes} {i : ℕ} {n : Node} {r : Bool} (l : Bytes) (is : IsNode p i n) (q : Fields) (e : fieldsOf (n .kind) ≡ q) where
-  pub of-three : (r ≡ (childWrong p i (q .a) (n .a) or childWrong p i (q .b) (n .b) or childWrong p i (q .c) (n .c)))
-      × (l' ≡ counted (counted (counted l (q .a) (n .a)) (q .b) (n .b)) (q .c) (n .c))
-      → Passed p i l r l'
+-- Three tests, and three counts one after the other.
+three-tests : {a b c ab r x y z : Bool} → ab ≡ (a or b) → r ≡ (ab or c) → a ≡ x → b ≡ y → c ≡ z → r ≡ (x or y or z)
+three-tests hab hr ea eb ec = cc
+
+three-counts : (l : Bytes) {l₁ l₂ l₃ : Bytes} (f g h : Field) (x y z : ℕ) → l₁ ≡ counted l f x → l₂ ≡ counted l₁ g y → l₃ ≡ counted l₂ h z
+    → l₃ ≡ counted (counted (counted l f x) g y) h z
+three-counts l f g h x y z e₁ e₂ e₃ = cc
+
+-- The three fields of a node, by its kind's row.
+module _ {p : Bytes} {i : ℕ} {n : Node} (is : IsNode p i n) {row : ℕ} (said : row ≡ rowOf (n .kind)) where
+  pub passed : (l : Bytes) {l₁ l₂ l₃ : Bytes} {a b c ab r : Bool} {ga gb gc : Field} → ga ≡ aIn row → gb ≡ bIn row → gc ≡ cIn row
+      → (a ≡ childWrong p i ga (n .a)) × (l₁ ≡ counted l ga (n .a))
+      → (b ≡ childWrong p i gb (n .b)) × (l₂ ≡ counted l₁ gb (n .b))
+      → (c ≡ childWrong p i gc (n .c)) × (l₃ ≡ counted l₂ gc (n .c))
+      → ab ≡ (a or b) → r ≡ (ab or c) → Passed p i l r l₃
   unfolding childrenWrong countedIn
-  of-three w =
-      let k : fieldsOf (kindAt p i) ≡ q = ap fieldsOf (sym (is .kind-is)) ∙ e in
-      (w .0 ∙ rw (k, is .a-is, is .b-is, is .c-is), w .1 ∙ rw (k, is .a-is, is .b-is, is .c-is))
-
-  pub of-two : isChild (q .c) ≡ false
-      → (r ≡ (childWrong p i (q .a) (n .a) or childWrong p i (q .b) (n .b)))
-      × (l' ≡ counted (counted l (q .a) (n .a)) (q .b) (n .b))
-      → Passed p i l r l'
-  of-two hc w =
-      let two = childWrong p i (q .a) (n .a) or childWrong p i (q .b) (n .b) in
-      of-three (
-        w .0 ∙ sym (or-false _) ∙ ap (λ (b : Bool). two or b) (sym (not-wrong p i (q .c) (n .c) hc)),
-        w .1 ∙ sym (not-counted _ (q .c) (n .c) hc),
+  passed l {ga = ga} {gb = gb} {gc = gc} ea eb ec ha hb hc hab hr =
+      let f = fieldsOf (n .kind) in
+      let fa = as-field ga (f .a) (ea ∙ ap aIn said ∙ a-of (n .kind)) in
+      let fb = as-field gb (f .b) (eb ∙ ap bIn said ∙ b-of (n .kind)) in
+      let fc = as-field gc (f .c) (ec ∙ ap cIn said ∙ c-of (n .kind)) in
+      let k : fieldsOf (kindAt p i) ≡ f = ap fieldsOf (sym (is .kind-is)) in (
+        three-tests hab hr (ha .0 ∙ fa .0 p i (n .a)) (hb .0 ∙ fb .0 p i (n .b)) (hc .0 ∙ fc .0 p i (n .c))
+            ∙ rw (k, is .a-is, is .b-is, is .c-is),
+        three-counts l (f .a) (f .b) (f .c) (n .a) (n .b) (n .c) (ha .1 ∙ fa .1 l (n .a)) (hb .1 ∙ fb .1 _ (n .b)) (hc .1 ∙ fc .1 _ (n .c))
+            ∙ rw (k, is .a-is, is .b-is, is .c-is),
       )
-
-  pub of-one : isChild (q .b) ≡ false → isChild (q .c) ≡ false
-      → (r ≡ childWrong p i (q .a) (n .a)) × (l' ≡ counted l (q .a) (n .a))
-      → Passed p i l r l'
-  of-one hb hc w =
-      of-two hc (
-        w .0 ∙ sym (or-false _) ∙ ap (λ (b : Bool). childWrong p i (q .a) (n .a) or b) (sym (not-wrong p i (q .b) (n .b) hb)),
-        w .1 ∙ sym (not-counted _ (q .b) (n .b) hb),
-      )
-
--- A row whose fields name no child.
-abbrev pub Childless : Fields → Type 0
-Childless q = (isChild (q .a) ≡ false) × (isChild (q .b) ≡ false) × (isChild (q .c) ≡ false)
-
-pub of-none : {p : Bytes} {i : ℕ} {n : Node} (l : Bytes) → IsNode p i n → Childless (fieldsOf (n .kind)) → Passed p i l false l
-of-none {p} {i} {n} l is h =
-    let q = fieldsOf (n .kind) in
-    of-one l is q refl (h .1) (h .2)
-    (sym (not-wrong p i (q .a) (n .a) (h .0)), sym (not-counted l (q .a) (n .a) (h .0)))
-
-by-eq : {A : Type 0} (k m : ℕ) → (k ≡ m → A) → ((k ≡ m → ⊥) → A) → A
-by-eq {A} k m same other = go (eqb k m) refl
-  where
-    go : (b : Bool) → eqb k m ≡ b → A
-    go true q = same (eqb-true k m q)
-    go false q = other (eqb-false k m q)
-
--- Below the operators only the kinds 3 to 10 have children.
-pub childless-low : (k : ℕ) → k < 18 → (k ≡ 3 → ⊥) → (k ≡ 4 → ⊥) → (k ≡ 5 → ⊥) → (k ≡ 6 → ⊥) → (k ≡ 7 → ⊥) → (k ≡ 8 → ⊥)
-    → (k ≡ 9 → ⊥) → (k ≡ 10 → ⊥) → Childless (fieldsOf k)
-unfolding fieldsOf row isChild
-childless-low k u n3 n4 n5 n6 n7 n8 n9 n10 =
-    by-eq k 1 (λ e. rw e (refl, refl, refl)) λ n1.
-    by-eq k 16 (λ e. rw e (refl, refl, refl)) λ n16.
-    by-eq k 17 (λ e. rw e (refl, refl, refl)) λ n17.
-    rw (sym (none-low k u n1 n3 n4 n5 n6 n7 n8 n9 n10 n16 n17)) (refl, refl, refl)
-
--- Past the operators only the kinds 27 to 29 do.
-pub childless-high : (k : ℕ) → 27 ≤ k → (k ≡ 27 → ⊥) → (k ≡ 28 → ⊥) → (k ≡ 29 → ⊥) → Childless (fieldsOf k)
-unfolding row isChild
-childless-high k l d e f = rw (sym (none-high k l d e f)) (refl, refl, refl)

@@ -9,14 +9,19 @@ ghost use Rattle.rules.specs.Layout.{nodes, records};
 ghost use Rattle.rules.specs.Kinds.{isSignal};
 ghost use Rattle.rules.specs.Shape.{isChild, mayBe, mayStop, childWrong, childrenWrong, shapeWrong, named};
 ghost use Rattle.shape.specs.Counts.{more as moreOf, counted as countedOf, countedIn, markedTo, markOf, lastWrong, Sized};
+use kinds::a_in;
+use kinds::b_in;
 use kinds::both;
+use kinds::c_in;
 use kinds::either;
 use kinds::is_child;
 use kinds::is_signal;
 use kinds::may_be;
 use kinds::may_stop;
+use kinds::row_of;
 use rules::Field;
 use rules::Place;
+use table::LAST;
 use table::node;
 
 // The child x that a field of node i names is out of range or of the wrong sort.
@@ -27,7 +32,7 @@ fn child_wrong(p: &[u8], i: usize, f: Field, x: usize) -> bool
     if !is_child(f) {
         return false;
     }
-    if both(may_stop(f), x == 65535) {
+    if both(may_stop(f), x == LAST) {
         return false;
     }
     if x < i {
@@ -64,51 +69,17 @@ fn one(p: &[u8], counts: &mut [u8], i: usize, f: Field, x: usize) -> bool
     child_wrong(p, i, f, x)
 }
 
-// Two children of node i.
-fn two(p: &[u8], counts: &mut [u8], i: usize, f: Field, x: usize, g: Field, y: usize) -> bool
-    requires { ⌜ (i < records (now p)) × (i < 1008) ⌝ }
-    ensures { λ r. ⌜ (r ≡ (childWrong (now (p .entry)) i f x or childWrong (now (p .entry)) i g y)) × (now (counts .exit) ≡ countedOf (countedOf (now (counts .entry)) f x) g y) ⌝ }
-{
-    let a = one(p, counts, i, f, x);
-    let b = one(p, counts, i, g, y);
-    either(a, b)
-}
-
-// Three children of node i, of one sort.
-fn three(p: &[u8], counts: &mut [u8], i: usize, f: Field, x: usize, y: usize, z: usize) -> bool
-    requires { ⌜ (i < records (now p)) × (i < 1008) ⌝ }
-    ensures { λ r. ⌜ (r ≡ (childWrong (now (p .entry)) i f x or childWrong (now (p .entry)) i f y or childWrong (now (p .entry)) i f z)) × (now (counts .exit) ≡ countedOf (countedOf (countedOf (now (counts .entry)) f x) f y) f z) ⌝ }
-{
-    let a = one(p, counts, i, f, x);
-    let b = one(p, counts, i, f, y);
-    let c = one(p, counts, i, f, z);
-    either(either(a, b), c)
-}
-
-// The children of node i, by its kind: all are counted, and whether one is wrong is answered.
+// The children of node i, by the row of its kind: all are counted, and whether one is wrong is answered.
 fn children(p: &[u8], counts: &mut [u8], i: usize) -> bool
     requires { ⌜ (i < records (now p)) × (i < 1008) ⌝ }
     ensures { λ r. ⌜ (r ≡ childrenWrong (now (p .entry)) i) × (now (counts .exit) ≡ countedIn (now (p .entry)) (now (counts .entry)) i) ⌝ }
 {
     let n = node(p, i);
-    let k = n.kind;
-    match k {
-        3 => one(p, counts, i, Field::Expression, n.a),
-        4 => one(p, counts, i, Field::Signal, n.a),
-        5 => two(p, counts, i, Field::Signal, n.a, Field::Signal, n.b),
-        6 => three(p, counts, i, Field::Signal, n.a, n.b, n.c),
-        7 => two(p, counts, i, Field::Signal, n.a, Field::FirstBranch, n.b),
-        8 => two(p, counts, i, Field::Signal, n.a, Field::FirstCase, n.b),
-        9 => two(p, counts, i, Field::Signal, n.a, Field::NextBranch, n.b),
-        10 => two(p, counts, i, Field::Signal, n.a, Field::NextCase, n.b),
-        18..=23 => two(p, counts, i, Field::Expression, n.a, Field::Expression, n.b),
-        24 => one(p, counts, i, Field::Expression, n.a),
-        25..=26 => two(p, counts, i, Field::Expression, n.a, Field::Expression, n.b),
-        27 => three(p, counts, i, Field::Expression, n.a, n.b, n.c),
-        28 => one(p, counts, i, Field::Expression, n.a),
-        29 => three(p, counts, i, Field::Expression, n.a, n.b, n.c),
-        _ => false,
-    }
+    let row = row_of(n.kind);
+    let a = one(p, counts, i, a_in(row), n.a);
+    let b = one(p, counts, i, b_in(row), n.b);
+    let c = one(p, counts, i, c_in(row), n.c);
+    either(either(a, b), c)
 }
 
 // All nodes in one pass: their children are counted, and a node is marked with 2 where a child of its own is wrong. The answer is whether

@@ -4,14 +4,13 @@ ghost use Prim.Native.Nat.{_+_, _-_, _≤_, _<_};
 ghost use lib.ListN.{length, getD, replicate};
 ghost use Rattle.rules.specs.Bytes.{writeAt};
 ghost use Rattle.rules.specs.Values.{packed, valueFrom};
-ghost use Rattle.rules.specs.Layout.{nodes, cellAt, cell as cellIn, setCell, headerLength, stateLength, startHeader};
+ghost use Rattle.rules.specs.Layout.{nodes, cellAt, setCell, headerLength, stateLength, startHeader};
 ghost use Rattle.rules.specs.Kinds.{isSignal, isBranch, isCase};
 ghost use Rattle.rules.specs.Shaped.{NodeOf};
 ghost use Rattle.rules.specs.Tree.{signalAt, branchesAt, casesAt};
 ghost use Rattle.rules.specs.Reset.{resetS, resetB, resetC, startState};
 ghost use Rattle.cells.specs.Indexed.{Indexed};
 ghost use Rattle.state.specs.Stated.{Stated};
-use cells::cell;
 use cells::kind_by;
 use cells::node_by;
 use cells::number_of;
@@ -19,6 +18,7 @@ use cells::put32;
 use cells::set_cell;
 use rules::Node;
 use stamp::checks_of;
+use table::LAST;
 use values::pack_from;
 
 // The content of the first value of a delay.
@@ -28,17 +28,8 @@ pub fn first_value(n: Node) -> u64
     pack_from(n.ty, n.b, n.word)
 }
 
-// The content of the cell of node i.
-pub fn own_cell(index: &[u16], st: &[u8], i: usize) -> u64
-    requires { ⌜ (i < length (now index)) × (cellAt (getD (now index) i 0) + 8 ≤ length (now st)) ⌝ }
-    ensures { λ r. ⌜ r ≡ cellIn (now (st .entry)) (getD (now (index .entry)) i 0) ⌝ }
-{
-    let k = number_of(index, i);
-    cell(st, k)
-}
-
 // A content stored in the cell of node i.
-fn set_own(index: &[u16], st: &mut [u8], i: usize, m: u64)
+pub fn set_own(index: &[u16], st: &mut [u8], i: usize, m: u64)
     requires { ⌜ (i < length (now index)) × (cellAt (getD (now index) i 0) + 8 ≤ length (now st)) ⌝ }
     ensures { λ _. ⌜ now (st .exit) ≡ setCell (now (st .entry)) (getD (now (index .entry)) i 0) m ⌝ }
 {
@@ -99,7 +90,7 @@ pub fn reset_b(p: &&[u8], index: &[u16; 2016], st: &mut [u8], j: usize)
 {
     let n = node_by(*p, index, j);
     resets(p, index, st, n.a);
-    if n.b != 65535 {
+    if n.b != LAST {
         reset_b(p, index, st, n.b);
     }
 }
@@ -111,7 +102,7 @@ pub fn reset_c(p: &&[u8], index: &[u16; 2016], st: &mut [u8], j: usize)
 {
     let n = node_by(*p, index, j);
     resets(p, index, st, n.a);
-    if n.b != 65535 {
+    if n.b != LAST {
         reset_c(p, index, st, n.b);
     }
 }

@@ -5,7 +5,11 @@ ghost use lib.ListN.{length};
 ghost use Rattle.rules.specs.Bytes.{byteAt, u16At, u32At};
 ghost use Rattle.rules.specs.Layout.{records, recordAt, typeAt};
 ghost use Rattle.rules.specs.Node.{IsNode};
+use rules::NO_NEXT;
 use rules::Node;
+
+// A next field that holds this number is its list's last.
+pub const LAST: usize = NO_NEXT as usize;
 
 fn wide(x: u8) -> usize
     ensures { λ r. ⌜ (r ≡ x) × (r < 256) ⌝ }

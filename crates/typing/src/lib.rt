@@ -22,16 +22,13 @@ use places::wrong_unless;
 use rules::BOOL;
 use rules::INT;
 use rules::MAYBE;
-use rules::NO_NEXT;
 use rules::Place;
+use table::LAST;
 use table::declared;
 use table::node;
 use values::MAYBE_INT;
 use values::is_plain;
 use values::type_in;
-
-// What the next of a list's last node is.
-const LAST: usize = NO_NEXT as usize;
 
 // The type of the root, and the smallest wrong place.
 pub struct Typed {

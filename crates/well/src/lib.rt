@@ -16,6 +16,7 @@ use answers::otherwise;
 use answers::refuse_if;
 use cells::cell_at;
 use cells::last_time;
+use cells::own_cell;
 use kinds::both;
 use kinds::either;
 use rules::Refusal;
@@ -23,26 +24,20 @@ use rules::Verdict;
 use stamp::checks_of;
 use stamp::sum_in;
 use state::first_value;
-use state::own_cell;
+use table::LAST;
 use table::node;
+use values::type_in;
 use values::value_fits;
 
-// The type in a content.
-fn type_in(m: u64) -> u8
-    ensures { λ r. ⌜ r ≡ typeIn m ⌝ }
-{
-    (m % 256) as u8
-}
-
 // The number in bytes 2-3 of a content.
-fn middle_in(m: u64) -> usize
+pub fn middle_in(m: u64) -> usize
     ensures { λ r. ⌜ r ≡ middleIn m ⌝ }
 {
     (m / 65536 % 65536) as usize
 }
 
 // A content is a value of type t, with a number in bytes 2-3.
-fn content_fits(t: u8, middle: usize, m: u64) -> bool
+pub fn content_fits(t: u8, middle: usize, m: u64) -> bool
     ensures { λ r. ⌜ r ≡ contentFits t middle m ⌝ }
 {
     let fits = value_fits(t, m / 256 % 256, m / 4294967296);
@@ -88,7 +83,7 @@ fn rests_b(p: &&[u8], index: &[u16; 2016], st: &&[u8], j: usize) -> bool
 {
     let n = node(*p, j);
     let body = rests_s(p, index, st, n.a);
-    if n.b == 65535 {
+    if n.b == LAST {
         return both(body, true);
     }
     let next = rests_b(p, index, st, n.b);
@@ -102,7 +97,7 @@ fn rests_c(p: &&[u8], index: &[u16; 2016], st: &&[u8], j: usize) -> bool
 {
     let n = node(*p, j);
     let event = rests_s(p, index, st, n.a);
-    if n.b == 65535 {
+    if n.b == LAST {
         return both(event, true);
     }
     let next = rests_c(p, index, st, n.b);
@@ -160,14 +155,14 @@ fn well_b(p: &&[u8], index: &[u16; 2016], st: &&[u8], j: usize, m: u64) -> bool
     if j == middle_in(m) {
         let body = well_s(p, index, st, n.a);
         let here = both(content_fits(n.ty, j, m), body);
-        if n.b == 65535 {
+        if n.b == LAST {
             return both(here, true);
         }
         let next = rests_b(p, index, st, n.b);
         return both(here, next);
     }
     let body = rests_s(p, index, st, n.a);
-    if n.b == 65535 {
+    if n.b == LAST {
         return both(body, false);
     }
     let next = well_b(p, index, st, n.b, m);
@@ -181,7 +176,7 @@ fn well_c(p: &&[u8], index: &[u16; 2016], st: &&[u8], j: usize) -> bool
 {
     let n = node(*p, j);
     let event = well_s(p, index, st, n.a);
-    if n.b == 65535 {
+    if n.b == LAST {
         return both(event, true);
     }
     let next = well_c(p, index, st, n.b);

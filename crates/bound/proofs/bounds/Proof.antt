@@ -1,5 +1,5 @@
 -- Two words below 2^32 stand in one of 64 bits apart, the first in the low half.
-use Rattle.bound.specs.Small.{evalIn, updateIn}
+use Rattle.bound.specs.SmallTree.{evalIn, updateIn}
 use borrow.Author.Needs.{needs}
 use Rattle.bound.proofs.bounds.Statement.{statement}
 use Rattle.bound.proofs.bounds.Tie as tie

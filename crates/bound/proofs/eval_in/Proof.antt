@@ -1,5 +1,5 @@
 -- The low half is what is left after division by 2^32, which is a word.
-use Rattle.bound.specs.Small.{evalIn}
+use Rattle.bound.specs.SmallTree.{evalIn}
 use borrow.Author.Needs.{needs}
 use Rattle.bound.proofs.eval_in.Statement.{statement}
 use Rattle.bound.proofs.eval_in.Tie as tie

@@ -1,5 +1,5 @@
 -- The high half of 64 bits is below 2^32, so it is a word.
-use Rattle.bound.specs.Small.{updateIn}
+use Rattle.bound.specs.SmallTree.{updateIn}
 use borrow.Author.Needs.{needs}
 use Rattle.bound.proofs.update_in.Statement.{statement}
 use Rattle.bound.proofs.update_in.Tie as tie

@@ -1,6 +1,8 @@
 use Rattle.rules.proofs.PutBack.{put-back}
-use Rattle.evaluate.proofs.SignalLaws.{read-s, part-work-s, own-work, let-work, let-pair, ext-part, let-parts, switch-parts, group-part, branch-part, until-part, cell-in, delay-cell, switch-cell, group-cell, input-eval, time-eval, ext-eval, until-eval, let-goes, let-stuck, bound-goes, delay-eval, switch-first, switch-second, group-body, group-branch, group-stuck}
+use Rattle.evaluate.proofs.SignalLaws.{read-s, part-work-s, own-work, let-work, let-pair, ext-part, let-parts, switch-parts, group-part, branch-part, until-part, cell-in, held-work, delay-cell, switch-cell, group-cell, input-eval, time-eval, ext-eval, until-eval, let-goes, let-stuck, bound-goes, delay-eval, switch-first, switch-second, group-body, group-branch, group-stuck}
 use Rattle.rules.specs.Work.{rule}
+use Rattle.rules.specs.Bytes.{_or_}
+use Rattle.rules.specs.Layout.{hasCell}
 use Rattle.evaluate.proofs.ExprLaws.{read as read-e, part-work}
 use Rattle.outcomes.specs.Outcome.{IsValue, IsProper, Slots}
 use Rattle.outcomes.proofs.Outcomes.{shown-value, shown-exact, shown-work, shown-stuck, slots-set, bind-value, exact-value, exact-same, proper-channel, proper-int}
@@ -529,9 +531,10 @@ through-kind-by-requires t c κs = let ready = c .before .pre .1 in (ready .inde
 
 -- src/lib.rt:183:27
 through-content-requires : (t : ℕ) → through-lts.Need-content-requires (through-calls t) (through-at t) through.Post
+unfolding hasCell _or_
 through-content-requires t c κs =
     let ready = c .before .before .before .before .before .pre .1 in
-    cell-in (c .before .before .before .before .before .args .p .now .now) (c .before .before .before .before .before .args .i) (ready .node) (c .before .before .before .before .before .args .ix .now) (ready .indexed) (c .before .before .before .before .before .args .st .now .now) (ready .state) (delay-cell (sym (c .before .before .before .kind-by .ensures) ∙ c .before .before .if1 .taken))
+    cell-in (c .before .before .before .before .before .args .p .now .now) (c .before .before .before .before .before .args .i) (ready .node) (c .before .before .before .before .before .args .ix .now) (ready .indexed) (c .before .before .before .before .before .args .st .now .now) (ready .state) (ap hasCell (sym (c .before .before .before .kind-by .ensures) ∙ c .before .before .if1 .taken))
 
 -- src/lib.rt:183:22
 through-held-requires : (t : ℕ) → through-lts.Need-held-requires (through-calls t) (through-at t) through.Post
@@ -539,11 +542,7 @@ through-held-requires t c κs = search needs
 
 -- src/lib.rt:183:9
 through-ruled-requires : (t : ℕ) → through-lts.Need-ruled-requires (through-calls t) (through-at t) through.Post
-through-ruled-requires t c κs =
-    let ready = c .before .before .before .before .before .before .before .pre .1 in
-    let a = c .before .before .before .before .before .before .before .args in
-    let is = delay-eval (a .p .now .now) (a .i) (ready .node) (a .rec .now .now) (a .st .now .now) (a .env .now) (c .before .content .ensures) (ready .indexed .numbers (a .i) (ready .node)) (sym (c .before .before .before .before .before .kind-by .ensures) ∙ c .before .before .before .before .if1 .taken) in
-    (c .held .ensures .1, own-work (a .p .now .now) (a .i) (a .rec .now .now) (a .st .now .now) (a .env .now) (ready .small) (c .held .ensures .0 ∙ sym is))
+through-ruled-requires t c κs = (c .held .ensures .1, held-work _ (c .held .ensures .0))
 
 -- src/lib.rt:183:9
 through-returns : (t : ℕ) → through-lts.Need-returns (through-calls t) (through-at t) through.Post

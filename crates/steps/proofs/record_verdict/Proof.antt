@@ -1,4 +1,8 @@
-use Rattle.rules.specs.Calls.{recordVerdict}
+use mathlib.Core.Path.{_≡_, ap, _∙_}
+use mathlib.Core.Bool.{Bool}
+use Rattle.rules.specs.Calls.{refuseIf, _otherwise_, recordVerdict}
+use Rattle.rules.specs.declared.Refusal.{Refusal}
+use Rattle.rules.specs.declared.Verdict.{Verdict}
 use borrow.Author.Needs.{needs}
 use Rattle.steps.proofs.record_verdict.Statement.{statement}
 use Rattle.steps.proofs.record_verdict.Tie as tie
@@ -24,9 +28,20 @@ refuse-if-requires-2 c κs = search needs
 otherwise-requires : tie.Need-otherwise-requires
 otherwise-requires c κs = search needs
 
+-- A fault if a test fails, from the answers of the test and of refuse_if.
+refused : (r : Refusal) {w w′ : Bool} {v : Verdict} → v ≡ refuseIf w r → w ≡ w′ → v ≡ refuseIf w′ r
+refused r told found = told ∙ ap (λ (b : Bool). refuseIf b r) found
+
+-- The first of two faults.
+firstly : {v v′ w w′ r : Verdict} → r ≡ (v otherwise w) → v ≡ v′ → w ≡ w′ → r ≡ (v′ otherwise w′)
+firstly {v′ = v′} {w = w} told one other = told ∙ ap (λ (x : Verdict). x otherwise w) one ∙ ap (λ (y : Verdict). v′ otherwise y) other
+
 returns : tie.Need-returns
 unfolding recordVerdict
-returns c = cc
+returns c =
+    firstly (c .otherwise .ensures)
+    (refused _ (c .before .before .before .refuse-if .ensures) (c .before .before .before .before .input-wrong .ensures))
+    (refused _ (c .before .refuse-if2 .ensures) (c .before .before .time-wrong .ensures))
 
 pub record-verdict-spec : {M : Type 1} → statement M
 record-verdict-spec =

@@ -18,7 +18,7 @@ use Rattle.well.proofs.rests_s.Reads as rests-s
 use Rattle.well.proofs.rests_s.Kinds as rests-s-kinds
 use Rattle.well.proofs.+rests_b+rests_c+rests_s.Lts-rests_s as rests-s-lts
 use Rattle.state.proofs.first_value.Reads as first-value-reads
-use Rattle.state.proofs.own_cell.Reads as own-cell-reads
+use Rattle.cells.proofs.own_cell.Reads as own-cell-reads
 use Rattle.table.proofs.node.Reads as node-reads
 use Rattle.kinds.proofs.both.Reads as both-reads
 use Rattle.well.proofs.+rests_b+rests_c+rests_s.{statement}

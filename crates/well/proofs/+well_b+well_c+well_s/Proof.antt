@@ -17,7 +17,7 @@ use Rattle.well.proofs.+well_b+well_c+well_s.Lts-well_c as well-c-lts
 use Rattle.well.proofs.well_s.Reads as well-s
 use Rattle.well.proofs.well_s.Kinds as well-s-kinds
 use Rattle.well.proofs.+well_b+well_c+well_s.Lts-well_s as well-s-lts
-use Rattle.state.proofs.own_cell.Reads as own-cell-reads
+use Rattle.cells.proofs.own_cell.Reads as own-cell-reads
 use Rattle.table.proofs.node.Reads as node-reads
 use Rattle.kinds.proofs.both.Reads as both-reads
 use Rattle.well.proofs.content_fits.Reads as content-fits-reads

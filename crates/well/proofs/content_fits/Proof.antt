@@ -7,7 +7,7 @@ use Rattle.well.proofs.content_fits.Reads as reads
 use Rattle.well.proofs.content_fits.Lts as lts
 use Rattle.kinds.proofs.both.Reads as both-reads
 use Rattle.well.proofs.middle_in.Reads as middle-in-reads
-use Rattle.well.proofs.type_in.Reads as type-in-reads
+use Rattle.values.proofs.type_in.Reads as type-in-reads
 use Rattle.values.proofs.value_fits.Reads as value-fits-reads
 
 -- src/lib.rt:63:9

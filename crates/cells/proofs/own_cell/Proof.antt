@@ -1,11 +1,11 @@
 use mathlib.Core.Path.{_≡_, refl, sym, ap, _∙_}
 use borrow.Author.Needs.{needs}
-use Rattle.state.proofs.own_cell.Statement.{statement}
-use Rattle.state.proofs.own_cell.Tie as tie
-use Rattle.state.proofs.own_cell.Reads as reads
-use Rattle.state.proofs.own_cell.Lts as lts
+use Rattle.cells.proofs.own_cell.Statement.{statement}
+use Rattle.cells.proofs.own_cell.Tie as tie
+use Rattle.cells.proofs.own_cell.Reads as reads
+use Rattle.cells.proofs.own_cell.Lts as lts
 use Rattle.cells.proofs.cell.Reads as cell-reads
 use Rattle.cells.proofs.number_of.Reads as number-of-reads
 
 -- src/lib.rt:34:9
 number-of-requires : tie.Need-number-of-requires

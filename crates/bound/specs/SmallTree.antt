@@ -22,7 +22,7 @@ abbrev pub nodesC : Bytes → ℕ → ℕ
 nodesC p i = sizeC (casesAt p i)
 
 -- A node of a sort, whose tree has at most 1008 nodes.
-pub record Small (sort : ℕ → Bool) (size : Bytes → ℕ → ℕ) (p : Bytes) (i : ℕ) : Type 0 where
+pub record SmallTree (sort : ℕ → Bool) (size : Bytes → ℕ → ℕ) (p : Bytes) (i : ℕ) : Type 0 where
   pub node : NodeOf sort p i
   pub small : size p i ≤ 1008
 

@@ -1,0 +1,32 @@
+-- The rows of the pairings hold, by computation.
+-- Assumes nothing.
+use mathlib.Core.Path.{_≡_, refl}
+use Rattle.rules.specs.Bytes.{_and_, _or_, byteAt, u16At, u32At, u64At, bytesOf, writeAt, firstFrom, first, howMany}
+use Rattle.rules.specs.Calls.{_otherwise_, refuseIf, refuseAt, programVerdict}
+use Rattle.rules.specs.Format.{lengthWrong, weighed, checkOf, sumWrong, numberWrong, fieldWrong, typeFieldWrong, nodeWrong, isZero, mayEnd, afterEnd, recordWrong}
+use Rattle.rules.specs.Kinds.{row, isSignal, isExpression, isBranch, isCase, isKind, fieldsOf}
+use Rattle.rules.specs.Layout.{blocks, blockAt, numberIn, countIn, editionIn, edition, checkIn, checksBelow, checksOf, records, recordAt, kindAt, typeAt, aAt, bAt, cAt, wordAt, placeOr, nodes, hasCell, cellsBefore, cells, startHeader, cellAt, stateLength, lastTime, sumIn, setTime, cell, setCell, held, hold, isClear, clear, branchIn, holdBranch, inputAt, timeIn, wordOn, flagOn, eventOn, channelType, channelValue}
+use Rattle.rules.specs.Operations.{truth, isTrue, operandType, resultType, numberOf, truthOf, meaning}
+use Rattle.rules.specs.Places.{sooner, wrongIf, wrongUnless}
+use Rattle.rules.specs.Ready.{needsE, needsS, readyS, readyFault}
+use Rattle.rules.specs.Scope.{mark, isMarked, unmarked, hasBranch, isOffered, onward, scopeE, scopeS, scopeFault}
+use Rattle.rules.specs.Shape.{isChild, mayBe, mayStop, childWrong, childrenWrong, names, namesIn, namedBelow, named, shapeWrong}
+use Rattle.rules.specs.Tree.{valueAt, exprAs, below, noExpr, exprF, exprAt, signalAs, branchesAs, casesAs, noSignal, signalF, signalAt, branchesAt, casesAt, root}
+use Rattle.rules.specs.Typing.{justType, typeE, typeS, typesE, bodiesHave, typesS, typeFault}
+use Rattle.rules.specs.Values.{maybeOf, isPlain, isMaybe, isType, typeOf, valueFrom, valueFits, packed, valueBytes, typeIn, presentIn, middleIn, wordIn, unpacked}
+use Rattle.dropped.specs.Pairing.{oldOf, reachesF, reaches, fieldRight, entryRight, entryWrong, pairingFault}
+use Rattle.dropped.specs.PairedCall.{editionsDiffer, entriesAnswer, pairingAnswer, newAnswer, oldAnswer, pairedCall}
+use Rattle.dropped.specs.Clauses.{unless, earlier, nextBroken, fieldBroken, fieldsBroken, nodeBroken, entryBroken}
+use Rattle.dropped.specs.PairedRows.{called, calledSo, faults, faultsSo, broken, brokenSo}
+
+pub called-so : called ≡ calledSo
+unfolding checksBelow checksOf cells startHeader cellAt stateLength lastTime sumIn setTime cell setCell held hold isClear clear branchIn holdBranch inputAt timeIn wordOn flagOn eventOn channelValue u64At writeAt _and_ _or_ byteAt u16At u32At bytesOf firstFrom first howMany _otherwise_ refuseIf refuseAt programVerdict lengthWrong weighed checkOf sumWrong numberWrong fieldWrong typeFieldWrong nodeWrong isZero mayEnd afterEnd recordWrong row isSignal isExpression isBranch isCase isKind fieldsOf blocks blockAt numberIn countIn editionIn edition checkIn records recordAt kindAt typeAt aAt bAt cAt wordAt placeOr nodes hasCell cellsBefore channelType truth isTrue operandType resultType numberOf truthOf meaning sooner wrongIf wrongUnless needsE needsS readyS readyFault mark isMarked unmarked hasBranch isOffered onward scopeE scopeS scopeFault isChild mayBe mayStop childWrong childrenWrong names namesIn namedBelow named shapeWrong valueAt exprAs below noExpr exprF exprAt signalAs branchesAs casesAs noSignal signalF signalAt branchesAt casesAt root justType typeE typeS typesE bodiesHave typesS typeFault maybeOf isPlain isMaybe isType typeOf valueFrom valueFits packed valueBytes typeIn presentIn middleIn wordIn unpacked oldOf reachesF reaches fieldRight entryRight entryWrong pairingFault editionsDiffer entriesAnswer pairingAnswer newAnswer oldAnswer pairedCall unless earlier nextBroken fieldBroken fieldsBroken nodeBroken entryBroken
+called-so = refl
+
+pub faults-so : faults ≡ faultsSo
+unfolding _and_ _or_ byteAt u16At u32At bytesOf weighed checkOf firstFrom first row fieldsOf records blocks blockAt recordAt kindAt typeAt aAt bAt cAt wordAt placeOr nodes oldOf reachesF reaches fieldRight entryRight entryWrong pairingFault unless earlier nextBroken fieldBroken fieldsBroken nodeBroken entryBroken
+faults-so = refl
+
+pub broken-so : broken ≡ brokenSo
+unfolding _and_ _or_ byteAt u16At u32At bytesOf weighed checkOf firstFrom first row fieldsOf records blocks blockAt recordAt kindAt typeAt aAt bAt cAt wordAt placeOr nodes oldOf reachesF reaches fieldRight entryRight entryWrong pairingFault unless earlier nextBroken fieldBroken fieldsBroken nodeBroken entryBroken
+broken-so = refl

@@ -1,0 +1,14 @@
+pub mod Less
+pub mod Falls
+pub mod Alike
+pub mod Answers
+pub mod Pairing
+pub mod Uses
+pub mod Tidy
+pub mod Rule
+pub mod Apart
+pub mod Rows
+pub mod PairedCall
+pub mod PairedSays
+pub mod Clauses
+pub mod PairedRows

@@ -1,0 +1,3 @@
+pub mod ReachLaws
+pub mod EntryLaws
+pub mod NoneLaws

@@ -1,0 +1,16 @@
+pub mod ListLaws
+pub mod Blocks
+pub mod Rows
+pub mod Shaping
+pub mod Tabled
+pub mod Parted
+pub mod Decoded
+pub mod Read
+pub mod Places
+pub mod Typed
+pub mod FromTable
+pub mod Scoped
+pub mod Sounded
+pub mod Bytewise
+pub mod Again
+pub mod Counted

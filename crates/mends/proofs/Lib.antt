@@ -1,0 +1,9 @@
+pub mod Holds
+pub mod WellMended
+pub mod Untouched
+pub mod Listing
+pub mod Ways
+pub mod ByCell
+pub mod CallLaws
+pub mod Brought
+pub mod Asked

@@ -1,0 +1,16 @@
+pub mod TwigLaws
+pub mod SweepLaws
+pub mod ChildLaws
+pub mod SettleLaws
+pub mod RowLaws
+pub mod BlockLaws
+pub mod Pruned
+pub mod SweptRight
+pub mod Numbered
+pub mod RowsRight
+pub mod FromTable
+pub mod Alike
+pub mod Bridged
+pub mod Renamed
+pub mod Joined
+pub mod Calling

@@ -1,0 +1,5 @@
+pub mod Twig
+pub mod Sweep
+pub mod Settle
+pub mod Record
+pub mod Numbering

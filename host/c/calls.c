@@ -1,8 +1,8 @@
-/* Answers requests to the four calls through the library, as the second program's `calls` does (second/README.md): one request on
+/* Answers requests to the calls through the library, as the second program's `calls` does (second/README.md): one request on
  * standard input, or a stream of them with the word `serve`.
  *
  * Every room that a call is lent is exactly as long as the request says and stands between guard bytes. A call that writes outside
- * its rooms, or to a program or records that it only reads, or whose answer is not as couplerfinch.h says, ends this program with
+ * its rooms, or to a program, records or a pairing that it only reads, or whose answer is not as couplerfinch.h says, ends this program with
  * status 3 and a line on standard error.
  */
 #include "couplerfinch.h"
@@ -16,13 +16,26 @@
 #define LINE 200         /* the most bytes that a request's line may have */
 #define GUARD 64         /* guard bytes on each side of a room */
 #define GUARD_BYTE 0xA5
-#define ROOMS 4          /* program, state or entries, records, output */
+#define ROOMS 4          /* the most that a call is lent */
 #define CHUNK (1u << 16) /* how much memory a length is trusted with before its bytes are there */
 
-enum call { CHECK, START, RUN, CHAIN };
+enum call { CHECK, START, RUN, CHAIN, MEND, TIDY, PAIR };
 
-static const char *const names[] = {"check", "start", "run", "chain"};
-static const size_t wanted[] = {1, 2, 4, 2};
+/* The calls: how many rooms each is lent, the program first; which of them it may write; which has entries, two bytes each (0: none). */
+static const struct {
+    const char *name;
+    size_t rooms;
+    bool written[ROOMS];
+    size_t entries;
+} calls[] = {
+    {"check", 1, {false}, 0},
+    {"start", 2, {false, true}, 0},
+    {"run", 4, {false, true, false, true}, 0},
+    {"chain", 2, {false, true}, 1},
+    {"mend", 3, {false, true, true}, 2},
+    {"tidy", 2, {false, true}, 0},
+    {"pair", 3, {false}, 2},
+};
 
 /* Bytes lent to a call: `bytes` points behind the first guard. */
 struct room {
@@ -146,8 +159,8 @@ static bool number(struct word word, uint64_t *value)
 
 static bool call_named(struct word word, enum call *call)
 {
-    for (int i = CHECK; i <= CHAIN; i++) {
-        if (strlen(names[i]) == word.length && memcmp(names[i], word.at, word.length) == 0) {
+    for (int i = CHECK; i <= PAIR; i++) {
+        if (strlen(calls[i].name) == word.length && memcmp(calls[i].name, word.at, word.length) == 0) {
             *call = (enum call)i;
             return true;
         }
@@ -155,7 +168,7 @@ static bool call_named(struct word word, enum call *call)
     return false;
 }
 
-/* The call and the lengths of a line, if it is a request's. Entries are two bytes each. */
+/* The call and the lengths of a line, if it is a request's. */
 static bool parse(const unsigned char *line, size_t length, struct request *request, uint64_t *lengths)
 {
     const unsigned char *end = line + length;
@@ -167,7 +180,8 @@ static bool parse(const unsigned char *line, size_t length, struct request *requ
             return false;
         request->count++;
     }
-    return request->count == wanted[request->call] && !(request->call == CHAIN && lengths[1] % 2 != 0);
+    size_t entries = calls[request->call].entries;
+    return request->count == calls[request->call].rooms && (entries == 0 || lengths[entries] % 2 == 0);
 }
 
 /* Reads a request; false where the input is none. */
@@ -190,6 +204,12 @@ static bool read_request(struct request *request)
     return true;
 }
 
+/* A room's entries. */
+static uint16_t *entries(struct room room)
+{
+    return (uint16_t *)(void *)room.bytes;
+}
+
 /* Makes the call. */
 static uint32_t call(const struct request *request, couplerfinch_answer *answer)
 {
@@ -200,31 +220,59 @@ static uint32_t call(const struct request *request, couplerfinch_answer *answer)
     case START:
         return couplerfinch_start(r[0].bytes, r[0].length, r[1].bytes, r[1].length, answer);
     case CHAIN:
-        return couplerfinch_explain(r[0].bytes, r[0].length, (uint16_t *)(void *)r[1].bytes, r[1].length / 2, answer);
+        return couplerfinch_explain(r[0].bytes, r[0].length, entries(r[1]), r[1].length / 2, answer);
+    case MEND:
+        return couplerfinch_mend(r[0].bytes, r[0].length, r[1].bytes, r[1].length, entries(r[2]), r[2].length / 2, answer);
+    case TIDY:
+        return couplerfinch_tidy(r[0].bytes, r[0].length, r[1].bytes, r[1].length, answer);
+    case PAIR:
+        return couplerfinch_paired(r[0].bytes, r[0].length, r[1].bytes, r[1].length, entries(r[2]), r[2].length / 2, answer);
     default:
         return couplerfinch_run(r[0].bytes, r[0].length, r[1].bytes, r[1].length, r[2].bytes, r[2].length, r[3].bytes, r[3].length,
                                 answer);
     }
 }
 
+/* Whether a code is one from the first to the last. */
+static bool among(uint32_t code, uint32_t first, uint32_t last)
+{
+    return code >= first && code <= last;
+}
+
 /* Whether a call may give a code. */
 static bool may_give(enum call of, uint32_t code)
 {
-    static const uint32_t last[] = {COUPLERFINCH_NOT_READY, COUPLERFINCH_STATE_FAULT, COUPLERFINCH_TIME_BACK, COUPLERFINCH_TYPE_FAULT};
-    return code <= last[of] || (of == RUN && code == COUPLERFINCH_OTHER_PROGRAM) || (of == CHAIN && (code == COUPLERFINCH_NO_LET || code == COUPLERFINCH_ROOM_LENGTH));
+    switch (of) {
+    case CHECK:
+        return code <= COUPLERFINCH_NOT_READY;
+    case START:
+        return code <= COUPLERFINCH_STATE_FAULT;
+    case CHAIN:
+        return code <= COUPLERFINCH_TYPE_FAULT || among(code, COUPLERFINCH_NO_LET, COUPLERFINCH_ROOM_LENGTH);
+    case MEND:
+        return code <= COUPLERFINCH_STATE_FAULT || among(code, COUPLERFINCH_OTHER_PROGRAM, COUPLERFINCH_LIST_LENGTH);
+    case TIDY:
+        return code <= COUPLERFINCH_NOT_READY || code == COUPLERFINCH_NEW_LENGTH;
+    case PAIR:
+        return code <= COUPLERFINCH_NOT_READY || among(code, COUPLERFINCH_PAIRING_LENGTH, COUPLERFINCH_OTHER_EDITION) ||
+               among(code, COUPLERFINCH_NEW_PROGRAM_LENGTH, COUPLERFINCH_NEW_NOT_READY);
+    default:
+        return code <= COUPLERFINCH_TIME_BACK || code == COUPLERFINCH_OTHER_PROGRAM;
+    }
 }
 
 /* Holds what the header says of an answer: the code is answered too, and numbers that the call does not give are 0. */
 static void hold_answer(enum call of, uint32_t code, const couplerfinch_answer *a)
 {
-    bool checked = of == CHECK && code == 0, ran = of == RUN, explained = of == CHAIN && code == 0;
+    bool checked = of == CHECK && code == 0, explained = of == CHAIN && code == 0;
+    bool mended = of == MEND && code == 0, tidied = of == TIDY && code == 0;
     if (code != a->code || !may_give(of, code))
         fail("the code answered is not that of the answer, or not the call's");
-    if ((a->place != 0 && code == 0) || (!ran && (a->steps != 0 || a->work != 0)))
+    if ((a->place != 0 && code == 0) || (of != RUN && (a->steps != 0 || a->work != 0)))
         fail("a place, steps or work where there is none");
-    if (!checked && (a->nodes != 0 || a->cells != 0 || a->bound != 0 || a->type != 0))
+    if ((!checked && (a->cells != 0 || a->bound != 0 || a->type != 0)) || (!checked && !tidied && a->nodes != 0))
         fail("nodes, cells, bound or type where there is none");
-    if ((!explained && (a->entries != 0 || a->node != 0)) || a->wrapped != 0 || a->length != 0)
+    if ((!explained && a->node != 0) || (!explained && !mended && a->entries != 0) || (!tidied && a->length != 0) || a->wrapped != 0)
         fail("wrapped, length, entries or a node where there is none");
     if ((code == COUPLERFINCH_INPUT_FAULT || code == COUPLERFINCH_TIME_BACK) && a->steps != a->place)
         fail("a record refused is not the one after the steps done");
@@ -239,7 +287,8 @@ static couplerfinch_answer guarded(const struct request *request)
         uint8_t after[GUARD];
     } lent;
     struct room old[ROOMS];
-    for (size_t i = 0; i < request->count; i += 2)
+    const bool *written = calls[request->call].written;
+    for (size_t i = 0; i < request->count; i++)
         old[i] = copy_of(request->rooms[i]);
     memset(&lent, GUARD_BYTE, sizeof lent);
     uint32_t code = call(request, &lent.answer);
@@ -250,9 +299,12 @@ static couplerfinch_answer guarded(const struct request *request)
         if (!guards(room.bytes - GUARD) || !guards(room.bytes + room.length))
             fail("a guard byte of a room was written");
     }
-    for (size_t i = 0; i < request->count; i += 2) {
-        if (memcmp(old[i].bytes, request->rooms[i].bytes, old[i].length) != 0)
-            fail("a program or records were written");
+    for (size_t i = 0; i < request->count; i++) {
+        bool same = memcmp(old[i].bytes, request->rooms[i].bytes, old[i].length) == 0;
+        if (!same && !written[i])
+            fail("a program, records or a pairing were written");
+        if (!same && code != 0 && request->call != RUN)
+            fail("a refused call wrote to a room");
         free_room(old[i]);
     }
     hold_answer(request->call, code, &lent.answer);
@@ -283,14 +335,20 @@ static void print_answer(const struct request *request, const couplerfinch_answe
         printf("REFUSED %" PRIu32 " %" PRIu32 " %" PRIu32 "\n", a->code, a->place, a->work);
     else if (request->call == CHECK)
         printf("OK %" PRIu32 " %" PRIu32 " %" PRIu32 " %" PRIu32 "\n", a->nodes, a->cells, a->bound, a->type);
-    else if (request->call == START)
+    else if (request->call == START || request->call == PAIR)
         printf("OK\n");
     else if (request->call == CHAIN)
         printf("OK %" PRIu32 " %" PRIu32 "\n", a->node, a->entries);
+    else if (request->call == MEND)
+        printf("OK %" PRIu32 "\n", a->entries);
+    else if (request->call == TIDY)
+        printf("OK %" PRIu32 " %" PRIu32 "\n", a->nodes, a->length);
     else
         printf("OK %" PRIu32 " %" PRIu32 "\n", a->steps, a->work);
-    for (size_t i = 1; i < request->count; i += 2)
-        print_hex(request->rooms[i]);
+    for (size_t i = 0; i < request->count; i++) {
+        if (calls[request->call].written[i])
+            print_hex(request->rooms[i]);
+    }
 }
 
 static bool at_end(void)

@@ -86,6 +86,9 @@ pub fn program(text: &str) -> Result<Vec<u8>, Mistake> {
             }
         }
     }
+    if lines(text).next().is_none() {
+        return Err(Mistake { line: 1, says: "no node stands in this text".into() });
+    }
     let mut nodes = Vec::new();
     for &(line, words) in &node_lines {
         let says = |says| Mistake { line, says };
@@ -97,6 +100,13 @@ pub fn program(text: &str) -> Result<Vec<u8>, Mistake> {
         override_bytes(&mut bytes, words).map_err(says)?;
     }
     Ok(bytes)
+}
+
+/// The lines of a text, from 1, on which its nodes stand and on which its records do, in their order.
+pub fn places(text: &str) -> (Vec<usize>, Vec<usize>) {
+    let mut said = lines(text).filter(|line| !line.1.starts_with('.'));
+    let nodes = said.by_ref().take_while(|line| line.1 != "records").map(|line| line.0).collect();
+    (nodes, said.map(|line| line.0).collect())
 }
 
 /// One node's line.
@@ -113,27 +123,54 @@ fn node(line: &str, labels: &HashMap<&str, u16>) -> Outcome<Node> {
     if matches!(*kind, kinds::BRANCH | kinds::CASE) {
         node.b = NO_NEXT;
     }
+    let mut given = Vec::new();
     for field in words {
         let (name, content) = field.split_once('=').ok_or(format!("{field} has no ="))?;
+        if given.contains(&name) {
+            return Err(format!("{name} stands twice"));
+        }
         set_field(&mut node, names, name, content, labels)?;
+        given.push(name);
     }
-    Ok(node)
+    match missing(*kind, names, &given) {
+        Some(name) => Err(format!("{word} lacks {name}")),
+        None => Ok(node),
+    }
+}
+
+/// The first field that a node of a kind has and that was not given, by its name or raw by its
+/// letter. A `next` may be left out; a value may be given raw by its type; and a node whose kind is
+/// set raw has what fields it may.
+fn missing<'a>(kind: u8, names: &[&'a str; 3], given: &[&str]) -> Option<&'a str> {
+    let is_given = |name: &str| given.contains(&name);
+    if is_given("kind") {
+        return None;
+    }
+    let fields = names.iter().zip(["a", "b", "c"]);
+    let mut fields = fields.filter(|(&name, letter)| !is_given(name) && !is_given(letter));
+    let field = fields.find(|(name, _)| !["", "next"].contains(name)).map(|(&name, _)| name);
+    let typed = match kind {
+        kinds::DELAY | kinds::CONSTANT if !is_given("value") => Some("value"),
+        kinds::LET | kinds::SWITCH | kinds::BRANCH | kinds::TAKE => Some("type"),
+        _ => None,
+    };
+    field.or(typed.filter(|_| !is_given("type")))
 }
 
 /// The six numbers of a raw record.
 fn raw<'a>(words: impl Iterator<Item = &'a str>) -> Outcome<Node> {
-    let n = words.map(number).collect::<Outcome<Vec<i64>>>()?;
-    if n.len() != 6 {
+    let words: Vec<&str> = words.collect();
+    let [kind, ty, a, b, c, word] = words[..] else {
         return Err("raw takes kind, type, a, b, c and word".into());
-    }
-    let half = |i: usize| n[i] as u16;
+    };
+    let half = |word| within(word, 16);
     Ok(Node {
-        kind: n[0] as u8,
-        ty: n[1] as u8,
-        a: half(2),
-        b: half(3),
-        c: half(4),
-        word: n[5] as i32,
+        kind: within(kind, 8)? as u8,
+        ty: within(ty, 8)? as u8,
+        a: half(a)? as u16,
+        b: half(b)? as u16,
+        c: half(c)? as u16,
+        word: within(word, 32)? as i32,
     })
 }
 
@@ -151,8 +188,8 @@ fn set_field(
             (node.ty, node.b, node.word) = (value.ty, value.present as u16, value.word);
         }
         "type" => node.ty = type_of(content)?,
-        "kind" => node.kind = number(content)? as u8,
-        "word" => node.word = number(content)? as i32,
+        "kind" => node.kind = within(content, 8)? as u8,
+        "word" => node.word = within(content, 32)? as i32,
         _ => {
             let letters = ["a", "b", "c"];
             let field = (0..3).find(|&i| names[i] == name || letters[i] == name);
@@ -171,6 +208,13 @@ fn set_field(
 /// A decimal number.
 fn number(word: &str) -> Outcome<i64> {
     word.parse().map_err(|_| format!("{word} is no number"))
+}
+
+/// A decimal number of so many bits, with a sign or without.
+fn within(word: &str, bits: u32) -> Outcome<i64> {
+    let number = number(word)?;
+    let fits = (-(1 << (bits - 1))..1 << bits).contains(&number);
+    fits.then_some(number).ok_or(format!("{word} is no number of {bits} bits"))
 }
 
 /// What a field names: a label, a plain number, or `-` for no next.
@@ -265,20 +309,22 @@ pub fn records(text: &str) -> Result<Vec<u8>, Mistake> {
 fn record(line: &str) -> Outcome<[u8; RECORD]> {
     let mut words = line.split_whitespace();
     let mut record = [0; RECORD];
-    let time = number(words.next().unwrap_or(""))?;
+    let time = within(words.next().unwrap_or(""), 32)?;
     record[..4].copy_from_slice(&(time as u32).to_le_bytes());
     for field in words {
         let (name, content) = field.split_once('=').ok_or(format!("{field} has no ="))?;
-        let content = number(content)?;
         match name {
-            "flags" => record[FLAGS] = content as u8,
-            "zeros" => record[FLAGS + 1..FLAGS + 4].copy_from_slice(&content.to_le_bytes()[..3]),
+            "flags" => record[FLAGS] = within(content, 8)? as u8,
+            "zeros" => {
+                let zeros = within(content, 24)?.to_le_bytes();
+                record[FLAGS + 1..FLAGS + 4].copy_from_slice(&zeros[..3]);
+            }
             _ => {
-                let channel = name.get(1..).and_then(|digit| digit.parse::<usize>().ok());
-                let channel = channel.filter(|&channel| channel < 8);
+                let channel = name.strip_prefix(['c', 'w']).and_then(|digit| digit.parse().ok());
+                let channel = channel.filter(|&channel: &usize| channel < 8);
                 let channel = channel.ok_or(format!("no channel is called {name}"))?;
                 let at = 4 + 4 * channel + if channel < 4 { 0 } else { 4 };
-                record[at..at + 4].copy_from_slice(&(content as i32).to_le_bytes());
+                record[at..at + 4].copy_from_slice(&(within(content, 32)? as i32).to_le_bytes());
                 if channel >= 4 && name.starts_with('c') {
                     record[FLAGS] |= 1 << (channel - 4);
                 }

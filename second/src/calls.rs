@@ -1,4 +1,4 @@
-//! The three public calls and the order in which they try their codes.
+//! Check, start and run, and the order in which they try their codes.
 
 use crate::program::Program;
 use crate::record::{Record, MOST_RECORDS, RECORD};

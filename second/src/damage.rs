@@ -116,16 +116,8 @@ fn child(random: &mut Random, nodes: &[Node], number: usize, node: &mut Node) ->
         return false;
     }
     let field = random.one(&fields).field;
-    set(node, field, some_number(random, nodes.len(), number));
+    kinds::set(node, field, some_number(random, nodes.len(), number));
     true
-}
-
-fn set(node: &mut Node, field: kinds::Field, to: u16) {
-    match field {
-        kinds::Field::A => node.a = to,
-        kinds::Field::B => node.b = to,
-        kinds::Field::C => node.c = to,
-    }
 }
 
 /// Names another binder or target, mostly one of the right kind and type.
@@ -185,8 +177,8 @@ fn swap_children(random: &mut Random, file: &mut [u8], nodes: &[Node]) {
         let fits = first.sort == second.sort && first.number != second.number;
         if fits && (second.number as usize) < one && (first.number as usize) < two {
             let mut changed = nodes.to_vec();
-            set(&mut changed[one], first.field, second.number);
-            set(&mut changed[two], second.field, first.number);
+            kinds::set(&mut changed[one], first.field, second.number);
+            kinds::set(&mut changed[two], second.field, first.number);
             put(file, one, &changed[one]);
             put(file, two, &changed[two]);
             return;
@@ -257,7 +249,7 @@ fn time_or_length(random: &mut Random, state: &mut Vec<u8>) {
 }
 
 /// Content that looks right for the cell of a node, and often is.
-fn some_cell(random: &mut Random, nodes: &[Node], number: usize) -> [u8; 8] {
+pub fn some_cell(random: &mut Random, nodes: &[Node], number: usize) -> [u8; 8] {
     let node = nodes[number];
     let branches: Vec<u16> = (0..nodes.len() as u16)
         .filter(|&other| nodes[other as usize].kind == kinds::BRANCH)

@@ -1,16 +1,20 @@
 //! Seeded streams of requests, and files for watchrun.
 
 use crate::calls;
+use crate::card;
 use crate::chain;
 use crate::damage;
 use crate::format;
 use crate::grow;
 use crate::kinds::{self, Node};
+use crate::overgrow;
+use crate::partner;
 use crate::random::Random;
 use crate::record::{FLAGS, MOST_RECORDS, RECORD};
-use crate::request::Request;
+use crate::request::{self, Request};
 use crate::state::{self, CELL, HEADER, LATEST};
 use crate::tangle;
+use crate::tidy;
 use crate::wild;
 
 /// A program as nodes and as a file.
@@ -35,7 +39,7 @@ pub fn size(random: &mut Random) -> usize {
 }
 
 /// An edition, as byte 3 says it.
-fn edition(random: &mut Random) -> u8 {
+pub fn edition(random: &mut Random) -> u8 {
     u8::from(random.chance(40))
 }
 
@@ -70,6 +74,16 @@ pub fn tangled(random: &mut Random, count: usize) -> Sample {
 pub fn spine(random: &mut Random, count: usize) -> Sample {
     let edition = edition(random);
     sample(tangle::spine(random, count), edition)
+}
+
+/// An accepted program with many lets that are not used.
+pub fn overgrown(random: &mut Random, count: usize) -> Sample {
+    let edition = edition(random);
+    let before = random.between(1, count);
+    // Of three the one of which tidying leaves most.
+    let grown = [0; 3].map(|_| grow::grow(random, edition, before, 0));
+    let nodes = grown.into_iter().max_by_key(|it| tidy::order(it).len()).unwrap_or_default();
+    sample(overgrow::overgrow(random, edition, nodes, count), edition)
 }
 
 /// A program of right shape whose types, binders and targets are at random.
@@ -152,7 +166,7 @@ pub fn check_request(random: &mut Random) -> Request {
 }
 
 /// Damages a program once, or now and then two or three times.
-fn damaged(random: &mut Random, file: &mut Vec<u8>, nodes: &[Node]) {
+pub fn damaged(random: &mut Random, file: &mut Vec<u8>, nodes: &[Node]) {
     let times = random.one(&[1, 1, 1, 1, 2, 3]);
     for _ in 0..times {
         if file.len() >= format::BLOCK && file.len() <= format::BLOCK * format::MOST_BLOCKS {
@@ -161,14 +175,17 @@ fn damaged(random: &mut Random, file: &mut Vec<u8>, nodes: &[Node]) {
     }
 }
 
-/// A request to any of the four calls; many a run has one record.
+/// A request to any of the calls; many a run has one record.
 pub fn request(random: &mut Random) -> Request {
-    match random.weighted(&[24, 12, 27, 34, 3]) {
+    match random.weighted(&[22, 11, 25, 30, 3, 3, 3, 3]) {
         0 => check_request(random),
         1 => start_request(random),
         2 => run_request(random, true),
         3 => run_request(random, false),
-        _ => chain_request(random),
+        4 => chain_request(random),
+        5 => mend_request(random),
+        6 => tidy_request(random),
+        _ => pair_request(random),
     }
 }
 
@@ -191,12 +208,108 @@ pub fn chain_request(random: &mut Random) -> Request {
         true => chain::ENTRIES,
         false => random.one(&[0, 1, sample.nodes.len(), 504, 1007, 1009, 1010, 2016]),
     };
-    let room = (0..2 * entries).map(|_| random.draw() as u8).collect();
-    Request::Chain { program, room }
+    Request::Chain { program, room: any_bytes(random, 2 * entries) }
+}
+
+/// So many bytes.
+pub fn any_bytes(random: &mut Random, count: usize) -> Vec<u8> {
+    (0..count).map(|_| random.draw() as u8).collect()
+}
+
+/// A mend request: states that steps reached, spoilt cell by cell, or not at all; rooms for the list and
+/// others.
+pub fn mend_request(random: &mut Random) -> Request {
+    let (sample, program) = sample_for_call(random, 12);
+    let (mut state, _) = reached_state(random, &sample);
+    // A program that is damaged and still accepted is not the state's own; most of them get its sum.
+    if random.chance(80) {
+        state::put_sum(&mut state, format::sum_of_checks(&program));
+    }
+    match random.below(20) {
+        0..3 => {}
+        3 => damage::state(random, &mut state, &sample.nodes),
+        4 => state
+            .resize(random.one(&[0, 4, 8, state.len() + 1, state.len() - 1, state.len() + 8]), 7),
+        5 => state[HEADER - random.between(1, 4)] ^= 1 << random.below(8),
+        _ => card::spoil(random, &mut state, &sample.nodes),
+    }
+    let right = (state_length(&sample.nodes) - HEADER) / CELL + 1;
+    let entries = match random.chance(92) {
+        true => right,
+        false => random.one(&[0, 1, right - 1, right + 1, right + 2, 2 * right, 1009]),
+    };
+    Request::Mend { program, state, list: any_bytes(random, 2 * entries) }
+}
+
+/// A program for tidying: overgrown ones most, others, and now and then one that is damaged.
+fn sample_for_tidying(random: &mut Random, damaged_percent: usize) -> (Sample, Vec<u8>) {
+    let count = size(random);
+    let sample = match random.below(20) {
+        0 => tangled(random, count.max(8)),
+        1 => wild(random),
+        2 | 3 => accepted(random, count),
+        _ => overgrown(random, count),
+    };
+    let mut file = sample.file.clone();
+    if random.chance(damaged_percent) {
+        damaged(random, &mut file, &sample.nodes);
+    }
+    (sample, file)
+}
+
+/// A tidy request: rooms of the program's length, longer ones, and shorter ones.
+pub fn tidy_request(random: &mut Random) -> Request {
+    let (_, program) = sample_for_tidying(random, 15);
+    let length = program.len();
+    let longer = random.one(&[length + 1, length + 511, length + 512, length + 1300, 12_288]);
+    let room = match random.below(20) {
+        0..10 => length,
+        10..17 => longer,
+        17 => length.saturating_sub(format::BLOCK),
+        _ => random.one(&[0, 1, length / 2, length.saturating_sub(1), 512]),
+    };
+    Request::Tidy { program, room: any_bytes(random, room) }
+}
+
+/// A pair request: offers of right pairings, many of them bent in one way or two; other editions, other
+/// counts of entries, damaged programs.
+pub fn pair_request(random: &mut Random) -> Request {
+    let (sample, old) = sample_for_tidying(random, 10);
+    let mut offer = match calls::check(&sample.file) {
+        Ok(_) => partner::right(random, &sample.nodes),
+        // Of a program that is refused, itself.
+        Err(_) => partner::Offer { nodes: sample.nodes.clone(), pairing: identity(&sample.nodes) },
+    };
+    if calls::check(&sample.file).is_ok() && random.chance(45) {
+        for _ in 0..random.one(&[1, 1, 1, 2]) {
+            offer.bend(random, &sample.nodes);
+        }
+    }
+    if random.chance(2) {
+        tangle::tangle(random, &mut offer.nodes);
+    }
+    let mut new = format::write(&offer.nodes);
+    let edition = sample.file[format::EDITION_AT] ^ u8::from(random.chance(4));
+    format::set_edition(&mut new, edition);
+    if random.chance(14) {
+        damaged(random, &mut new, &offer.nodes);
+    }
+    let mut pairing = offer.pairing;
+    if random.chance(5) {
+        let count = pairing.len();
+        let more = [count + 1, count - 1, 0, 1, 2 * count, sample.nodes.len(), 1008];
+        pairing.resize(random.one(&more), random.below(count) as u16);
+    }
+    Request::Pair { old, new, pairing: request::bytes(&pairing) }
+}
+
+/// The pairing of a table with itself.
+fn identity(nodes: &[Node]) -> Vec<u16> {
+    (0..nodes.len() as u16).collect()
 }
 
 /// A program for a call that needs more than the check; now and then damaged.
-fn sample_for_call(random: &mut Random, damaged_percent: usize) -> (Sample, Vec<u8>) {
+pub fn sample_for_call(random: &mut Random, damaged_percent: usize) -> (Sample, Vec<u8>) {
     let count = size(random);
     let sample = match random.chance(6) {
         true => hasty(random, count.max(8)),
@@ -215,8 +328,7 @@ fn start_request(random: &mut Random) -> Request {
     if random.chance(20) {
         length = random.one(&[0, 4, 8, length + 1, length - 1, length + 8, length - 4]);
     }
-    let state = (0..length).map(|_| random.draw() as u8).collect();
-    Request::Start { program, state }
+    Request::Start { program, state: any_bytes(random, length) }
 }
 
 fn run_request(random: &mut Random, single: bool) -> Request {

@@ -3,6 +3,7 @@
 //! upward, or in edition two any that the way up meets.
 
 use crate::kinds::{self, Node, NO_NEXT};
+use crate::number;
 use crate::random::Random;
 use crate::value::{is_maybe, Value, BOOL, INT, MAYBE, UNIT};
 
@@ -45,7 +46,8 @@ pub fn grow(random: &mut Random, edition: u8, count: usize, hasty: usize) -> Vec
         (root, ty) = grower.wrap(root, ty, count - grower.nodes.len());
     }
     let nodes = std::mem::take(&mut grower.nodes);
-    renumber(random, &nodes)
+    let order = number::any_order(random, &nodes);
+    number::in_order(&nodes, &order)
 }
 
 /// The fewest nodes of a signal of a type.
@@ -387,57 +389,4 @@ impl Grower<'_> {
         let present = self.within(variable, |g| g.expression(ty, shares[2]));
         self.fill(number, maybe, absent, present)
     }
-}
-
-/// Numbers the nodes in some order that puts children before parents: any such order, leaves
-/// first, or one part after the other.
-fn renumber(random: &mut Random, nodes: &[Node]) -> Vec<Node> {
-    let mut parents = vec![usize::MAX; nodes.len()];
-    let mut missing = vec![0usize; nodes.len()];
-    for (number, node) in nodes.iter().enumerate() {
-        for child in kinds::children(node) {
-            parents[child.number as usize] = number;
-            missing[number] += 1;
-        }
-    }
-    let mut free: Vec<usize> = (0..nodes.len()).filter(|&number| missing[number] == 0).collect();
-    let manner = random.below(4);
-    let mut order = Vec::with_capacity(nodes.len());
-    while !free.is_empty() {
-        let at = match manner {
-            0 => free.len() - 1,
-            1 => 0,
-            _ => random.below(free.len()),
-        };
-        let number = free.remove(at);
-        order.push(number);
-        if let Some(left) = missing.get_mut(parents[number]) {
-            *left -= 1;
-            if *left == 0 {
-                free.push(parents[number]);
-            }
-        }
-    }
-    let mut places = vec![0u16; nodes.len()];
-    order.iter().enumerate().for_each(|(place, &number)| places[number] = place as u16);
-    order.iter().map(|&number| moved(nodes[number], &places)).collect()
-}
-
-/// A node with everything it names by its new number.
-fn moved(mut node: Node, places: &[u16]) -> Node {
-    let place = |number: u16| places[number as usize];
-    let fields: Vec<kinds::Field> = kinds::children(&node).map(|child| child.field).collect();
-    for field in fields {
-        match field {
-            kinds::Field::A => node.a = place(node.a),
-            kinds::Field::B => node.b = place(node.b),
-            kinds::Field::C => node.c = place(node.c),
-        }
-    }
-    match node.kind {
-        kinds::VARIABLE => node.a = place(node.a),
-        kinds::CASE => node.c = place(node.c),
-        _ => {}
-    }
-    node
 }

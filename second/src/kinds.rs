@@ -136,6 +136,15 @@ pub fn children(node: &Node) -> impl Iterator<Item = Child> {
     list.into_iter().flatten()
 }
 
+/// Names another node by a field.
+pub fn set(node: &mut Node, field: Field, to: u16) {
+    match field {
+        Field::A => node.a = to,
+        Field::B => node.b = to,
+        Field::C => node.c = to,
+    }
+}
+
 /// Whether the kind holds a cell of the state.
 pub fn has_cell(kind: u8) -> bool {
     matches!(kind, DELAY | SWITCH | GROUP)

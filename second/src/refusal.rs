@@ -16,8 +16,19 @@ pub const INPUT: u32 = 12;
 pub const BACKWARD: u32 = 13;
 /// 14 was a code, and is not used again.
 pub const OTHER_PROGRAM: u32 = 15;
+pub const LIST: u32 = 16;
+pub const SHORT: u32 = 19;
+pub const WORD: u32 = 21;
+pub const NAME: u32 = 22;
+pub const RANGE: u32 = 23;
+pub const TOO_LONG: u32 = 24;
 pub const NO_LET: u32 = 25;
 pub const ROOM: u32 = 26;
+pub const PAIRS: u32 = 27;
+pub const ENTRY: u32 = 28;
+pub const EDITIONS: u32 = 29;
+/// What is added to the codes 1 to 8 of a new program beside an old one.
+pub const OF_NEW: u32 = 32;
 
 /// A refused call.
 #[derive(Clone, Copy, Debug, PartialEq, Eq)]

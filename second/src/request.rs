@@ -1,32 +1,28 @@
-//! Requests to the four calls as a stream of bytes, and their answers as text.
+//! Requests to the calls as a stream of bytes, and their answers as text.
 
 use crate::calls::{self, Accepted, Done};
 use crate::chain::{self, Explained};
+use crate::mend;
+use crate::pair;
+use crate::printer;
+use crate::reader::{self, Table};
 use crate::refusal::Refusal;
+use crate::tidy::{self, Tidied};
 use std::collections::{BTreeMap, BTreeSet};
 use std::io::{self, BufRead, Read, Write};
 
-/// One request with all its lent memory.
+/// One request with all its lent memory. Entries are two bytes each, little-endian.
 #[derive(Clone, Debug, PartialEq, Eq)]
 pub enum Request {
-    Check {
-        program: Vec<u8>,
-    },
-    Start {
-        program: Vec<u8>,
-        state: Vec<u8>,
-    },
-    Run {
-        program: Vec<u8>,
-        state: Vec<u8>,
-        records: Vec<u8>,
-        output: Vec<u8>,
-    },
-    /// The room's entries are two bytes each, little-endian.
-    Chain {
-        program: Vec<u8>,
-        room: Vec<u8>,
-    },
+    Check { program: Vec<u8> },
+    Start { program: Vec<u8>, state: Vec<u8> },
+    Run { program: Vec<u8>, state: Vec<u8>, records: Vec<u8>, output: Vec<u8> },
+    Chain { program: Vec<u8>, room: Vec<u8> },
+    Mend { program: Vec<u8>, state: Vec<u8>, list: Vec<u8> },
+    Tidy { program: Vec<u8>, room: Vec<u8> },
+    Pair { old: Vec<u8>, new: Vec<u8>, pairing: Vec<u8> },
+    Read { text: Vec<u8>, room: Vec<u8> },
+    Print { program: Vec<u8>, room: Vec<u8> },
 }
 
 /// The answer to a request, with the lent memory after it.
@@ -36,6 +32,11 @@ pub enum Answer {
     Start(Result<(), Refusal>, Vec<u8>),
     Steps(Result<Done, Refusal>, Vec<u8>, Vec<u8>),
     Chain(Result<Explained, Refusal>, Vec<u8>),
+    Mend(Result<usize, Refusal>, Vec<u8>, Vec<u8>),
+    Tidy(Result<Tidied, Refusal>, Vec<u8>),
+    Pair(Result<(), Refusal>),
+    Read(Result<Table, Refusal>, Vec<u8>),
+    Print(Result<usize, Refusal>, Vec<u8>),
 }
 
 impl Request {
@@ -53,25 +54,46 @@ impl Request {
         Request::from_rooms(name, rooms)
     }
 
-    /// The request of a name and its memory, in the order program, state or entries, records, output.
+    /// The request of a name and its memory, in the order of `parts`.
     fn from_rooms(name: &str, rooms: Vec<Vec<u8>>) -> Option<Request> {
-        let wanted = match name {
-            "check" => 1,
-            "start" | "chain" => 2,
-            "run" => 4,
-            _ => return None,
-        };
-        if rooms.len() != wanted || (name == "chain" && !rooms[1].len().is_multiple_of(2)) {
-            return None;
-        }
-        let mut rooms = rooms.into_iter();
-        let mut next = || rooms.next().unwrap_or_default();
-        let (program, state, records, output) = (next(), next(), next(), next());
         Some(match name {
-            "check" => Request::Check { program },
-            "start" => Request::Start { program, state },
-            "chain" => Request::Chain { program, room: state },
-            _ => Request::Run { program, state, records, output },
+            "check" => {
+                let [program] = all(rooms)?;
+                Request::Check { program }
+            }
+            "start" => {
+                let [program, state] = all(rooms)?;
+                Request::Start { program, state }
+            }
+            "run" => {
+                let [program, state, records, output] = all(rooms)?;
+                Request::Run { program, state, records, output }
+            }
+            "chain" => {
+                let [program, room] = entries_last(rooms)?;
+                Request::Chain { program, room }
+            }
+            "mend" => {
+                let [program, state, list] = entries_last(rooms)?;
+                Request::Mend { program, state, list }
+            }
+            "tidy" => {
+                let [program, room] = all(rooms)?;
+                Request::Tidy { program, room }
+            }
+            "pair" => {
+                let [old, new, pairing] = entries_last(rooms)?;
+                Request::Pair { old, new, pairing }
+            }
+            "read" => {
+                let [text, room] = all(rooms)?;
+                Request::Read { text, room }
+            }
+            "print" => {
+                let [program, room] = all(rooms)?;
+                Request::Print { program, room }
+            }
+            _ => return None,
         })
     }
 
@@ -84,6 +106,11 @@ impl Request {
                 ("run", vec![program, state, records, output])
             }
             Request::Chain { program, room } => ("chain", vec![program, room]),
+            Request::Mend { program, state, list } => ("mend", vec![program, state, list]),
+            Request::Tidy { program, room } => ("tidy", vec![program, room]),
+            Request::Pair { old, new, pairing } => ("pair", vec![old, new, pairing]),
+            Request::Read { text, room } => ("read", vec![text, room]),
+            Request::Print { program, room } => ("print", vec![program, room]),
         }
     }
 
@@ -111,14 +138,53 @@ impl Request {
                 Answer::Steps(answer, state, output)
             }
             Request::Chain { program, room } => {
-                let pairs = room.chunks_exact(2);
-                let mut entries: Vec<u16> =
-                    pairs.map(|pair| u16::from_le_bytes([pair[0], pair[1]])).collect();
-                let answer = chain::explain(&program, &mut entries);
-                Answer::Chain(answer, entries.into_iter().flat_map(u16::to_le_bytes).collect())
+                let mut room = entries(&room);
+                let answer = chain::explain(&program, &mut room);
+                Answer::Chain(answer, bytes(&room))
+            }
+            Request::Mend { program, mut state, list } => {
+                let mut list = entries(&list);
+                let answer = mend::mend(&program, &mut state, &mut list);
+                Answer::Mend(answer, state, bytes(&list))
+            }
+            Request::Tidy { program, mut room } => {
+                let answer = tidy::tidy(&program, &mut room);
+                Answer::Tidy(answer, room)
+            }
+            Request::Pair { old, new, pairing } => {
+                Answer::Pair(pair::paired(&old, &new, &entries(&pairing)))
+            }
+            Request::Read { text, mut room } => {
+                let answer = reader::read(&text, &mut room);
+                Answer::Read(answer, room)
+            }
+            Request::Print { program, mut room } => {
+                let answer = printer::print(&program, &mut room);
+                Answer::Print(answer, room)
             }
         }
     }
+}
+
+/// The rooms, if they are as many as wanted.
+fn all<const COUNT: usize>(rooms: Vec<Vec<u8>>) -> Option<[Vec<u8>; COUNT]> {
+    rooms.try_into().ok()
+}
+
+/// The rooms, if they are as many as wanted and the last has whole entries.
+fn entries_last<const COUNT: usize>(rooms: Vec<Vec<u8>>) -> Option<[Vec<u8>; COUNT]> {
+    let whole = rooms.last()?.len().is_multiple_of(2);
+    all(rooms).filter(|_| whole)
+}
+
+/// Bytes as entries, two bytes each.
+pub fn entries(bytes: &[u8]) -> Vec<u16> {
+    bytes.chunks_exact(2).map(|pair| u16::from_le_bytes([pair[0], pair[1]])).collect()
+}
+
+/// Entries as bytes.
+pub fn bytes(entries: &[u16]) -> Vec<u8> {
+    entries.iter().flat_map(|entry| entry.to_le_bytes()).collect()
 }
 
 /// Reads exactly so many bytes, without trusting the length with memory beforehand.
@@ -136,37 +202,54 @@ impl Answer {
             Answer::Start(answer, _) => answer.err(),
             Answer::Steps(answer, _, _) => answer.err(),
             Answer::Chain(answer, _) => answer.err(),
+            Answer::Mend(answer, _, _) => answer.err(),
+            Answer::Tidy(answer, _) => answer.err(),
+            Answer::Pair(answer) => answer.err(),
+            Answer::Read(answer, _) => answer.err(),
+            Answer::Print(answer, _) => answer.err(),
         };
         refusal.map_or(0, |refusal| refusal.code)
     }
 
     /// The lines of the answer: its numbers, then the lent memory in hex.
     pub fn text(&self) -> String {
-        match self {
-            Answer::Check(Ok(it)) => {
-                format!("OK {} {} {} {}\n", it.nodes, it.cells, it.bound, it.root_type)
-            }
-            Answer::Check(Err(refusal)) => refusal_line(refusal),
-            Answer::Start(answer, state) => {
-                let first = answer.as_ref().map_or_else(refusal_line, |()| "OK\n".into());
-                format!("{first}{}\n", hex(state))
-            }
+        let (numbers, rooms): (_, Vec<&Vec<u8>>) = match self {
+            Answer::Check(answer) => (answer.map(checked), vec![]),
+            Answer::Start(answer, state) => (answer.map(|()| vec![]), vec![state]),
             Answer::Steps(answer, state, output) => {
-                let done = |done: &Done| format!("OK {} {}\n", done.steps, done.work);
-                let first = answer.as_ref().map_or_else(refusal_line, done);
-                format!("{first}{}\n{}\n", hex(state), hex(output))
+                (answer.map(|it| vec![it.steps as u64, it.work]), vec![state, output])
             }
             Answer::Chain(answer, room) => {
-                let found = |it: &Explained| format!("OK {} {}\n", it.node, it.entries);
-                let first = answer.as_ref().map_or_else(refusal_line, found);
-                format!("{first}{}\n", hex(room))
+                (answer.map(|it| vec![it.node as u64, it.entries as u64]), vec![room])
             }
-        }
+            Answer::Mend(answer, state, list) => {
+                (answer.map(|listed| vec![listed as u64]), vec![state, list])
+            }
+            Answer::Tidy(answer, room) => {
+                (answer.map(|it| vec![it.nodes as u64, it.length as u64]), vec![room])
+            }
+            Answer::Read(answer, room) => {
+                (answer.map(|it| vec![it.nodes as u64, it.length as u64]), vec![room])
+            }
+            Answer::Pair(answer) => (answer.map(|()| vec![]), vec![]),
+            Answer::Print(answer, room) => (answer.map(|length| vec![length as u64]), vec![room]),
+        };
+        let first = match numbers {
+            Ok(numbers) => line("OK", &numbers),
+            Err(it) => line("REFUSED", &[it.code as u64, it.place as u64, it.work]),
+        };
+        rooms.into_iter().fold(first, |text, room| text + &hex(room) + "\n")
     }
 }
 
-fn refusal_line(refusal: &Refusal) -> String {
-    format!("REFUSED {} {} {}\n", refusal.code, refusal.place, refusal.work)
+/// The numbers of an accepted check.
+fn checked(it: Accepted) -> Vec<u64> {
+    vec![it.nodes as u64, it.cells as u64, it.bound, it.root_type as u64]
+}
+
+/// A line of a word and numbers.
+fn line(word: &str, numbers: &[u64]) -> String {
+    numbers.iter().fold(word.to_string(), |text, number| format!("{text} {number}")) + "\n"
 }
 
 /// Bytes as two small hex digits each.
@@ -203,7 +286,8 @@ pub fn tally(input: &mut impl BufRead) -> Tally {
 }
 
 /// The calls in the papers' order.
-pub const CALLS: [&str; 4] = ["check", "start", "run", "chain"];
+pub const CALLS: [&str; 9] =
+    ["check", "start", "run", "chain", "mend", "tidy", "pair", "read", "print"];
 
 /// Counts by call and code.
 #[derive(Clone, Debug, Default, PartialEq, Eq)]
@@ -217,7 +301,7 @@ impl Tally {
         self.counts.get(&(call, code)).copied().unwrap_or(0)
     }
 
-    /// A table with a line for each call and a column for each code that was answered.
+    /// A table with a line for each call that was made and a column for each code that was answered.
     pub fn text(&self) -> String {
         let codes: BTreeSet<u32> = self.counts.keys().map(|&(_, code)| code).collect();
         let mut text = String::from("call ");
@@ -227,7 +311,7 @@ impl Tally {
                 _ => format!("{code:>7}"),
             };
         }
-        for call in CALLS {
+        for call in CALLS.into_iter().filter(|call| self.counts.keys().any(|row| row.0 == *call)) {
             text += &format!("\n{call:<5}");
             codes.iter().for_each(|&code| text += &format!("{:>7}", self.count(call, code)));
         }

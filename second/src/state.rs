@@ -9,7 +9,7 @@ use crate::value::Value;
 
 /// The bytes before the cells: the last time, and the sum of the program's checks.
 pub const HEADER: usize = 8;
-const SUM_AT: usize = 4;
+pub const SUM_AT: usize = 4;
 pub const CELL: usize = 8;
 /// The time word of a state that has no last time.
 pub const NO_TIME: u32 = u32::MAX;
@@ -110,7 +110,7 @@ impl State {
     }
 
     /// Whether the field of the parent leads into a part that is not current.
-    fn enters_idle_part(&self, program: &Program, parent: usize, field: Field) -> bool {
+    pub fn enters_idle_part(&self, program: &Program, parent: usize, field: Field) -> bool {
         let caught = |number: usize| self.cells[program.cell_at[number]];
         match (program.node(parent).kind, field) {
             (kinds::SWITCH, Field::A) => caught(parent) != Cell::default(),
@@ -128,7 +128,7 @@ impl State {
 }
 
 /// Reads one cell if it is valid for its node.
-fn read_cell(program: &Program, number: usize, content: &[u8]) -> Option<Cell> {
+pub fn read_cell(program: &Program, number: usize, content: &[u8]) -> Option<Cell> {
     let branch = number16(content, 2);
     let value = Value::from_parts(content[0], content[1] as u16, number32(content, 4) as i32);
     let node = program.node(number);

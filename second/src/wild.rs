@@ -73,11 +73,7 @@ impl Wild<'_> {
                 _ if is_next && self.random.chance(30) => NO_NEXT,
                 length => pool.swap_remove(self.random.below(length)),
             };
-            match child.field {
-                kinds::Field::A => node.a = number,
-                kinds::Field::B => node.b = number,
-                kinds::Field::C => node.c = number,
-            }
+            kinds::set(&mut node, child.field, number);
         }
         match kind {
             kinds::DELAY => (node.ty, node.b) = (self.any_type(), 1),

@@ -1,5 +1,8 @@
 //! "Why is it not ready?": small tables with their chains, and what holds of every chain.
 
+mod common;
+
+use common::{ext, input, int, let_int, node, variable};
 use second::chain::{explain, Explained, ENTRIES, NO_ENTRY};
 use second::format;
 use second::generate;
@@ -8,26 +11,6 @@ use second::random::Random;
 use second::refusal::{self, Refusal};
 use second::request::{Answer, Request};
 use second::{check, shape};
-
-fn node(kind: u8, ty: u8, a: u16, b: u16, c: u16) -> Node {
-    Node { kind, ty, a, b, c, word: 0 }
-}
-
-fn variable(of: u16) -> Node {
-    node(kinds::VARIABLE, 0, of, 0, 0)
-}
-
-fn ext(of: u16) -> Node {
-    node(kinds::EXT, 0, of, 0, 0)
-}
-
-fn input(channel: u16) -> Node {
-    node(kinds::INPUT, 0, channel, 0, 0)
-}
-
-fn constant() -> Node {
-    node(kinds::CONSTANT, 3, 0, 1, 0)
-}
 
 /// The let and the chain of a table, or the refusal; the room holds nothing else.
 fn told(nodes: &[Node]) -> Result<(usize, Vec<u16>), Refusal> {
@@ -39,7 +22,7 @@ fn told(nodes: &[Node]) -> Result<(usize, Vec<u16>), Refusal> {
 
 #[test]
 fn reading_c() {
-    let nodes = [variable(4), ext(0), variable(4), ext(2), node(kinds::LET, 3, 1, 3, 0)];
+    let nodes = [variable(4), ext(0), variable(4), ext(2), let_int(1, 3)];
     assert_eq!(told(&nodes), Ok((4, vec![1, 0])));
 }
 
@@ -54,7 +37,7 @@ fn a_branch_behind_another() {
         node(kinds::BRANCH, 3, 4, 3, 0),
         node(kinds::GROUP, 0, 0, 5, 0),
         input(1),
-        node(kinds::LET, 3, 6, 7, 0),
+        let_int(6, 7),
     ];
     assert_eq!(told(&nodes), Ok((8, vec![6, 5, 3, 2, 1])));
 }
@@ -62,7 +45,7 @@ fn a_branch_behind_another() {
 #[test]
 fn the_second_part_by_its_left_operand_and_not_the_event() {
     let nodes = [
-        constant(),
+        int(0),
         ext(0),
         variable(12),
         node(kinds::JUST, 0, 2, 0, 0),
@@ -74,27 +57,21 @@ fn the_second_part_by_its_left_operand_and_not_the_event() {
         node(kinds::SWITCH, 3, 1, 4, 8),
         variable(12),
         ext(10),
-        node(kinds::LET, 3, 9, 11, 0),
+        let_int(9, 11),
     ];
     assert_eq!(told(&nodes), Ok((12, vec![9, 8, 7, 6])));
 }
 
 #[test]
 fn a_use_under_a_delay_has_no_chain() {
-    let nodes = [
-        variable(4),
-        ext(0),
-        node(kinds::DELAY, 3, 1, 1, 0),
-        input(0),
-        node(kinds::LET, 3, 2, 3, 0),
-    ];
+    let nodes = [variable(4), ext(0), node(kinds::DELAY, 3, 1, 1, 0), input(0), let_int(2, 3)];
     assert_eq!(told(&nodes), Err(Refusal::at(refusal::NO_LET, 0)));
 }
 
 #[test]
 fn codes_in_their_order() {
     let ready = format::write(&[input(0)]);
-    let not = format::write(&[variable(3), ext(0), input(0), node(kinds::LET, 3, 1, 2, 0)]);
+    let not = format::write(&[variable(3), ext(0), input(0), let_int(1, 2)]);
     let mut damaged = not.clone();
     damaged[4] ^= 1;
     for entries in [0, 1, 1007, 1009, 2016] {

@@ -5,6 +5,7 @@ use second::generate::{self, Sample};
 use second::kinds;
 use second::random::Random;
 use second::request::{Answer, Request};
+use second::typist;
 use second::value::Value;
 use second::{check, run, start};
 
@@ -104,6 +105,12 @@ fn keeps_memory(request: &Request, answer: &Answer) {
     match (request, answer) {
         (Request::Start { state, .. }, Answer::Start(Err(_), after)) => assert_eq!(state, after),
         (Request::Chain { room, .. }, Answer::Chain(Err(_), after)) => assert_eq!(room, after),
+        (Request::Tidy { room, .. }, Answer::Tidy(Err(_), after)) => assert_eq!(room, after),
+        (Request::Read { room, .. }, Answer::Read(Err(_), after)) => assert_eq!(room, after),
+        (Request::Print { room, .. }, Answer::Print(Err(_), after)) => assert_eq!(room, after),
+        (Request::Mend { state, list, .. }, Answer::Mend(Err(_), after, room)) => {
+            assert_eq!((state, list), (after, room))
+        }
         (
             Request::Run { program, state, records, output },
             Answer::Steps(Err(refusal), after, room),
@@ -122,25 +129,44 @@ fn keeps_memory(request: &Request, answer: &Answer) {
     }
 }
 
+/// Whether a call may answer a code; code 14 is gone.
+fn own(call: &str, code: usize) -> bool {
+    match call {
+        "check" => code <= 8,
+        "start" => code <= 9,
+        "run" => code <= 13 || code == 15,
+        "chain" => code <= 7 || code == 25 || code == 26,
+        "mend" => code <= 9 || code == 15 || code == 16,
+        "tidy" => code <= 8 || code == 19,
+        "read" => code == 0 || (6..=8).contains(&code) || (21..=24).contains(&code),
+        "print" => code <= 8 || code == 24,
+        _ => code <= 8 || (27..=29).contains(&code) || (33..=40).contains(&code),
+    }
+}
+
 #[test]
 fn refusals_leave_memory_and_every_code_comes_up() {
     let mut random = Random::new(5);
-    let mut seen = [[0usize; 27]; 4];
-    for number in 0..9000 {
-        let request = match number < 8000 {
-            true => generate::request(&mut random),
-            false => generate::chain_request(&mut random),
+    let mut seen = [[0usize; 41]; 9];
+    for number in 0..18_000 {
+        let request = match number % 9 {
+            0..4 => generate::request(&mut random),
+            4 => generate::mend_request(&mut random),
+            5 => generate::tidy_request(&mut random),
+            6 => generate::pair_request(&mut random),
+            7 => typist::read_request(&mut random),
+            _ if number % 2 == 0 => generate::chain_request(&mut random),
+            _ => typist::print_request(&mut random),
         };
         let answer = request.clone().answer();
         keeps_memory(&request, &answer);
         let call = second::request::CALLS.iter().position(|&call| call == request.parts().0);
         seen[call.unwrap()][answer.code() as usize] += 1;
     }
-    // Code 14 is gone.
-    for (call, (counts, last)) in seen.iter().zip([8, 9, 13, 7]).enumerate() {
+    for (call, counts) in second::request::CALLS.iter().zip(&seen) {
         for (code, &count) in counts.iter().enumerate() {
-            let own = code <= last || (call == 2 && code == 15) || (call == 3 && code >= 25);
-            assert_eq!(if own { count >= 4 } else { count > 0 }, own, "{seen:?}");
+            let own = own(call, code);
+            assert_eq!(if own { count >= 4 } else { count > 0 }, own, "{call} {code}: {count}");
         }
     }
 }

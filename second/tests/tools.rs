@@ -74,6 +74,41 @@ fn calls_answers_one_request() {
 }
 
 #[test]
+fn calls_answers_the_requests_of_document_02() {
+    let program = assemble::program("time").expect("a table");
+    let two = assemble::program("time\ntime\nlet type=int def=0 body=1").expect("a table");
+    let not = "x: var of=l\n d: ext of=x\n time\n l: let type=int def=d body=2";
+    let not = assemble::program(not).expect("a table");
+    let ask = |head: &str, rooms: &[&[u8]]| {
+        let input = [format!("{head}\n").as_bytes(), &rooms.concat()].concat();
+        String::from_utf8(output_of(CALLS, &[], &input)).expect("text")
+    };
+    let room = [9; 2016];
+    let chain = format!("OK 3 2\n01000000{}\n", "ffff".repeat(1006));
+    assert_eq!(ask("chain 512 2016", &[&not, &room]), chain);
+    assert_eq!(ask("chain 512 2", &[&program, &[1, 2]]), "REFUSED 25 0 0\n0102\n");
+    let sum = second::format::sum_of_checks(&program).to_le_bytes();
+    let state = [[0, 0, 0, 128], sum].concat();
+    let hex = second::request::hex(&sum);
+    let mended = ask("mend 512 8 2", &[&program, &state, &[1, 2]]);
+    assert_eq!(mended, format!("OK 1\nffffffff{hex}\nffff\n"));
+    let mended = ask("mend 512 8 4", &[&program, &state, &[1, 2, 3, 4]]);
+    assert_eq!(mended, format!("REFUSED 16 0 0\n00000080{hex}\n01020304\n"));
+    let tidied = ask("tidy 512 513", &[&two, &[7; 513]]);
+    assert_eq!(tidied, format!("OK 1 512\n{}07\n", second::request::hex(&program)));
+    assert_eq!(ask("tidy 512 0", &[&two]), "REFUSED 19 0 0\n\n");
+    assert_eq!(ask("pair 512 512 2", &[&two, &program, &[1, 0]]), "OK\n");
+    assert_eq!(ask("pair 512 512 2", &[&two, &program, &[0, 0]]), "REFUSED 28 0 0\n");
+    assert_eq!(ask("pair 512 512 0", &[&two, &program]), "REFUSED 27 0 0\n");
+    assert_eq!(ask("pair 512 512 2", &[&two, &not, &[0, 0]]), "REFUSED 40 3 0\n");
+    for odd in
+        ["chain 0 1", "mend 0 0 1", "pair 0 0 3", "mend 0 0", "tidy 0", "pair 0 0", "tidy 0 0 0"]
+    {
+        assert_eq!(ask(odd, &[&[1, 2, 3]]), "NO REQUEST\n");
+    }
+}
+
+#[test]
 fn serving_a_stream_is_answering_one_by_one() {
     let stream = output_of(GENERATE, &["requests", "9", "150"], &[]);
     let served = output_of(CALLS, &["serve"], &stream);

@@ -87,6 +87,47 @@ fn chain_answer(
     hex_line(bytes, waits, out)
 }
 
+// Brings a state back, and puts the answer, the state and the list's bytes to the output.
+fn mend_answer(
+    program: &[u8],
+    state: &mut [u8],
+    entries: &mut [u16],
+    bytes: &mut [u8],
+    full: usize,
+    out: &mut [u8],
+) -> usize {
+    take(bytes, entries);
+    let mut line = [0u8; 64];
+    let n = wire::mended_line(mend::mend(program, state, entries), &mut line);
+    give(entries, bytes);
+    let waits = feed::append(&line[..n], out, full);
+    let more = hex_line(state, waits, out);
+    hex_line(bytes, more, out)
+}
+
+// Tidies a table, and puts the answer and the room to the output.
+fn tidy_answer(program: &[u8], room: &mut [u8], full: usize, out: &mut [u8]) -> usize {
+    let mut line = [0u8; 64];
+    let n = wire::tidied_line(tidy::tidy(program, room), &mut line);
+    let waits = feed::append(&line[..n], out, full);
+    hex_line(room, waits, out)
+}
+
+// Judges a pairing, and puts the answer to the output.
+fn pair_answer(
+    old: &[u8],
+    new: &[u8],
+    entries: &mut [u16],
+    bytes: &[u8],
+    full: usize,
+    out: &mut [u8],
+) -> usize {
+    take(bytes, entries);
+    let mut line = [0u8; 64];
+    let n = wire::paired_line(pairing::paired(old, new, entries), &mut line);
+    feed::append(&line[..n], out, full)
+}
+
 // A start with the first n bytes of state.
 fn start_call(program: &[u8], n: usize, state: &mut [u8], full: usize, out: &mut [u8]) -> usize {
     if n > state.len() {
@@ -133,6 +174,60 @@ fn chain_call(
     chain_answer(program, &mut entries[..n], &mut bytes[..2 * n], full, out)
 }
 
+// A mend with the first s bytes of state, whose list's room is the first n entries.
+fn mend_call(
+    program: &[u8],
+    s: usize,
+    state: &mut [u8],
+    n: usize,
+    entries: &mut [u16],
+    bytes: &mut [u8],
+    full: usize,
+    out: &mut [u8],
+) -> usize {
+    if s > state.len() {
+        return full;
+    }
+    if n > entries.len() {
+        return full;
+    }
+    if n > bytes.len() / 2 {
+        return full;
+    }
+    mend_answer(
+        program,
+        &mut state[..s],
+        &mut entries[..n],
+        &mut bytes[..2 * n],
+        full,
+        out,
+    )
+}
+
+// A tidy whose room is the first n bytes.
+fn tidy_call(program: &[u8], n: usize, room: &mut [u8], full: usize, out: &mut [u8]) -> usize {
+    if n > room.len() {
+        return full;
+    }
+    tidy_answer(program, &mut room[..n], full, out)
+}
+
+// A pair whose pairing is the first n entries.
+fn pair_call(
+    old: &[u8],
+    new: &[u8],
+    n: usize,
+    entries: &mut [u16],
+    bytes: &[u8],
+    full: usize,
+    out: &mut [u8],
+) -> usize {
+    if n > entries.len() {
+        return full;
+    }
+    pair_answer(old, new, &mut entries[..n], bytes, full, out)
+}
+
 // Makes the call of a request whose memory is read, and puts the answer to the output.
 pub fn call(
     request: Request,
@@ -169,6 +264,19 @@ pub fn call(
         Request::Chain(p, n) => {
             let of = feed::first(program, p as usize);
             chain_call(of, n as usize, entries, room, full, out)
+        }
+        Request::Mend(p, s, n) => {
+            let of = feed::first(program, p as usize);
+            mend_call(of, s as usize, state, n as usize, entries, room, full, out)
+        }
+        Request::Tidy(p, n) => {
+            let of = feed::first(program, p as usize);
+            tidy_call(of, n as usize, room, full, out)
+        }
+        Request::Pair(p, q, n) => {
+            let old = feed::first(program, p as usize);
+            let new = feed::first(records, q as usize);
+            pair_call(old, new, n as usize, entries, room, full, out)
         }
         Request::Broken => full,
     }

@@ -1,4 +1,4 @@
-// A chain's room in a request and in its answer: two bytes for each entry, the low one first.
+// Entries in a request and in its answer: two bytes for each, the low one first.
 
 // Two bytes as a number.
 fn entry(low: u8, high: u8) -> u16 {

@@ -1,4 +1,5 @@
-// The memory of a request: program, state, records, and the output room or a chain's entries, one after another in the input.
+// The memory of a request: program, state, records or the new program of a pair, and the room that is written or the entries, one after another
+// in the input.
 use feed::Filled;
 use feed::Place;
 use wire::Request;
@@ -36,6 +37,24 @@ fn lengths(request: Request) -> Sizes {
             program: p as usize,
             state: 0,
             records: 0,
+            room: 2 * (n as usize),
+        },
+        Request::Mend(p, s, n) => Sizes {
+            program: p as usize,
+            state: s as usize,
+            records: 0,
+            room: 2 * (n as usize),
+        },
+        Request::Tidy(p, n) => Sizes {
+            program: p as usize,
+            state: 0,
+            records: 0,
+            room: n as usize,
+        },
+        Request::Pair(p, q, n) => Sizes {
+            program: p as usize,
+            state: 0,
+            records: q as usize,
             room: 2 * (n as usize),
         },
         Request::Broken => Sizes {

@@ -1,4 +1,4 @@
-// Answers a stream of requests to the four calls on standard input: see second/README.md, `calls serve`.
+// Answers a stream of requests to the calls on standard input: see second/README.md, `calls serve`.
 mod answer;
 mod entries;
 mod lent;

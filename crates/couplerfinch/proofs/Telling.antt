@@ -1,5 +1,7 @@
 -- What the numbers of an answer are, once it is known which answer it is. Assumes nothing.
-use Prim.Native.Nat.{ℕ}
+use Prim.Native.Nat.{ℕ, _+_}
+use native.Mathlib.Omega.{arith}
+use borrow.Author.Tests.{ne-eqb}
 use mathlib.Core.Path.{_≡_, refl, sym, ap, _∙_}
 use mathlib.Core.Bool.{Bool, false}
 use mathlib.Core.List.{List, [], _∷_}
@@ -32,9 +34,19 @@ coded (TimeBack j) = refl
 coded OtherProgram = refl
 
 -- The numbers of a refusal, from those that its code and place were found to be.
+pub refused-at : {res code place : ℕ} {exit : List ℕ} (c p work : ℕ) (done : List ℕ → List ℕ) → eqb c 0 ≡ false → code ≡ c → place ≡ p
+    → (res ≡ code) × (exit ≡ refusedRoom (code ∷ place ∷ work ∷ [])) → (res ≡ c) × (exit ≡ laidOut done (c ∷ p ∷ work ∷ []))
+refused-at {place = place} c p work done some ec ep (n, e) =
+    let ns : List ℕ = c ∷ p ∷ work ∷ [] in
+    (n ∙ ec, e ∙ ap (λ (x : ℕ). refusedRoom (x ∷ place ∷ work ∷ [])) ec ∙ ap (λ (x : ℕ). refusedRoom (c ∷ x ∷ work ∷ [])) ep ∙ sym (ap (λ (b : Bool). if b then done ns else refusedRoom ns) some))
+
 pub refused-room : {res code place : ℕ} {exit : List ℕ} (r : Refusal) (work : ℕ) (done : List ℕ → List ℕ) → code ≡ codeOf r → place ≡ placeOf r
     → (res ≡ code) × (exit ≡ refusedRoom (code ∷ place ∷ work ∷ []))
     → (res ≡ codeOf r) × (exit ≡ laidOut done (codeOf r ∷ placeOf r ∷ work ∷ []))
-refused-room {place = place} r work done c p (n, e) =
-    let ns : List ℕ = codeOf r ∷ placeOf r ∷ work ∷ [] in
-    (n ∙ c, e ∙ ap (λ (x : ℕ). refusedRoom (x ∷ place ∷ work ∷ [])) c ∙ ap (λ (x : ℕ). refusedRoom (codeOf r ∷ x ∷ work ∷ [])) p ∙ sym (ap (λ (b : Bool). if b then done ns else refusedRoom ns) (coded r)))
+refused-room r work done = refused-at (codeOf r) (placeOf r) work done (coded r)
+
+-- The same of a new program's, with 32 added.
+pub new-refused-room : {res code place : ℕ} {exit : List ℕ} (r : Refusal) (done : List ℕ → List ℕ) → code ≡ codeOf r → place ≡ placeOf r
+    → (res ≡ 32 + code) × (exit ≡ refusedRoom ((32 + code) ∷ place ∷ 0 ∷ []))
+    → (res ≡ 32 + codeOf r) × (exit ≡ laidOut done ((32 + codeOf r) ∷ placeOf r ∷ 0 ∷ []))
+new-refused-room r done e p h = refused-at (32 + codeOf r) (placeOf r) 0 done (ne-eqb (32 + codeOf r) 0 (λ z. omega arith)) (ap (λ (x : ℕ). 32 + x) e) p h

@@ -1,17 +1,23 @@
 -- The twelve numbers of the room that a caller lends for an answer: code, place, steps, work, nodes, cells, bound, type, wrapped, length,
--- entries, node. Each call's are laid out from the paper's numbers of its answer (crates rules and chains), and those that an answer does
--- not give are 0. Assumes nothing: these are definitions.
+-- entries, node. Each call's are laid out from the paper's numbers of its answer (crates rules, chains, mends, rewritten, dropped), and those
+-- that an answer does not give are 0. Assumes nothing: these are definitions.
 use Prim.Native.Nat.{ℕ}
 use mathlib.Core.List.{List, [], _∷_}
-use lib.Dec.{eqb, ltb}
+use lib.Dec.{eqb}
 use lib.ListN.{getD}
-use Rattle.rules.specs.Bytes.{if_then_else_}
+use Rattle.rules.specs.Bytes.{if_then_else_, _or_}
 use Rattle.rules.specs.Answers.{checkedNumbers, startedNumbers, ranNumbers}
 use Rattle.rules.specs.declared.Checked.{Checked}
 use Rattle.rules.specs.declared.Started.{Started}
 use Rattle.rules.specs.declared.Ran.{Ran}
 use Rattle.chains.specs.Explain.{explainedNumbers}
 use Rattle.chains.specs.declared.Explained.{Explained}
+use Rattle.mends.specs.MendCall.{mendedNumbers}
+use Rattle.mends.specs.declared.Mended.{Mended}
+use Rattle.rewritten.specs.TidyCall.{tidiedNumbers}
+use Rattle.rewritten.specs.declared.Tidied.{Tidied}
+use Rattle.dropped.specs.PairedCall.{pairedNumbers}
+use Rattle.dropped.specs.declared.Paired.{Paired}
 
 -- Number k of an answer's numbers. Number 0 is the code, 0 where the call went through.
 abbrev pub number : List ℕ → ℕ → ℕ
@@ -25,9 +31,10 @@ abbrev pub twelve : ℕ → ℕ → ℕ → ℕ → ℕ → ℕ → ℕ → ℕ 
 twelve code place steps work nodes cells bound type wrapped long entries node =
     code ∷ place ∷ steps ∷ work ∷ nodes ∷ cells ∷ bound ∷ type ∷ wrapped ∷ long ∷ entries ∷ node ∷ []
 
--- Whole steps done before a refusal: a run refuses a record, whose place is their number, with codes 12 and 13; before it none is done.
+-- Whole steps done before a refusal: a run refuses a record, whose place is their number, with codes 12 and 13; before it none is done, and the
+-- other calls make none.
 abbrev pub stepsDone : ℕ → ℕ → ℕ
-stepsDone code place = if ltb code 12 then 0 else place
+stepsDone code place = if eqb code 12 or eqb code 13 then place else 0
 
 -- A refusal: its code, place and work, and the steps done.
 abbrev pub refusedRoom : List ℕ → List ℕ
@@ -38,7 +45,8 @@ abbrev pub laidOut : (List ℕ → List ℕ) → List ℕ → List ℕ
 laidOut done ns = if eqb (code ns) 0 then done ns else refusedRoom ns
 
 -- What the numbers of a call that went through are: a check's nodes, cells, bound and type; a start has none; a run's steps and work; the let
--- that explain names and how many entries its chain has.
+-- that explain names and how many entries its chain has; how many entries mend lists; the new table's nodes and length, of tidy; a pairing that
+-- is accepted has none.
 abbrev pub checkedDone : List ℕ → List ℕ
 checkedDone ns = twelve 0 0 0 0 (number ns 1) (number ns 2) (number ns 3) (number ns 4) 0 0 0 0
 
@@ -50,6 +58,15 @@ ranDone ns = twelve 0 0 (number ns 1) (number ns 2) 0 0 0 0 0 0 0 0
 
 abbrev pub explainedDone : List ℕ → List ℕ
 explainedDone ns = twelve 0 0 0 0 0 0 0 0 0 0 (number ns 2) (number ns 1)
+
+abbrev pub mendedDone : List ℕ → List ℕ
+mendedDone ns = twelve 0 0 0 0 0 0 0 0 0 0 (number ns 1) 0
+
+abbrev pub tidiedDone : List ℕ → List ℕ
+tidiedDone ns = twelve 0 0 0 0 (number ns 1) 0 0 0 0 (number ns 2) 0 0
+
+abbrev pub pairedDone : List ℕ → List ℕ
+pairedDone ns = twelve 0 0 0 0 0 0 0 0 0 0 0 0
 
 -- The room after each call.
 abbrev pub checkedRoom : Checked → List ℕ
@@ -64,6 +81,15 @@ ranRoom a = laidOut ranDone (ranNumbers a)
 abbrev pub explainedRoom : Explained → List ℕ
 explainedRoom a = laidOut explainedDone (explainedNumbers a)
 
+abbrev pub mendedRoom : Mended → List ℕ
+mendedRoom a = laidOut mendedDone (mendedNumbers a)
+
+abbrev pub tidiedRoom : Tidied → List ℕ
+tidiedRoom a = laidOut tidiedDone (tidiedNumbers a)
+
+abbrev pub pairedRoom : Paired → List ℕ
+pairedRoom a = laidOut pairedDone (pairedNumbers a)
+
 -- The code that a call answers besides.
 abbrev pub checkedCode : Checked → ℕ
 checkedCode a = code (checkedNumbers a)
@@ -76,3 +102,12 @@ ranCode a = code (ranNumbers a)
 
 abbrev pub explainedCode : Explained → ℕ
 explainedCode a = code (explainedNumbers a)
+
+abbrev pub mendedCode : Mended → ℕ
+mendedCode a = code (mendedNumbers a)
+
+abbrev pub tidiedCode : Tidied → ℕ
+tidiedCode a = code (tidiedNumbers a)
+
+abbrev pub pairedCode : Paired → ℕ
+pairedCode a = code (pairedNumbers a)

@@ -1,10 +1,16 @@
-// The four calls for C and Rust: slices and numbers only, the answer in a lent room of twelve numbers (include/couplerfinch.h).
+// The seven calls for C and Rust: slices and numbers only, the answer in a lent room of twelve numbers (include/couplerfinch.h).
 ghost use mathlib.Core.Path.{_≡_};
 ghost use mathlib.Core.List.{[], _∷_};
 ghost use Rattle.rules.specs.Calls.{checkCall, startCall, runCall};
 ghost use Rattle.chains.specs.Explain.{explainCall};
-ghost use Rattle.couplerfinch.specs.Room.{stepsDone, refusedRoom, checkedRoom, startedRoom, ranRoom, explainedRoom, checkedCode, startedCode, ranCode, explainedCode};
+ghost use Rattle.mends.specs.MendCall.{mendCall};
+ghost use Rattle.rewritten.specs.TidyCall.{tidyCall};
+ghost use Rattle.dropped.specs.PairedCall.{pairedCall};
+ghost use Rattle.couplerfinch.specs.Room.{stepsDone, refusedRoom, checkedRoom, startedRoom, ranRoom, explainedRoom, mendedRoom, tidiedRoom, pairedRoom, checkedCode, startedCode, ranCode, explainedCode, mendedCode, tidiedCode, pairedCode};
 use chains::Explained;
+use dropped::Paired;
+use mends::Mended;
+use rewritten::Tidied;
 use rules::Checked;
 use rules::Ran;
 use rules::Started;
@@ -15,10 +21,13 @@ use rules::place_of;
 fn steps_done(code: u32, place: u32) -> u32
     ensures { λ n. ⌜ n ≡ stepsDone code place ⌝ }
 {
-    if code < 12 {
-        return 0;
+    if code == 12 {
+        return place;
     }
-    place
+    if code == 13 {
+        return place;
+    }
+    0
 }
 
 // Writes the numbers of a refusal, and answers its code.
@@ -84,6 +93,51 @@ fn put_explained(found: Explained, answer: &mut [u32; 12]) -> u32
     }
 }
 
+// The answer of mend, as numbers.
+fn put_mended(found: Mended, answer: &mut [u32; 12]) -> u32
+    ensures { λ r. ⌜ (r ≡ mendedCode found) × (now (answer .exit) ≡ mendedRoom found) ⌝ }
+{
+    match found {
+        Mended::Listed(entries) => {
+            *answer = [0, 0, 0, 0, 0, 0, 0, 0, 0, 0, entries, 0];
+            0
+        }
+        Mended::Refused(r) => put_refused(code_of(r) as u32, place_of(r), 0, answer),
+        Mended::ListLength => put_refused(16, 0, 0, answer),
+    }
+}
+
+// The answer of tidy, as numbers.
+fn put_tidied(found: Tidied, answer: &mut [u32; 12]) -> u32
+    ensures { λ r. ⌜ (r ≡ tidiedCode found) × (now (answer .exit) ≡ tidiedRoom found) ⌝ }
+{
+    match found {
+        Tidied::Table(nodes, length) => {
+            *answer = [0, 0, 0, 0, nodes, 0, 0, 0, 0, length, 0, 0];
+            0
+        }
+        Tidied::Refused(r) => put_refused(code_of(r) as u32, place_of(r), 0, answer),
+        Tidied::RoomShort => put_refused(19, 0, 0, answer),
+    }
+}
+
+// The answer of paired, as numbers.
+fn put_paired(found: Paired, answer: &mut [u32; 12]) -> u32
+    ensures { λ r. ⌜ (r ≡ pairedCode found) × (now (answer .exit) ≡ pairedRoom found) ⌝ }
+{
+    match found {
+        Paired::Accepted => {
+            *answer = [0, 0, 0, 0, 0, 0, 0, 0, 0, 0, 0, 0];
+            0
+        }
+        Paired::OldRefused(r) => put_refused(code_of(r) as u32, place_of(r), 0, answer),
+        Paired::NewRefused(r) => put_refused(32 + code_of(r) as u32, place_of(r), 0, answer),
+        Paired::EditionsDiffer => put_refused(29, 0, 0, answer),
+        Paired::PairingLength => put_refused(27, 0, 0, answer),
+        Paired::EntryWrong(i) => put_refused(28, i, 0, answer),
+    }
+}
+
 // Checks a program.
 #[no_mangle]
 pub extern "C" fn couplerfinch_check(program: &[u8], answer: &mut [u32; 12]) -> u32
@@ -128,4 +182,38 @@ pub extern "C" fn couplerfinch_explain(
     ensures { λ r. ⌜ (r ≡ explainedCode (explainCall (now (program .entry)) (now (room .entry)) .answer)) × (now (answer .exit) ≡ explainedRoom (explainCall (now (program .entry)) (now (room .entry)) .answer)) × (now (room .exit) ≡ explainCall (now (program .entry)) (now (room .entry)) .room) ⌝ }
 {
     put_explained(explain::explain(program, room), answer)
+}
+
+// Brings a state back.
+#[no_mangle]
+pub extern "C" fn couplerfinch_mend(
+    program: &[u8],
+    state: &mut [u8],
+    list: &mut [u16],
+    answer: &mut [u32; 12],
+) -> u32
+    ensures { λ r. ⌜ (r ≡ mendedCode (mendCall (now (program .entry)) (now (state .entry)) (now (list .entry)) .answer)) × (now (answer .exit) ≡ mendedRoom (mendCall (now (program .entry)) (now (state .entry)) (now (list .entry)) .answer)) × (now (state .exit) ≡ mendCall (now (program .entry)) (now (state .entry)) (now (list .entry)) .state) × (now (list .exit) ≡ mendCall (now (program .entry)) (now (state .entry)) (now (list .entry)) .list) ⌝ }
+{
+    put_mended(mend::mend(program, state, list), answer)
+}
+
+// Tidies a table.
+#[no_mangle]
+pub extern "C" fn couplerfinch_tidy(program: &[u8], room: &mut [u8], answer: &mut [u32; 12]) -> u32
+    ensures { λ r. ⌜ (r ≡ tidiedCode (tidyCall (now (program .entry)) (now (room .entry)) .answer)) × (now (answer .exit) ≡ tidiedRoom (tidyCall (now (program .entry)) (now (room .entry)) .answer)) × (now (room .exit) ≡ tidyCall (now (program .entry)) (now (room .entry)) .room) ⌝ }
+{
+    put_tidied(tidy::tidy(program, room), answer)
+}
+
+// Judges a table that another yard tidied, by its pairing.
+#[no_mangle]
+pub extern "C" fn couplerfinch_paired(
+    old: &[u8],
+    new: &[u8],
+    pairing: &[u16],
+    answer: &mut [u32; 12],
+) -> u32
+    ensures { λ r. ⌜ (r ≡ pairedCode (pairedCall (now (old .entry)) (now (new .entry)) (now (pairing .entry)))) × (now (answer .exit) ≡ pairedRoom (pairedCall (now (old .entry)) (now (new .entry)) (now (pairing .entry)))) ⌝ }
+{
+    put_paired(pairing::paired(old, new, pairing), answer)
 }

@@ -1,7 +1,11 @@
-// Standard input and output in large pieces, by buffers that the program lends. No function has a `requires` that depends on what is read.
+// Standard input and output in large pieces, by buffers that the program lends, and numbers of 16 bits as bytes. No function has a `requires` that depends on what is read.
+mod entries;
 mod input;
 mod output;
 
+pub use entries::first_entries;
+pub use entries::give_entries;
+pub use entries::take_entries;
 pub use input::fill;
 pub use input::first;
 pub use input::gather;

@@ -2,10 +2,12 @@
 ghost use mathlib.Core.Path.{_≡_};
 ghost use Prim.Native.Nat.{_<_};
 ghost use Rattle.rules.specs.Layout.{records, kindAt};
+use crate::say;
 use crate::say::put;
+use rules::Checked;
 use rules::Refusal;
 
-// The sentence of a code.
+// The sentence of a code: of a program, from 33 on of the new one of two,
 fn sentence(code: u8) -> bool {
     match code {
         1 => put(b"the program is empty, longer than 24 blocks or not whole blocks of 512 bytes"),
@@ -14,7 +16,7 @@ fn sentence(code: u8) -> bool {
             b"this block has not its own number, the count of all blocks or the edition of block 0",
         ),
         4 => put(
-            b"this record by itself is wrong: its kind, type, constant, channel, a field that must be zero, or the end of the records",
+            b"this record of the table by itself is wrong: its kind, type, constant, channel, a field that must be zero, or the end of the records",
         ),
         5 => put(b"the nodes do not make one tree of the right sorts"),
         6 => put(
@@ -22,16 +24,103 @@ fn sentence(code: u8) -> bool {
         ),
         7 => put(b"the types at this node do not agree"),
         8 => put(b"the definition of this let needs its own value of the same step"),
+        _ => call_sentence(code),
+    }
+}
+
+// and of what else a call is handed.
+fn call_sentence(code: u8) -> bool {
+    match code {
         9 => put(b"the state is not one that this program can have, or has not its length"),
         10 => put(b"the records are not whole records of 40 bytes, or more than 4,096"),
         11 => put(b"the room for values is not 8 bytes for each record"),
         12 => put(b"this record is not well-formed"),
         13 => put(b"the time of this record is before the time of the state"),
         15 => put(b"the state is that of another program"),
+        16 => put(b"the room for the list is not one entry for each cell and one more"),
+        17 => put(b"the list of nodes to watch has not 1 to 8 entries"),
+        18 => put(b"this entry of the list is no signal node, or not above the one before"),
+        19 => put(b"the room for the new program is shorter than the old program"),
         25 => put(b"no let needs its own value of the same step: there is nothing to explain"),
         26 => put(b"the room for the chain is not 1,008 entries"),
+        27 => put(b"the pairing has not one entry for each new node"),
+        28 => put(b"this entry of the pairing is wrong"),
+        29 => put(b"the old and the new program are of different editions"),
+        _ => text_sentence(code),
+    }
+}
+
+// Of a text.
+fn text_sentence(code: u8) -> bool {
+    match code {
+        21 => put(b"this word or parenthesis does not fit here"),
+        22 => put(b"this name is unknown here, or bound twice"),
+        23 => put(b"this constant or channel is out of range"),
+        24 => put(b"the result is longer than the room for it"),
         _ => put(b"refused"),
     }
+}
+
+// Codes 33 to 40 are 1 to 8 of the new program.
+pub fn sentence_of(code: u8) -> bool {
+    if code > 32 {
+        put(b"of the new program: ");
+        return sentence(code - 32);
+    }
+    sentence(code)
+}
+
+// Is there such a code? 14 was one, and is not used again; 20, 30, 31 and 32 were none.
+fn is_code(code: u8) -> bool {
+    match code {
+        0 => false,
+        14 => false,
+        20 => false,
+        30 => false,
+        31 => false,
+        32 => false,
+        _ => code < 41,
+    }
+}
+
+// tables codes [CODE]: each code with its sentence, or that of the code that is named.
+pub fn list() {
+    let mut word = [0u8; 16];
+    let n = os::arg(2, &mut word);
+    if !asked(&word[..n]) {
+        say::no_code();
+    }
+}
+
+// Says the lines that a word asks for; true if there is one.
+fn asked(word: &[u8]) -> bool {
+    let mut code: u8 = 1;
+    let mut any = false;
+    while code < 41 {
+        if is_wanted(word, code) {
+            any = listed(code);
+        }
+        code += 1;
+    }
+    any
+}
+
+// Is a code asked for, by a word that is empty or its number?
+fn is_wanted(word: &[u8], code: u8) -> bool {
+    let mut digits = [0u8; 20];
+    let k = io::decimal(code as u64, &mut digits);
+    if is_code(code) {
+        return word.len() == 0 || check::same(word, &digits[..k]);
+    }
+    false
+}
+
+// The line of a code.
+fn listed(code: u8) -> bool {
+    numbered(b"", code as u32);
+    put(b" ");
+    sentence_of(code);
+    put(b"\n")
 }
 
 // A word, and what stands before it.
@@ -90,6 +179,14 @@ pub fn numbered(word: &[u8], n: u32) -> bool {
     put(&digits[..k])
 }
 
+// How many nodes an accepted table has.
+pub fn nodes(p: &[u8]) -> u32 {
+    match watch::check(p) {
+        Checked::Accepted(n, _, _, _) => n,
+        Checked::Refused(_) => 0,
+    }
+}
+
 // The place: a block, a record of the table or a node with the word of its kind.
 fn place_words(p: &[u8], code: u8, place: u32) -> bool {
     match code {
@@ -121,8 +218,14 @@ pub fn told(p: &[u8], r: Refusal) -> bool {
     put(b"\n")
 }
 
+// The same for the new program of two, whose codes have 32 added.
+pub fn told_new(p: &[u8], r: Refusal) -> bool {
+    put(b"of the new program: ");
+    told(p, r)
+}
+
 // The same for a code that has no place.
 pub fn told_alone(code: u8) -> bool {
-    sentence(code);
+    sentence_of(code);
     put(b"\n")
 }

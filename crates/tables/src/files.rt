@@ -81,3 +81,69 @@ fn said(taken: Taken, name: &[u8]) -> Taken {
     }
     taken
 }
+
+// The name of a file beside the one that argument i names: .part behind it. Answers its length, or 0 where the name is too long for that.
+fn beside(i: usize, name: &mut [u8; 4096]) -> usize {
+    let n = os::arg(i, name);
+    if n > 4000 {
+        return 0;
+    }
+    name[n] = b'.';
+    name[n + 1] = b'p';
+    name[n + 2] = b'a';
+    name[n + 3] = b'r';
+    name[n + 4] = b't';
+    n + 5
+}
+
+// Writes bytes to an open file, to its device; true if all came there.
+fn flushed(fd: i32, bytes: &[u8]) -> bool {
+    if !io::write_all(fd, bytes) {
+        return false;
+    }
+    libc::fsync(fd) == 0
+}
+
+// Makes a file of bytes; true if that went well. What failed is told, and half a file is taken away.
+fn made(path: &[u8], bytes: &[u8]) -> bool {
+    let fd = os::open_overwrite(path);
+    if fd < 0 {
+        os::fail(path);
+        return false;
+    }
+    let is_whole = flushed(fd, bytes);
+    if !is_whole {
+        os::fail(path);
+        os::unlink(path);
+    }
+    libc::close(fd);
+    is_whole
+}
+
+// Makes a file of bytes by way of another beside it, which then takes its name; true if that went well.
+fn renamed(path: &[u8], part: &[u8], bytes: &[u8]) -> bool {
+    if !made(part, bytes) {
+        return false;
+    }
+    if os::rename(part, path) != 0 {
+        os::fail(path);
+        os::unlink(part);
+        return false;
+    }
+    true
+}
+
+// Makes the file that argument i names of bytes, so that whatever happens there is a whole one, the old or the new. True if that went well;
+// what failed is told on standard error.
+pub fn written(i: usize, bytes: &[u8]) -> bool {
+    let mut path = io::buffer();
+    let n = os::arg(i, &mut path);
+    let mut part = io::buffer();
+    let k = beside(i, &mut part);
+    by_part(&path[..n], &part, k, bytes)
+}
+
+// The same, the name of the file beside it being the first k bytes of part.
+fn by_part(path: &[u8], part: &[u8; 4096], k: usize, bytes: &[u8]) -> bool {
+    renamed(path, feed::first(part, k), bytes)
+}

@@ -2,7 +2,10 @@
 mod checking;
 mod codes;
 mod files;
+mod mended;
+mod paired;
 mod say;
+mod tidying;
 mod why;
 
 // Does what a word names. (Twelve such tests are proved with no proof file; the same tests on a part of main's array are not, from the eighth on.)
@@ -13,6 +16,22 @@ fn chosen(word: &[u8]) {
     }
     if check::same(word, b"why") {
         why::why();
+        return;
+    }
+    if check::same(word, b"mend") {
+        mended::mend();
+        return;
+    }
+    if check::same(word, b"pair") {
+        paired::pair();
+        return;
+    }
+    if check::same(word, b"tidy") {
+        tidying::tidy();
+        return;
+    }
+    if check::same(word, b"codes") {
+        codes::list();
         return;
     }
     if check::same(word, b"version") {

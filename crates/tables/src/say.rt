@@ -29,7 +29,19 @@ pub fn refused(r: Refusal) -> bool {
     put(&line[..k])
 }
 
-// The let that is explained and how many entries its chain has, as a run's last line.
+// The last line for a code that is no refusal of one program.
+pub fn refused_at(code: u32, place: u32) -> bool {
+    let mut digits = [0u8; 20];
+    put(b"REFUSED ");
+    let k = io::decimal(code as u64, &mut digits);
+    put(&digits[..k]);
+    put(b" ");
+    let k = io::decimal(place as u64, &mut digits);
+    put(&digits[..k]);
+    put(b"\n")
+}
+
+// Two numbers as a run's last line: the let that is explained and how many entries its chain has; the nodes of an old and of a new table.
 pub fn ended(x: u32, entries: u32) -> bool {
     let mut line = [0u8; 64];
     let k = lines::end_line(x, entries, &mut line);
@@ -38,23 +50,48 @@ pub fn ended(x: u32, entries: u32) -> bool {
 
 pub fn help() -> bool {
     put(
-        b"tables check FILE      checks a table, and prints the channels that it names; - is standard input
-tables run             prints a run of blocks and records on standard input, as watchrun does
-tables why FILE        prints why the let that code 8 names is not ready: the nodes from its definition to its own variable
-tables version         prints the version
-tables help            prints this
+        b"tables check FILE                  checks a table, and prints the channels that it names; - is standard input
+tables run [FILE..]                prints a run of blocks and records, one file behind the other or standard input, as watchrun does
+tables why FILE                    prints why the let that code 8 names is not ready: the nodes from its definition to its own variable
+tables pair OLD NEW PAIRING        checks that a table that others tidied is the old one with unused lets dropped, as their pairing says
+tables tidy [OLD [NEW [PAIRING]]]  drops the lets that nobody uses; without NEW the new table goes to standard output
+tables mend TABLE STATE            brings a damaged state back in its file, and says which cells changed
+tables codes [CODE]                says in words what each code means, or this one
+tables version                     prints the version
+tables help                        prints this
 ",
     )
 }
 
 // The version stands in include/couplerfinch.h; tools/hosts holds this line against it.
 pub fn version() -> bool {
-    put(b"couplerfinch 1.0.0\n")
+    put(b"couplerfinch 1.1.0\n")
 }
 
 pub fn no_command() {
     io::write_all(
         libc::STDERR_FILENO,
         b"tables: no such command; tables help lists them\n",
+    );
+}
+
+pub fn no_code() {
+    io::write_all(
+        libc::STDERR_FILENO,
+        b"tables: no such code; tables codes lists them\n",
+    );
+}
+
+pub fn half_entry() {
+    io::write_all(
+        libc::STDERR_FILENO,
+        b"tables: the pairing is not whole entries of 2 bytes\n",
+    );
+}
+
+pub fn no_file() {
+    io::write_all(
+        libc::STDERR_FILENO,
+        b"tables: mend writes the state back in its file, and takes none from standard input\n",
     );
 }

@@ -1,5 +1,5 @@
 -- The lines of the answers, and the header lines of the requests. Assumes nothing.
-use Prim.Native.Nat.{ℕ, _*_}
+use Prim.Native.Nat.{ℕ, _+_, _*_}
 use mathlib.Core.List.{List, [], _∷_, _++_}
 use Rattle.rules.specs.declared.Refusal.{Refusal}
 use Rattle.rules.specs.declared.Checked.{Checked}
@@ -12,6 +12,12 @@ use Rattle.rules.specs.Answers.{codeOf, placeOf}
 use Rattle.wire.specs.declared.Request.{Request}
 use Rattle.chains.specs.declared.Explained.{Explained}
 use Rattle.chains.specs.declared.Explained.the-variants.{NoLet, RoomLength}
+use Rattle.mends.specs.declared.Mended.{Mended}
+use Rattle.mends.specs.declared.Mended.the-variants.{Listed, ListLength}
+use Rattle.rewritten.specs.declared.Tidied.{Tidied}
+use Rattle.rewritten.specs.declared.Tidied.the-variants.{Table, RoomShort}
+use Rattle.dropped.specs.declared.Paired.{Paired}
+use Rattle.dropped.specs.declared.Paired.the-variants.{OldRefused, NewRefused, EditionsDiffer, PairingLength, EntryWrong}
 use Rattle.wire.specs.declared.Request.the-variants.{Check, Start, Run, Broken}
 use Rattle.wire.specs.Text.{field}
 
@@ -45,7 +51,7 @@ unfoldable pub startedLine : Started → List ℕ
 startedLine Ready = 79 ∷ 75 ∷ 10 ∷ []
 startedLine (Started.Refused r) = refusedLine r 0
 
--- OK and two numbers: steps and work, or the let and the entries of its chain
+-- OK and two numbers: steps and work, the let and the entries of its chain, or the nodes and the length of a new table
 unfoldable pub finishedLine : ℕ → ℕ → List ℕ
 finishedLine steps work = ok ++ field steps 32 ++ field work 10
 
@@ -60,6 +66,35 @@ explainedLine (Explained.Chain node entries) = finishedLine node entries
 explainedLine (Explained.Refused r) = refusedLine r 0
 explainedLine NoLet = codedLine 25 0 0
 explainedLine RoomLength = codedLine 26 0 0
+
+-- OK and how many entries mend listed
+unfoldable pub listedLine : ℕ → List ℕ
+listedLine entries = ok ++ field entries 10
+
+-- the answer of mend: OK entries, or the refusal with no work
+unfoldable pub mendedLine : Mended → List ℕ
+mendedLine (Listed entries) = listedLine entries
+mendedLine (Mended.Refused r) = refusedLine r 0
+mendedLine ListLength = codedLine 16 0 0
+
+-- the answer of tidy: OK nodes length, or the refusal with no work
+unfoldable pub tidiedLine : Tidied → List ℕ
+tidiedLine (Table count long) = finishedLine count long
+tidiedLine (Tidied.Refused r) = refusedLine r 0
+tidiedLine RoomShort = codedLine 19 0 0
+
+-- the refusal of a new program: 32 is added to its code
+unfoldable pub newLine : Refusal → List ℕ
+newLine r = codedLine (32 + codeOf r) (placeOf r) 0
+
+-- the answer of paired: OK and no number, or the refusal with no work
+unfoldable pub pairedLine : Paired → List ℕ
+pairedLine Paired.Accepted = startedLine Ready
+pairedLine (OldRefused r) = refusedLine r 0
+pairedLine (NewRefused r) = newLine r
+pairedLine EditionsDiffer = codedLine 29 0 0
+pairedLine PairingLength = codedLine 27 0 0
+pairedLine (EntryWrong i) = codedLine 28 i 0
 
 -- "check "
 abbrev pub check : List ℕ
@@ -77,6 +112,18 @@ run = 114 ∷ 117 ∷ 110 ∷ 32 ∷ []
 abbrev pub chainWord : List ℕ
 chainWord = 99 ∷ 104 ∷ 97 ∷ 105 ∷ 110 ∷ 32 ∷ []
 
+-- "mend "
+abbrev pub mendWord : List ℕ
+mendWord = 109 ∷ 101 ∷ 110 ∷ 100 ∷ 32 ∷ []
+
+-- "tidy "
+abbrev pub tidyWord : List ℕ
+tidyWord = 116 ∷ 105 ∷ 100 ∷ 121 ∷ 32 ∷ []
+
+-- "pair "
+abbrev pub pairWord : List ℕ
+pairWord = 112 ∷ 97 ∷ 105 ∷ 114 ∷ 32 ∷ []
+
 -- check PLEN
 unfoldable pub checkLine : ℕ → List ℕ
 checkLine p = check ++ field p 10
@@ -93,10 +140,25 @@ runLine p s r o = run ++ field p 32 ++ field s 32 ++ field r 32 ++ field o 10
 unfoldable pub chainLine : ℕ → ℕ → List ℕ
 chainLine p c = chainWord ++ field p 32 ++ field c 10
 
--- the header line of a request; a chain's entries are two bytes each
+-- mend PLEN SLEN CLEN
+unfoldable pub mendLine : ℕ → ℕ → ℕ → List ℕ
+mendLine p s c = mendWord ++ field p 32 ++ field s 32 ++ field c 10
+
+-- tidy PLEN BLEN
+unfoldable pub tidyLine : ℕ → ℕ → List ℕ
+tidyLine p b = tidyWord ++ field p 32 ++ field b 10
+
+-- pair OLDLEN NEWLEN LLEN
+unfoldable pub pairLine : ℕ → ℕ → ℕ → List ℕ
+pairLine p q l = pairWord ++ field p 32 ++ field q 32 ++ field l 10
+
+-- the header line of a request; entries are two bytes each
 unfoldable pub headerLine : Request → List ℕ
 headerLine (Check p) = checkLine p
 headerLine (Start p s) = startLine p s
 headerLine (Run p s r o) = runLine p s r o
 headerLine (Request.Chain p n) = chainLine p (2 * n)
+headerLine (Request.Mend p s n) = mendLine p s (2 * n)
+headerLine (Request.Tidy p b) = tidyLine p b
+headerLine (Request.Pair p q n) = pairLine p q (2 * n)
 headerLine Broken = []

@@ -3,10 +3,13 @@ ghost use mathlib.Core.Path.{_≡_};
 ghost use lib.ListN.{take};
 ghost use Rattle.io.specs.Counts.{Counts};
 ghost use Rattle.rules.specs.declared.Started.the-variants.{Ready};
-ghost use Rattle.wire.specs.Lines.{acceptedLine, checkedLine, codedLine, explainedLine, finishedLine, ranLine, refusedLine, startedLine};
+ghost use Rattle.wire.specs.Lines.{acceptedLine, checkedLine, codedLine, explainedLine, finishedLine, listedLine, mendedLine, newLine, pairedLine, ranLine, refusedLine, startedLine, tidiedLine};
 use crate::text::put;
 use crate::text::put_field;
 use chains::Explained;
+use dropped::Paired;
+use mends::Mended;
+use rewritten::Tidied;
 use rules::Checked;
 use rules::Ran;
 use rules::Refusal;
@@ -75,8 +78,8 @@ pub fn started_line(answer: Started, line: &mut [u8; 64]) -> usize
     }
 }
 
-// Puts `OK` and two numbers, the steps and the work of a run or the let and the entries of a chain, at the start of line, and answers its
-// length.
+// Puts `OK` and two numbers, the steps and the work of a run, the let and the entries of a chain or the nodes and the length of a new table, at
+// the start of line, and answers its length.
 fn finished_line(steps: u32, work: u32, line: &mut [u8; 64]) -> usize
     ensures { λ r. ⌜ Counts r (now (line .exit)) ⌝ }
     ensures { λ r. ⌜ take r (now (line .exit)) ≡ finishedLine steps work ⌝ }
@@ -107,5 +110,63 @@ pub fn explained_line(answer: Explained, line: &mut [u8; 64]) -> usize
         Explained::Refused(r) => refused_line(r, 0, line),
         Explained::NoLet => coded_line(25, 0, 0, line),
         Explained::RoomLength => coded_line(26, 0, 0, line),
+    }
+}
+
+// Puts `OK` and how many entries mend listed at the start of line, and answers its length.
+fn listed_line(entries: u32, line: &mut [u8; 64]) -> usize
+    ensures { λ r. ⌜ Counts r (now (line .exit)) ⌝ }
+    ensures { λ r. ⌜ take r (now (line .exit)) ≡ listedLine entries ⌝ }
+{
+    let a = put(b"OK ", line, 0);
+    put_field(entries, b'\n', line, a)
+}
+
+// Puts the answer of mend at the start of line, and answers its length.
+pub fn mended_line(answer: Mended, line: &mut [u8; 64]) -> usize
+    ensures { λ r. ⌜ Counts r (now (line .exit)) ⌝ }
+    ensures { λ r. ⌜ take r (now (line .exit)) ≡ mendedLine answer ⌝ }
+{
+    match answer {
+        Mended::Listed(entries) => listed_line(entries, line),
+        Mended::Refused(r) => refused_line(r, 0, line),
+        Mended::ListLength => coded_line(16, 0, 0, line),
+    }
+}
+
+// Puts the answer of tidy at the start of line, and answers its length.
+pub fn tidied_line(answer: Tidied, line: &mut [u8; 64]) -> usize
+    ensures { λ r. ⌜ Counts r (now (line .exit)) ⌝ }
+    ensures { λ r. ⌜ take r (now (line .exit)) ≡ tidiedLine answer ⌝ }
+{
+    match answer {
+        Tidied::Table(nodes, length) => finished_line(nodes, length, line),
+        Tidied::Refused(r) => refused_line(r, 0, line),
+        Tidied::RoomShort => coded_line(19, 0, 0, line),
+    }
+}
+
+// Puts the refusal of a new program, with 32 added to its code, at the start of line, and answers its length.
+fn new_line(r: Refusal, line: &mut [u8; 64]) -> usize
+    ensures { λ n. ⌜ Counts n (now (line .exit)) ⌝ }
+    ensures { λ n. ⌜ take n (now (line .exit)) ≡ newLine r ⌝ }
+{
+    let code = 32 + rules::code_of(r) as u32;
+    let place = rules::place_of(r);
+    coded_line(code, place, 0, line)
+}
+
+// Puts the answer of paired at the start of line, and answers its length.
+pub fn paired_line(answer: Paired, line: &mut [u8; 64]) -> usize
+    ensures { λ r. ⌜ Counts r (now (line .exit)) ⌝ }
+    ensures { λ r. ⌜ take r (now (line .exit)) ≡ pairedLine answer ⌝ }
+{
+    match answer {
+        Paired::Accepted => ready_line(line),
+        Paired::OldRefused(r) => refused_line(r, 0, line),
+        Paired::NewRefused(r) => new_line(r, line),
+        Paired::EditionsDiffer => coded_line(29, 0, 0, line),
+        Paired::PairingLength => coded_line(27, 0, 0, line),
+        Paired::EntryWrong(i) => coded_line(28, i, 0, line),
     }
 }

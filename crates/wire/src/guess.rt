@@ -88,6 +88,40 @@ fn guess_program(line: &[u8]) -> Request {
     Request::Check(p.value)
 }
 
+// A mend with the three numbers that stand behind `mend `: the third is of bytes, two for each entry.
+fn guess_mend(line: &[u8]) -> Request {
+    let p = number(line, 5);
+    let s = number(line, p.next);
+    let c = number(line, s.next);
+    Request::Mend(p.value, s.value, (c.value / 2 % 65536) as u16)
+}
+
+// A tidy with the two numbers that stand behind `tidy `.
+fn guess_tidy(line: &[u8]) -> Request {
+    let p = number(line, 5);
+    let b = number(line, p.next);
+    Request::Tidy(p.value, b.value)
+}
+
+// A pair with the three numbers that stand behind `pair `: the third is of bytes, two for each entry.
+fn guess_pair(line: &[u8]) -> Request {
+    let p = number(line, 5);
+    let q = number(line, p.next);
+    let c = number(line, q.next);
+    Request::Pair(p.value, q.value, (c.value / 2 % 65536) as u16)
+}
+
+// One of the calls that came later, by the first byte.
+fn guess_later(line: &[u8], first: u8) -> Request {
+    if first == b'm' {
+        return guess_mend(line);
+    }
+    if first == b't' {
+        return guess_tidy(line);
+    }
+    guess_pair(line)
+}
+
 // The call goes by the first byte.
 pub(crate) fn guess(line: &[u8]) -> Request {
     let first = byte_at(line, 0);
@@ -97,5 +131,8 @@ pub(crate) fn guess(line: &[u8]) -> Request {
     if first == b'r' {
         return guess_run(line);
     }
-    guess_start(line)
+    if first == b's' {
+        return guess_start(line);
+    }
+    guess_later(line, first)
 }

@@ -3,13 +3,13 @@ ghost use mathlib.Core.Path.{_≡_};
 ghost use lib.ListN.{take};
 ghost use Rattle.io.specs.Counts.{Counts};
 ghost use Rattle.wire.specs.declared.Request.the-variants.{Broken};
-ghost use Rattle.wire.specs.Lines.{headerLine, checkLine, startLine, runLine, chainLine};
+ghost use Rattle.wire.specs.Lines.{headerLine, checkLine, startLine, runLine, chainLine, mendLine, tidyLine, pairLine};
 use crate::Request;
 use crate::guess::guess;
 use crate::text::put;
 use crate::text::put_field;
 
-// The header line of a check, at the start of line; answers its length, as the next three do.
+// The header line of a check, at the start of line; answers its length, as the others do.
 fn check_header(p: u32, line: &mut [u8; 64]) -> usize
     ensures { λ n. ⌜ Counts n (now (line .exit)) ⌝ }
     ensures { λ n. ⌜ take n (now (line .exit)) ≡ checkLine p ⌝ }
@@ -50,6 +50,38 @@ fn chain_header(p: u32, c: u32, line: &mut [u8; 64]) -> usize
     put_field(c, b'\n', line, b)
 }
 
+// The header line of a mend, with the list's length in bytes.
+fn mend_header(p: u32, s: u32, c: u32, line: &mut [u8; 64]) -> usize
+    ensures { λ n. ⌜ Counts n (now (line .exit)) ⌝ }
+    ensures { λ n. ⌜ take n (now (line .exit)) ≡ mendLine p s c ⌝ }
+{
+    let a = put(b"mend ", line, 0);
+    let b = put_field(p, b' ', line, a);
+    let d = put_field(s, b' ', line, b);
+    put_field(c, b'\n', line, d)
+}
+
+// The header line of a tidy.
+fn tidy_header(p: u32, r: u32, line: &mut [u8; 64]) -> usize
+    ensures { λ n. ⌜ Counts n (now (line .exit)) ⌝ }
+    ensures { λ n. ⌜ take n (now (line .exit)) ≡ tidyLine p r ⌝ }
+{
+    let a = put(b"tidy ", line, 0);
+    let b = put_field(p, b' ', line, a);
+    put_field(r, b'\n', line, b)
+}
+
+// The header line of a pair, with the pairing's length in bytes.
+fn pair_header(p: u32, q: u32, c: u32, line: &mut [u8; 64]) -> usize
+    ensures { λ n. ⌜ Counts n (now (line .exit)) ⌝ }
+    ensures { λ n. ⌜ take n (now (line .exit)) ≡ pairLine p q c ⌝ }
+{
+    let a = put(b"pair ", line, 0);
+    let b = put_field(p, b' ', line, a);
+    let d = put_field(q, b' ', line, b);
+    put_field(c, b'\n', line, d)
+}
+
 // Puts a request's header line at the start of line, and answers its length.
 pub fn header(request: Request, line: &mut [u8; 64]) -> usize
     ensures { λ n. ⌜ Counts n (now (line .exit)) ⌝ }
@@ -60,6 +92,9 @@ pub fn header(request: Request, line: &mut [u8; 64]) -> usize
         Request::Start(p, s) => start_header(p, s, line),
         Request::Run(p, s, r, o) => run_header(p, s, r, o, line),
         Request::Chain(p, n) => chain_header(p, 2 * (n as u32), line),
+        Request::Mend(p, s, n) => mend_header(p, s, 2 * (n as u32), line),
+        Request::Tidy(p, r) => tidy_header(p, r, line),
+        Request::Pair(p, q, n) => pair_header(p, q, 2 * (n as u32), line),
         Request::Broken => 0,
     }
 }

@@ -7,19 +7,26 @@ mod text;
 
 pub use answer::checked_line;
 pub use answer::explained_line;
+pub use answer::mended_line;
+pub use answer::paired_line;
 pub use answer::ran_line;
 pub use answer::started_line;
+pub use answer::tidied_line;
 pub use digits::hex;
 pub use header::request_of;
 pub use text::put;
 pub use text::put_field;
 pub use text::put_number;
 
-// A request by its header line: the call and the lengths of its lent memory; of a chain's room, how many entries it has.
+// A request by its header line: the call and the lengths of its lent memory; of a chain's room, mend's list and a pairing, how many entries they
+// have.
 pub enum Request {
     Check(u32),
     Start(u32, u32),
     Run(u32, u32, u32, u32),
     Chain(u32, u16),
+    Mend(u32, u32, u16),
+    Tidy(u32, u32),
+    Pair(u32, u32, u16),
     Broken,
 }

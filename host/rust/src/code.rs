@@ -7,45 +7,78 @@ use core::fmt;
 #[repr(u32)]
 #[derive(Clone, Copy, Debug, PartialEq, Eq, PartialOrd, Ord, Hash)]
 pub enum Code {
-    /// The program's length is 0, above 24 blocks or not whole blocks.
+    /// The program is empty, longer than 24 blocks or not whole blocks of 512 bytes.
     ProgramLength = raw::PROGRAM_LENGTH,
-    /// The check of a block is wrong; the place is the block.
+    /// The check sum of this block is not that of its bytes. The place: block.
     CheckSum = raw::CHECK_SUM,
-    /// The number or count of a block is wrong, its edition differs from block 0's or is above 1;
-    /// the place is the block.
+    /// This block has not its own number, the count of all blocks or the edition of block 0. The
+    /// place: block.
     BlockNumber = raw::BLOCK_NUMBER,
-    /// A kind, type, constant, channel, zero field or the end of records is wrong; the place is the
-    /// record of the table.
+    /// This record of the table by itself is wrong: its kind, type, constant, channel, a field that
+    /// must be zero, or the end of the records. The place: record of the table.
     RecordFault = raw::RECORD_FAULT,
-    /// The table is not one tree of the right sorts; the place is the node.
+    /// The nodes do not make one tree of the right sorts. The place: node.
     ShapeFault = raw::SHAPE_FAULT,
-    /// A binder or target is out of scope; the place is the variable or case.
+    /// The binder of this variable does not hold here, or the target of this case is no branch of a
+    /// group that it may leave. The place: node.
     ScopeFault = raw::SCOPE_FAULT,
-    /// The rule of types breaks; the place is the node.
+    /// The types at this node do not agree. The place: node.
     TypeFault = raw::TYPE_FAULT,
-    /// A definition needs its own variable at once; the place is the let.
+    /// The definition of this let needs its own value of the same step. The place: node.
     NotReady = raw::NOT_READY,
-    /// The state is not well-formed, or for start not of the right length.
+    /// The state is not one that this program can have, or has not its length.
     StateFault = raw::STATE_FAULT,
-    /// The length of the records is wrong for the call.
+    /// The records are not whole records of 40 bytes, or more than 4,096.
     RecordsLength = raw::RECORDS_LENGTH,
-    /// The length of the output is wrong for the call.
+    /// The room for values is not 8 bytes for each record.
     OutputLength = raw::OUTPUT_LENGTH,
-    /// A record is not well-formed; the place is how many steps were done before it.
+    /// This record is not well-formed. The place: steps done.
     InputFault = raw::INPUT_FAULT,
-    /// A record's time is before the state's; the place is how many steps were done before it.
+    /// The time of this record is before the time of the state. The place: steps done.
     TimeBack = raw::TIME_BACK,
-    /// The state is of another program: the sum of checks that it holds is not this program's.
+    /// The state is that of another program.
     OtherProgram = raw::OTHER_PROGRAM,
-    /// There is no let to explain: the program is accepted.
+    /// The room for the list is not one entry for each cell and one more.
+    ListLength = raw::LIST_LENGTH,
+    /// The room for the new program is shorter than the old program.
+    NewLength = raw::NEW_LENGTH,
+    /// No let needs its own value of the same step: there is nothing to explain.
     NoLet = raw::NO_LET,
-    /// The room of explain has not [`crate::NODES`] entries.
+    /// The room for the chain is not 1,008 entries.
     RoomLength = raw::ROOM_LENGTH,
+    /// The pairing has not one entry for each new node.
+    PairingLength = raw::PAIRING_LENGTH,
+    /// This entry of the pairing is wrong. The place: entry.
+    PairingEntry = raw::PAIRING_ENTRY,
+    /// The old and the new program are of different editions.
+    OtherEdition = raw::OTHER_EDITION,
+    /// Of the new program: the program is empty, longer than 24 blocks or not whole blocks of 512
+    /// bytes.
+    NewProgramLength = raw::NEW_PROGRAM_LENGTH,
+    /// Of the new program: the check sum of this block is not that of its bytes. The place: block.
+    NewCheckSum = raw::NEW_CHECK_SUM,
+    /// Of the new program: this block has not its own number, the count of all blocks or the
+    /// edition of block 0. The place: block.
+    NewBlockNumber = raw::NEW_BLOCK_NUMBER,
+    /// Of the new program: this record of the table by itself is wrong: its kind, type, constant,
+    /// channel, a field that must be zero, or the end of the records. The place: record of the
+    /// table.
+    NewRecordFault = raw::NEW_RECORD_FAULT,
+    /// Of the new program: the nodes do not make one tree of the right sorts. The place: node.
+    NewShapeFault = raw::NEW_SHAPE_FAULT,
+    /// Of the new program: the binder of this variable does not hold here, or the target of this
+    /// case is no branch of a group that it may leave. The place: node.
+    NewScopeFault = raw::NEW_SCOPE_FAULT,
+    /// Of the new program: the types at this node do not agree. The place: node.
+    NewTypeFault = raw::NEW_TYPE_FAULT,
+    /// Of the new program: the definition of this let needs its own value of the same step. The
+    /// place: node.
+    NewNotReady = raw::NEW_NOT_READY,
 }
 
 impl Code {
     /// All codes, from 1 on.
-    pub const ALL: [Code; 16] = [
+    pub const ALL: [Code; 29] = [
         Code::ProgramLength,
         Code::CheckSum,
         Code::BlockNumber,
@@ -60,8 +93,21 @@ impl Code {
         Code::InputFault,
         Code::TimeBack,
         Code::OtherProgram,
+        Code::ListLength,
+        Code::NewLength,
         Code::NoLet,
         Code::RoomLength,
+        Code::PairingLength,
+        Code::PairingEntry,
+        Code::OtherEdition,
+        Code::NewProgramLength,
+        Code::NewCheckSum,
+        Code::NewBlockNumber,
+        Code::NewRecordFault,
+        Code::NewShapeFault,
+        Code::NewScopeFault,
+        Code::NewTypeFault,
+        Code::NewNotReady,
     ];
 
     /// The code's number.
@@ -80,7 +126,7 @@ impl Code {
             1 => "the program is empty, longer than 24 blocks or not whole blocks of 512 bytes",
             2 => "the check sum of this block is not that of its bytes",
             3 => "this block has not its own number, the count of all blocks or the edition of block 0",
-            4 => "this record by itself is wrong: its kind, type, constant, channel, a field that must be zero, or the end of the records",
+            4 => "this record of the table by itself is wrong: its kind, type, constant, channel, a field that must be zero, or the end of the records",
             5 => "the nodes do not make one tree of the right sorts",
             6 => "the binder of this variable does not hold here, or the target of this case is no branch of a group that it may leave",
             7 => "the types at this node do not agree",
@@ -91,8 +137,21 @@ impl Code {
             12 => "this record is not well-formed",
             13 => "the time of this record is before the time of the state",
             15 => "the state is that of another program",
+            16 => "the room for the list is not one entry for each cell and one more",
+            19 => "the room for the new program is shorter than the old program",
             25 => "no let needs its own value of the same step: there is nothing to explain",
             26 => "the room for the chain is not 1,008 entries",
+            27 => "the pairing has not one entry for each new node",
+            28 => "this entry of the pairing is wrong",
+            29 => "the old and the new program are of different editions",
+            33 => "of the new program: the program is empty, longer than 24 blocks or not whole blocks of 512 bytes",
+            34 => "of the new program: the check sum of this block is not that of its bytes",
+            35 => "of the new program: this block has not its own number, the count of all blocks or the edition of block 0",
+            36 => "of the new program: this record of the table by itself is wrong: its kind, type, constant, channel, a field that must be zero, or the end of the records",
+            37 => "of the new program: the nodes do not make one tree of the right sorts",
+            38 => "of the new program: the binder of this variable does not hold here, or the target of this case is no branch of a group that it may leave",
+            39 => "of the new program: the types at this node do not agree",
+            40 => "of the new program: the definition of this let needs its own value of the same step",
             _ => "refused",
         }
     }

@@ -1,4 +1,5 @@
-//! The four calls of Couplerfinch for Rust: [`check`], [`start`], [`run`] and [`explain`].
+//! The calls of Couplerfinch for Rust: [`check`], [`start`], [`run`], [`explain`], [`mend`], [`tidy`] and
+//! [`paired`].
 //!
 //! They stand over the static library `libcouplerfinch.a`, whose answers are proved: every call ends
 //! and answers, whatever bytes and lengths it is handed. What a caller in C owes (a pointer to as
@@ -36,7 +37,8 @@ pub mod raw;
 
 pub use code::{Code, Type};
 pub use raw::{
-    state_length, BLOCK, BLOCKS, LONGEST_STATE, NODES, NO_ENTRY, RECORD, RECORDS, VALUE,
+    list_entries, state_length, BLOCK, BLOCKS, LONGEST_LIST, LONGEST_PROGRAM, LONGEST_STATE, NODES,
+    NO_ENTRY, RECORD, RECORDS, TIME_ENTRY, VALUE,
 };
 
 use core::fmt;
@@ -62,6 +64,11 @@ impl Checked {
     pub const fn state_length(&self) -> usize {
         state_length(self.cells as usize)
     }
+
+    /// How many entries the list of [`mend`] has.
+    pub const fn list_entries(&self) -> usize {
+        list_entries(self.cells as usize)
+    }
 }
 
 /// What run says of steps that went through.
@@ -80,6 +87,15 @@ pub struct Explained {
     pub node: u32,
     /// How many entries its chain has.
     pub entries: u32,
+}
+
+/// What tidy says of the new program.
+#[derive(Clone, Copy, Debug, PartialEq, Eq)]
+pub struct Tidied {
+    /// How many nodes it has.
+    pub nodes: u32,
+    /// How long it is in bytes: so much of the room it fills.
+    pub length: u32,
 }
 
 /// A refused call.
@@ -166,6 +182,62 @@ pub fn explain(program: &[u8], room: &mut [u16]) -> Result<Explained, Refusal> {
     })?;
     let raw::Answer { node, entries, .. } = answer;
     Ok(Explained { node, entries })
+}
+
+/// Brings a damaged state back: a cell that is valid for its node and in a current part is kept, every
+/// other is put to start, and a time above 2,147,483,647 becomes all ones, "none". The list has
+/// [`Checked::list_entries`] entries and gets what changed: [`TIME_ENTRY`] in front if the time did, then
+/// the cells' numbers from 0, rising; how many were listed is answered. A refusal leaves state and list
+/// as they were.
+pub fn mend(program: &[u8], state: &mut [u8], list: &mut [u16]) -> Result<u32, Refusal> {
+    let answer = answered(|answer| {
+        let (program, program_length) = (program.as_ptr(), program.len());
+        let (state, state_length) = (state.as_mut_ptr(), state.len());
+        let (list, entries) = (list.as_mut_ptr(), list.len());
+        // Safety: as for `check`; state and list are lent alone.
+        unsafe {
+            raw::couplerfinch_mend(
+                program,
+                program_length,
+                state,
+                state_length,
+                list,
+                entries,
+                answer,
+            )
+        }
+    })?;
+    Ok(answer.entries)
+}
+
+/// Tidies a program: each let whose body does not name its variable is replaced by that body, again
+/// until none is left, and the nodes are numbered children first. The new program fills the first
+/// blocks of the room, which is at least as long as the old one ([`LONGEST_PROGRAM`] is for any), and the
+/// rest is left; from start the two answer every list of records with the same values and refusals.
+pub fn tidy(program: &[u8], room: &mut [u8]) -> Result<Tidied, Refusal> {
+    let answer = answered(|answer| {
+        let (new, length) = (room.as_mut_ptr(), room.len());
+        // Safety: as for `check`; the room is lent alone.
+        unsafe { raw::couplerfinch_tidy(program.as_ptr(), program.len(), new, length, answer) }
+    })?;
+    let raw::Answer { nodes, length, .. } = answer;
+    Ok(Tidied { nodes, length })
+}
+
+/// Accepts a new program exactly when it is the old one with some unused lets dropped, one after the
+/// other, and its nodes are numbered as the pairing says, which has for each new node its old one. From
+/// start the two then answer every list of records with the same values and refusals.
+pub fn paired(old: &[u8], new: &[u8], pairing: &[u16]) -> Result<(), Refusal> {
+    answered(|answer| {
+        let (old, old_length) = (old.as_ptr(), old.len());
+        let (new, new_length) = (new.as_ptr(), new.len());
+        let (pairing, entries) = (pairing.as_ptr(), pairing.len());
+        // Safety: as for `check`; nothing but the answer is written.
+        unsafe {
+            raw::couplerfinch_paired(old, old_length, new, new_length, pairing, entries, answer)
+        }
+    })?;
+    Ok(())
 }
 
 /// Makes a call with room for its answer, which is a refusal where its code is not 0.

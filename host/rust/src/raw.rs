@@ -8,6 +8,8 @@ pub const RECORD: usize = 40;
 pub const VALUE: usize = 8;
 pub const RECORDS: usize = 4096;
 
+pub const LONGEST_PROGRAM: usize = BLOCK * BLOCKS;
+
 pub const NO_ENTRY: u16 = 65535;
 
 /// The length of a state of so many cells.
@@ -15,6 +17,13 @@ pub const fn state_length(cells: usize) -> usize {
     8 + 8 * cells
 }
 pub const LONGEST_STATE: usize = state_length(NODES);
+
+/// How many entries mend's list has room for with so many cells.
+pub const fn list_entries(cells: usize) -> usize {
+    cells + 1
+}
+pub const LONGEST_LIST: usize = list_entries(NODES);
+pub const TIME_ENTRY: u16 = 65535;
 
 pub const DONE: u32 = 0;
 pub const PROGRAM_LENGTH: u32 = 1;
@@ -31,8 +40,21 @@ pub const OUTPUT_LENGTH: u32 = 11;
 pub const INPUT_FAULT: u32 = 12;
 pub const TIME_BACK: u32 = 13;
 pub const OTHER_PROGRAM: u32 = 15;
+pub const LIST_LENGTH: u32 = 16;
+pub const NEW_LENGTH: u32 = 19;
 pub const NO_LET: u32 = 25;
 pub const ROOM_LENGTH: u32 = 26;
+pub const PAIRING_LENGTH: u32 = 27;
+pub const PAIRING_ENTRY: u32 = 28;
+pub const OTHER_EDITION: u32 = 29;
+pub const NEW_PROGRAM_LENGTH: u32 = 33;
+pub const NEW_CHECK_SUM: u32 = 34;
+pub const NEW_BLOCK_NUMBER: u32 = 35;
+pub const NEW_RECORD_FAULT: u32 = 36;
+pub const NEW_SHAPE_FAULT: u32 = 37;
+pub const NEW_SCOPE_FAULT: u32 = 38;
+pub const NEW_TYPE_FAULT: u32 = 39;
+pub const NEW_NOT_READY: u32 = 40;
 
 /// An answer as the calls write it: numbers that a call does not give are 0.
 #[repr(C)]
@@ -81,6 +103,31 @@ extern "C" {
         program_length: usize,
         room: *mut u16,
         room_entries: usize,
+        answer: *mut Answer,
+    ) -> u32;
+    pub fn couplerfinch_mend(
+        program: *const u8,
+        program_length: usize,
+        state: *mut u8,
+        state_length: usize,
+        list: *mut u16,
+        list_entries: usize,
+        answer: *mut Answer,
+    ) -> u32;
+    pub fn couplerfinch_tidy(
+        program: *const u8,
+        program_length: usize,
+        room: *mut u8,
+        room_length: usize,
+        answer: *mut Answer,
+    ) -> u32;
+    pub fn couplerfinch_paired(
+        old_program: *const u8,
+        old_length: usize,
+        new_program: *const u8,
+        new_length: usize,
+        pairing: *const u16,
+        pairing_entries: usize,
         answer: *mut Answer,
     ) -> u32;
 }

@@ -43,6 +43,7 @@ fn cut(text: &str, from: &str, to: &str) -> (Vec<String>, String) {
 /// A formula without its brackets, spaces, casts and marks of unsigned numbers.
 fn formula(text: &str) -> String {
     let text = text.replace("(size_t)", "").replace("COUPLERFINCH_STATE", "state_length");
+    let text = text.replace("COUPLERFINCH_LIST(", "list_entries(");
     let text = text.replace("COUPLERFINCH_", "").replace("u ", "").replace("u)", "");
     text.trim_end_matches('u').replace(['(', ')', ' '], "")
 }
@@ -57,6 +58,7 @@ fn declared_in_c(text: &str) -> String {
         "uint8_t *" => "*mut u8",
         "const uint8_t *" => "*const u8",
         "uint16_t *" => "*mut u16",
+        "const uint16_t *" => "*const u16",
         "couplerfinch_answer *" => "*mut Answer",
         _ => panic!("no type for {kind}"),
     };
@@ -86,10 +88,14 @@ fn header(text: &str) -> Declared {
     for line in text.lines() {
         match line.strip_prefix("#define COUPLERFINCH_") {
             Some("H") => {}
-            Some(define) if define.starts_with("VERSION ") => {} // tests/words.rs
+            Some(define) if define.starts_with("VERSION ") => {} // tests/version.rs
             Some(define) => {
                 let (name, value) = define.split_once(' ').expect("a name and a value");
-                let name = name.strip_suffix("(cells)").map_or(name, |_| "state_length");
+                let name = match name {
+                    "STATE(cells)" => "state_length",
+                    "LIST(cells)" => "list_entries",
+                    _ => name,
+                };
                 all.numbers.push(format!("{name} = {}", formula(value)));
             }
             None if line.starts_with("#include <std") => {}
@@ -123,9 +129,10 @@ fn rust(text: &str) -> Declared {
     let mut lines = lines.filter(|line| !line.is_empty() && !line.starts_with("//"));
     while let Some(line) = lines.next() {
         let end = |mark| line.strip_suffix(mark).unwrap_or_else(|| panic!("{line}"));
-        if line == "pub const fn state_length(cells: usize) -> usize {" {
+        if let Some(function) = line.strip_prefix("pub const fn ") {
+            let name = function.strip_suffix("(cells: usize) -> usize {").expect("of the cells");
             let body = lines.next().expect("a body");
-            all.numbers.push(format!("state_length = {}", formula(body)));
+            all.numbers.push(format!("{name} = {}", formula(body)));
         } else if line.starts_with("pub const ") {
             let (name, value) = end(";")["pub const ".len()..].split_once(": ").expect("a type");
             let (_, value) = value.split_once(" = ").expect("a value");
@@ -150,7 +157,7 @@ const SILENT: [&str; 4] = [
 #[test]
 fn declarations_are_the_headers() {
     let (one, other) = (header(HEADER), rust(RAW));
-    assert_eq!((one.numbers.len(), one.fields.len(), one.functions.len()), (26, 12, 4));
+    assert_eq!((one.numbers.len(), one.fields.len(), one.functions.len()), (43, 12, 7));
     assert_eq!(one, other);
     assert!(RAW.contains("#[repr(C)]\n#[derive"), "C's layout");
 }
@@ -158,7 +165,7 @@ fn declarations_are_the_headers() {
 #[test]
 fn the_answer_is_laid_out_as_in_c() {
     assert_eq!((size_of::<raw::Answer>(), align_of::<raw::Answer>()), (48, 4));
-    assert_eq!(raw::LONGEST_STATE, 8072);
+    assert_eq!((raw::LONGEST_STATE, raw::LONGEST_LIST, raw::LONGEST_PROGRAM), (8072, 1009, 12_288));
 }
 
 /// `PROGRAM_LENGTH` as `ProgramLength`.
@@ -178,7 +185,7 @@ fn codes_have_the_headers_names() {
         .map(|(name, number)| format!("{} = {number}", camel(name)))
         .collect();
     assert_eq!(named.as_slice(), wanted);
-    assert_eq!([0, 14, 24, 27].map(Code::of), [None; 4]);
+    assert_eq!([0, 14, 24, 30, 32, 41].map(Code::of), [None; 6]);
     assert_eq!(Code::of(8), Some(Code::NotReady));
 }
 
@@ -190,7 +197,7 @@ fn types_are_the_papers() {
 }
 
 /// An edit of either file that the comparison must see.
-const EDITS: [(bool, &str, &str); 16] = [
+const EDITS: [(bool, &str, &str); 22] = [
     (true, "TIME_BACK 13u", "TIME_BACK 14u"),
     (true, "COUPLERFINCH_BLOCK 512u", "COUPLERFINCH_BLOCKY 512u"),
     (true, "(8u + 8u * ", "(4u + 8u * "),
@@ -203,7 +210,14 @@ const EDITS: [(bool, &str, &str); 16] = [
     ),
     (true, "size_t records_length, ", ""),
     (true, "uint16_t *room", "uint8_t *room"),
-    (false, "    pub entries: u32,\n    pub node: u32,", "    pub node: u32,\n    pub entries: u32,"),
+    (true, "((size_t)(cells) + 1u)", "((size_t)(cells) + 2u)"),
+    (true, "COUPLERFINCH_BLOCK * COUPLERFINCH_BLOCKS", "COUPLERFINCH_BLOCK * COUPLERFINCH_NODES"),
+    (true, "const uint16_t *pairing", "uint16_t *pairing"),
+    (
+        false,
+        "    pub entries: u32,\n    pub node: u32,",
+        "    pub node: u32,\n    pub entries: u32,",
+    ),
     (false, "BLOCKS: usize = 24", "BLOCKS: usize = 42"),
     (false, "    pub cells: u32,\n    pub bound: u32,", "    pub bound: u32,\n    pub cells: u32,"),
     (
@@ -213,6 +227,9 @@ const EDITS: [(bool, &str, &str); 16] = [
     ),
     (false, "records: *const u8,", "records: *mut u8,"),
     (false, "program: *const u8,", "table: *const u8,"),
+    (false, "list: *mut u16,", "list: *const u16,"),
+    (false, "old_length: usize,", "length: usize,"),
+    (false, "NEW_NOT_READY: u32 = 40", "NEW_NOT_READY: u32 = 39"),
     (false, "    8 + 8 * cells", "    8 + 8 * cells + 4"),
     (false, "pub const NOT_READY: u32 = 8;\n", ""),
 ];

@@ -1,10 +1,10 @@
-//! The four calls through the static library, on readings A, C and D of document 01 and on refusals.
+//! The calls through the static library, on readings A, C and D of document 01 and on refusals.
 //! Where there is no archive for the target this file is empty.
 #![cfg(linked)]
 
 use couplerfinch::{
-    check, explain, run, start, Checked, Code, Explained, Ran, Refusal, Type, BLOCK, NODES, NO_ENTRY,
-    RECORD,
+    check, explain, mend, paired, run, start, tidy, Checked, Code, Explained, Ran, Refusal, Tidied,
+    Type, BLOCK, NODES, NO_ENTRY, RECORD, TIME_ENTRY,
 };
 
 /// A record of a table: kind, type, a, b, c and word.
@@ -186,7 +186,80 @@ fn explain_refused_writes_nothing() {
 }
 
 #[test]
+fn a_damaged_state_brought_back() {
+    let program = block(&A);
+    let good = state_of(&program, 100, int(3));
+    let (mut state, mut list) = (good.clone(), [9; 2]);
+    assert_eq!(mend(&program, &mut state, &mut list), Ok(0));
+    assert_eq!((&state, list), (&good, [9; 2]));
+    // A bool where an int is due: reading A counts from 0 again, and keeps its time.
+    state[8] = 2;
+    assert_eq!(mend(&program, &mut state, &mut list), Ok(1));
+    assert_eq!((&state, list), (&state_of(&program, 100, int(0)), [0, 9]));
+    let mut state = state_of(&program, 1 << 31, [255; 8]);
+    assert_eq!(mend(&program, &mut state, &mut list), Ok(2));
+    assert_eq!((&state, list), (&state_of(&program, u32::MAX, int(0)), [TIME_ENTRY, 0]));
+}
+
+#[test]
+fn mend_refused_writes_nothing() {
+    let program = block(&A);
+    let bad = state_of(&program, 1 << 31, [255; 8]);
+    let (mut state, mut list) = (bad.clone(), [9; 3]);
+    assert_eq!(mend(&[], &mut state, &mut list), Err(refusal(Code::ProgramLength, 0)));
+    let short = mend(&program, &mut state[..15], &mut list);
+    assert_eq!(short, Err(refusal(Code::StateFault, 0)));
+    for entries in [0, 1, 3] {
+        let answer = mend(&program, &mut state, &mut list[..entries]);
+        assert_eq!(answer, Err(refusal(Code::ListLength, 0)));
+    }
+    assert_eq!((&state, list), (&bad, [9; 3]));
+    state[4] ^= 1;
+    assert_eq!(mend(&program, &mut state, &mut list), Err(refusal(Code::OtherProgram, 0)));
+}
+
+/// let y = time in reading A, and its nodes' pairing with reading A's.
+fn old_a() -> ([u8; BLOCK], [u16; 8]) {
+    let mut nodes = vec![(2, 0, 0, 0, 0, 0)];
+    nodes.extend(A.map(|(kind, ty, a, b, c, word)| match kind {
+        16 | 3 | 4 => (kind, ty, a + 1, b, c, word),
+        18 | 5 => (kind, ty, a + 1, b + 1, c, word),
+        _ => (kind, ty, a, b, c, word),
+    }));
+    nodes.push((5, 3, 0, 8, 0, 0));
+    (block(&nodes), [1, 2, 3, 4, 5, 6, 7, 8])
+}
+
+#[test]
+fn reading_a_tidied_and_paired() {
+    let ((old, pairing), new) = (old_a(), block(&A));
+    let mut room = [9; BLOCK + 3];
+    assert_eq!(tidy(&old, &mut room), Ok(Tidied { nodes: 8, length: 512 }));
+    assert_eq!((&room[..BLOCK], &room[BLOCK..]), (&new[..], &[9; 3][..]));
+    assert_eq!(paired(&old, &new, &pairing), Ok(()));
+    assert_eq!(paired(&new, &new, &[0, 1, 2, 3, 4, 5, 6, 7]), Ok(()));
+    let mut bent = pairing;
+    bent.swap(0, 5);
+    // The variables are alike; wrong is the sum whose first operand is not reached.
+    assert_eq!(paired(&old, &new, &bent), Err(refusal(Code::PairingEntry, 2)));
+    assert_eq!(paired(&old, &new, &pairing[1..]), Err(refusal(Code::PairingLength, 0)));
+    assert_eq!(paired(&old, &block(&C), &[]), Err(refusal(Code::NewNotReady, 4)));
+    assert_eq!(paired(&block(&C), &block(&C), &[]), Err(refusal(Code::NotReady, 4)));
+}
+
+#[test]
+fn tidy_refused_writes_nothing() {
+    let (old, _) = old_a();
+    let mut room = [9; BLOCK];
+    assert_eq!(tidy(&old, &mut room[1..]), Err(refusal(Code::NewLength, 0)));
+    assert_eq!(tidy(&block(&C), &mut room), Err(refusal(Code::NotReady, 4)));
+    assert_eq!(room, [9; BLOCK]);
+}
+
+#[test]
 fn a_refusal_says_its_name() {
+    let text = paired(&block(&A), &[], &[]).unwrap_err().to_string();
+    assert_eq!(text, "refused: code 33 (NewProgramLength) at 0: of the new program: the program is empty, longer than 24 blocks or not whole blocks of 512 bytes");
     let text = check(&[]).unwrap_err().to_string();
     assert_eq!(text, "refused: code 1 (ProgramLength) at 0: the program is empty, longer than 24 blocks or not whole blocks of 512 bytes");
 }
@@ -210,7 +283,10 @@ fn a_state_knows_its_program() {
     let restored = run(&by_twos, &mut state, &record(200, None), &mut output);
     assert_eq!(restored, Err(refusal(Code::OtherProgram, 0)));
     assert_eq!((state, output), (kept, room));
-    assert_eq!(restored.unwrap_err().to_string(), "refused: code 15 (OtherProgram) at 0: the state is that of another program");
+    assert_eq!(
+        restored.unwrap_err().to_string(),
+        "refused: code 15 (OtherProgram) at 0: the state is that of another program"
+    );
     // Equal sums are not told apart.
     assert_eq!(by_ones[508..], by_sixty_twos[508..]);
     let ran = run(&by_sixty_twos, &mut state, &record(200, None), &mut output);

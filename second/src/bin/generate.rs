@@ -2,10 +2,12 @@
 
 use second::generate;
 use second::random::Random;
+use second::typist;
 use std::io::{self, stdout, BufWriter, Write};
 use std::path::Path;
 
-const USAGE: &str = "generate requests|checks|long|chains SEED COUNT, or programs SEED COUNT DIR";
+const USAGE: &str =
+    "generate requests|checks|long|chains|mends|tidies|pairs|texts|prints SEED COUNT, or programs SEED COUNT DIR";
 
 fn main() {
     let words: Vec<String> = std::env::args().skip(1).collect();
@@ -19,6 +21,11 @@ fn main() {
         ("checks", _) => stream(seed, count, generate::check_request),
         ("long", _) => stream(seed, count, generate::long_request),
         ("chains", _) => stream(seed, count, generate::chain_request),
+        ("mends", _) => stream(seed, count, generate::mend_request),
+        ("tidies", _) => stream(seed, count, generate::tidy_request),
+        ("pairs", _) => stream(seed, count, generate::pair_request),
+        ("texts", _) => stream(seed, count, typist::read_request),
+        ("prints", _) => stream(seed, count, typist::print_request),
         ("programs", Some(folder)) => files(seed, count, Path::new(folder)),
         _ => Err(io::Error::other(USAGE)),
     };

@@ -1,8 +1,8 @@
 -- `wire::header::header` meets its contract: by cases. Assumes nothing.
-use Prim.Native.Nat.{zero-le}
-use mathlib.Core.Path.{sym, ap, _∙_, refl}
-use borrow.Author.Needs.{needs}
 use Rattle.wire.specs.Lines.{headerLine}
+use mathlib.Core.Path.{sym, ap, _∙_, refl}
+use Prim.Native.Nat.{zero-le}
+use borrow.Author.Needs.{needs}
 use Rattle.wire.proofs.header.header.Statement.{statement}
 use Rattle.wire.proofs.header.header.Tie as tie
 
@@ -36,6 +36,36 @@ mul-chain-header c = search needs
 chain-header-requires : tie.Need-chain-header-requires
 chain-header-requires c κs = search needs
 
+enum-known-request-5 : tie.Need-enum-known-request-5
+enum-known-request-5 c = search needs
+
+cast-mend-header : tie.Need-cast-mend-header
+cast-mend-header c = search needs
+
+mul-mend-header : tie.Need-mul-mend-header
+mul-mend-header c = search needs
+
+mend-header-requires : tie.Need-mend-header-requires
+mend-header-requires c κs = search needs
+
+enum-known-request-6 : tie.Need-enum-known-request-6
+enum-known-request-6 c = search needs
+
+tidy-header-requires : tie.Need-tidy-header-requires
+tidy-header-requires c κs = search needs
+
+enum-known-request-7 : tie.Need-enum-known-request-7
+enum-known-request-7 c = search needs
+
+cast-pair-header : tie.Need-cast-pair-header
+cast-pair-header c = search needs
+
+mul-pair-header : tie.Need-mul-pair-header
+mul-pair-header c = search needs
+
+pair-header-requires : tie.Need-pair-header-requires
+pair-header-requires c κs = search needs
+
 enum-told : tie.Need-enum-told
 enum-told c = search needs
 
@@ -57,7 +87,19 @@ returns-4 c = let e = c .chain-header .ensures in (e .0, e .1 ∙ sym (ap header
 
 returns-5 : tie.Need-returns-5
 unfolding headerLine
-returns-5 c = ((zero-le, refl), sym (ap headerLine (c .enum-told .given .1)))
+returns-5 c = let e = c .mend-header .ensures in (e .0, e .1 ∙ sym (ap headerLine (c .before .before .before .request5 .given .1)))
+
+returns-6 : tie.Need-returns-6
+unfolding headerLine
+returns-6 c = let e = c .tidy-header .ensures in (e .0, e .1 ∙ sym (ap headerLine (c .before .before .before .request6 .given .1)))
+
+returns-7 : tie.Need-returns-7
+unfolding headerLine
+returns-7 c = let e = c .pair-header .ensures in (e .0, e .1 ∙ sym (ap headerLine (c .before .before .before .request7 .given .1)))
+
+returns-8 : tie.Need-returns-8
+unfolding headerLine
+returns-8 c = ((zero-le, refl), sym (ap headerLine (c .enum-told .given .1)))
 
 pub header-spec : {M : Type 1} → statement M
 header-spec =
@@ -73,9 +115,22 @@ header-spec =
     cast-chain-header
     mul-chain-header
     chain-header-requires
+    enum-known-request-5
+    cast-mend-header
+    mul-mend-header
+    mend-header-requires
+    enum-known-request-6
+    tidy-header-requires
+    enum-known-request-7
+    cast-pair-header
+    mul-pair-header
+    pair-header-requires
     enum-told
     returns
     returns-2
     returns-3
     returns-4
-    returns-5)
+    returns-5
+    returns-6
+    returns-7
+    returns-8)

@@ -42,14 +42,16 @@ static void hex(const uint8_t *room, size_t length)
 /* The first line of an answer; of an accepted one as the call's name says. */
 static void first_line(char call, couplerfinch_answer a)
 {
-    if (a.code)
+    if (a.code && call == 'r')
+        printf("REFUSED %u %u %u %u\n", a.code, a.place, a.work, a.wrapped);
+    else if (a.code)
         printf("REFUSED %u %u %u\n", a.code, a.place, a.work);
     else if (call == 'c')
         printf("OK %u %u %u %u\n", a.nodes, a.cells, a.bound, a.type);
     else if (call == 't')
         printf("OK\n");
     else
-        printf("OK %u %u\n", a.steps, a.work);
+        printf("OK %u %u %u\n", a.steps, a.work, a.wrapped);
 }
 
 /* One request: its name and the lengths of program, state, records and output. */

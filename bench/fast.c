@@ -11,7 +11,8 @@ struct run {
     const uint8_t *record;
     uint64_t *cells;
     uint64_t caught;
-    uint32_t work;
+    uint32_t work, first; /* the first step in which a number wrapped */
+    int wrapped;
     uint64_t bound[COUPLERFINCH_NODES];
 };
 
@@ -83,8 +84,9 @@ static uint64_t channel(const uint8_t *record, unsigned a)
     return (uint64_t)(MAYBE + INT) | (uint64_t)(record[20] >> (a - 4) & 1) << 8 | (uint64_t)get32(record + 24 + 4 * (a - 4)) << 32;
 }
 
-static uint64_t divide(int32_t x, int32_t y)
+static uint64_t divide(struct run *r, int32_t x, int32_t y)
 {
+    r->wrapped |= x == INT32_MIN && y == -1;
     if (y == 0)
         return MAYBE + INT;
     return VALUE(MAYBE + INT, y == -1 ? 0u - (uint32_t)x : (uint32_t)(x / y - (x % y != 0 && (x % y < 0) != (y < 0))));
@@ -105,16 +107,26 @@ static inline uint64_t operand(struct run *r, unsigned i)
 static uint64_t expression(struct run *r, unsigned i)
 {
     uint64_t x;
+    int32_t word;
     for (;;) {
         const struct code *n = &r->code[i];
         r->work++;
         switch (n->kind) {
         case VARIABLE: return r->bound[n->a];
         case CONSTANT: return n->value;
-        case ADD: x = operand(r, n->a); return VALUE(INT, WORD(x) + WORD(operand(r, n->b)));
-        case SUBTRACT: x = operand(r, n->a); return VALUE(INT, WORD(x) - WORD(operand(r, n->b)));
-        case MULTIPLY: x = operand(r, n->a); return VALUE(INT, WORD(x) * WORD(operand(r, n->b)));
-        case DIVIDE: x = operand(r, n->a); return divide((int32_t)WORD(x), (int32_t)WORD(operand(r, n->b)));
+        case ADD:
+            x = operand(r, n->a);
+            r->wrapped |= __builtin_add_overflow((int32_t)WORD(x), (int32_t)WORD(operand(r, n->b)), &word);
+            return VALUE(INT, word);
+        case SUBTRACT:
+            x = operand(r, n->a);
+            r->wrapped |= __builtin_sub_overflow((int32_t)WORD(x), (int32_t)WORD(operand(r, n->b)), &word);
+            return VALUE(INT, word);
+        case MULTIPLY:
+            x = operand(r, n->a);
+            r->wrapped |= __builtin_mul_overflow((int32_t)WORD(x), (int32_t)WORD(operand(r, n->b)), &word);
+            return VALUE(INT, word);
+        case DIVIDE: x = operand(r, n->a); return divide(r, (int32_t)WORD(x), (int32_t)WORD(operand(r, n->b)));
         case LESS: x = operand(r, n->a); return VALUE(BOOL, (int32_t)WORD(x) < (int32_t)WORD(operand(r, n->b)));
         case EQUAL: x = operand(r, n->a); return VALUE(BOOL, WORD(x) == WORD(operand(r, n->b)));
         case NOT: return operand(r, n->a) ^ (uint64_t)1 << 32;
@@ -284,9 +296,18 @@ static uint32_t records_run(struct run *r, const struct program *p, uint32_t *ti
         uint64_t v = evaluate(r, p->count - 1);
         memcpy(output + COUPLERFINCH_VALUE * *done, &v, 8);
         update(r, p->count - 1);
+        if (r->wrapped && r->first == COUPLERFINCH_NO_STEP)
+            r->first = *done;
         *time = now;
     }
     return 0;
+}
+
+/* A run that is refused before its first step. */
+static uint32_t refuse_run(couplerfinch_answer *answer, uint32_t code, uint32_t place)
+{
+    *answer = (couplerfinch_answer){.code = code, .place = place, .wrapped = COUPLERFINCH_NO_STEP};
+    return code;
 }
 
 uint32_t fast_run(const uint8_t *program, size_t program_length, uint8_t *state, size_t state_length, const uint8_t *records,
@@ -296,18 +317,20 @@ uint32_t fast_run(const uint8_t *program, size_t program_length, uint8_t *state,
     struct run r;
     uint64_t cells[COUPLERFINCH_NODES];
     if (fast_decode(&p, program, program_length, answer))
-        return answer->code;
+        return refuse_run(answer, answer->code, answer->place);
     uint32_t code = lent_fault(&p, checks_of(program, program_length), cells, state, state_length, records_length, output_length);
     if (code)
-        return fast_refuse(answer, code, 0);
+        return refuse_run(answer, code, 0);
     r.code = p.code;
     r.held = p.held;
     r.cells = cells;
     r.work = 0;
+    r.wrapped = 0;
+    r.first = COUPLERFINCH_NO_STEP;
     uint32_t time = get32(state), done;
     code = records_run(&r, &p, &time, records, (uint32_t)(records_length / COUPLERFINCH_RECORD), output, &done);
     put32(state, time);
     memcpy(state + 8, cells, 8 * p.cells);
-    *answer = (couplerfinch_answer){.code = code, .place = code ? done : 0, .steps = done, .work = r.work};
+    *answer = (couplerfinch_answer){.code = code, .place = code ? done : 0, .steps = done, .work = r.work, .wrapped = r.first};
     return code;
 }

@@ -15,6 +15,7 @@ struct run {
     uint8_t *state;
     const uint8_t *record;
     uint32_t work;
+    int wrapped; /* whether a number wrapped so far */
     struct value caught;
     struct value bound[COUPLERFINCH_NODES];
 };
@@ -103,20 +104,28 @@ static int well(const struct tree *t, uint8_t *state, unsigned i, int current)
 static struct value whole(uint32_t word) { return (struct value){INT, 1, word}; }
 static struct value truth(int yes) { return (struct value){BOOL, 1, yes ? 1 : 0}; }
 
-static struct value divide(int32_t x, int32_t y)
+/* A sum, difference or product, cut to 32 bits. */
+static struct value cut(struct run *r, int64_t exact)
 {
+    r->wrapped |= exact != (int32_t)exact;
+    return whole((uint32_t)exact);
+}
+
+static struct value divide(struct run *r, int32_t x, int32_t y)
+{
+    r->wrapped |= x == INT32_MIN && y == -1;
     if (y == 0)
         return (struct value){MAYBE + INT, 0, 0};
     return (struct value){MAYBE + INT, 1, y == -1 ? 0u - (uint32_t)x : (uint32_t)(x / y - (x % y != 0 && (x % y < 0) != (y < 0)))};
 }
 
-static struct value operate(unsigned kind, uint32_t x, uint32_t y)
+static struct value operate(struct run *r, unsigned kind, uint32_t x, uint32_t y)
 {
     switch (kind) {
-    case ADD: return whole(x + y);
-    case SUBTRACT: return whole(x - y);
-    case MULTIPLY: return whole(x * y);
-    case DIVIDE: return divide((int32_t)x, (int32_t)y);
+    case ADD: return cut(r, (int64_t)(int32_t)x + (int32_t)y);
+    case SUBTRACT: return cut(r, (int64_t)(int32_t)x - (int32_t)y);
+    case MULTIPLY: return cut(r, (int64_t)(int32_t)x * (int32_t)y);
+    case DIVIDE: return divide(r, (int32_t)x, (int32_t)y);
     case LESS: return truth((int32_t)x < (int32_t)y);
     case EQUAL: return truth(x == y);
     case AND: return truth(x & y);
@@ -147,7 +156,7 @@ static struct value expression(struct run *r, unsigned i)
         return expression(r, n.c);
     default:
         v = expression(r, n.a);
-        return operate(n.kind, v.word, expression(r, n.b).word);
+        return operate(r, n.kind, v.word, expression(r, n.b).word);
     }
 }
 
@@ -312,25 +321,35 @@ static uint32_t one_record(struct run *r, uint8_t *output)
     return 0;
 }
 
+/* A run that is refused before its first step. */
+static uint32_t refuse_run(couplerfinch_answer *answer, uint32_t code, uint32_t place)
+{
+    *answer = (couplerfinch_answer){.code = code, .place = place, .wrapped = COUPLERFINCH_NO_STEP};
+    return code;
+}
+
 uint32_t straight_run(const uint8_t *program, size_t program_length, uint8_t *state, size_t state_length, const uint8_t *records,
                       size_t records_length, uint8_t *output, size_t output_length, couplerfinch_answer *answer)
 {
     struct tree t;
     struct run r;
     if (straight_read(&t, program, program_length, answer))
-        return answer->code;
+        return refuse_run(answer, answer->code, answer->place);
     uint32_t code = lent_fault(&t, checks_of(program, program_length), state, state_length, records_length, output_length);
     if (code)
-        return straight_refuse(answer, code, 0);
+        return refuse_run(answer, code, 0);
     r.tree = &t;
     r.state = state;
     r.work = 0;
-    uint32_t done = 0;
+    r.wrapped = 0;
+    uint32_t done = 0, first = COUPLERFINCH_NO_STEP;
     for (; done < records_length / COUPLERFINCH_RECORD && !code; done += !code) {
         r.record = records + COUPLERFINCH_RECORD * done;
         code = one_record(&r, output + COUPLERFINCH_VALUE * done);
+        if (r.wrapped && first == COUPLERFINCH_NO_STEP)
+            first = done;
     }
-    *answer = (couplerfinch_answer){.code = code, .place = code ? done : 0, .steps = done, .work = r.work};
+    *answer = (couplerfinch_answer){.code = code, .place = code ? done : 0, .steps = done, .work = r.work, .wrapped = first};
     return code;
 }
 
@@ -342,6 +361,7 @@ uint32_t straight_next(const struct tree *t, uint8_t *state, const uint8_t *reco
     r.state = state;
     r.record = record;
     r.work = 0;
+    r.wrapped = 0;
     uint32_t code = one_record(&r, output);
     *answer = (couplerfinch_answer){.code = code, .steps = !code, .work = r.work};
     return code;

@@ -48,6 +48,9 @@ extern "C" {
 /* An entry of explain's room behind the chain. */
 #define COUPLERFINCH_NO_ENTRY 65535u
 
+/* What a run answers in wrapped where in none of its finished steps a number wrapped. */
+#define COUPLERFINCH_NO_STEP 65535u
+
 /* The length of a state of so many cells, and of the longest one. A state is the last time, the sum of its program's block checks, 4 bytes
  * each, and the cells: by the sum a run knows its program's states (programs of equal sums are not told apart). */
 #define COUPLERFINCH_STATE(cells) (8u + 8u * (size_t)(cells))
@@ -133,7 +136,7 @@ typedef struct couplerfinch_answer {
     uint32_t cells;   /* check: how many cells its state has */
     uint32_t bound;   /* check: the most rules that a step uses */
     uint32_t type;    /* check: the type of the value of a step */
-    uint32_t wrapped; /* no call gives it yet */
+    uint32_t wrapped; /* run: the first step, from 0, in which a number wrapped, of a refusal too; COUPLERFINCH_NO_STEP if none */
     uint32_t length;  /* tidy: the length of the new program in bytes */
     uint32_t entries; /* explain: how many entries the chain has; mend: how many were listed */
     uint32_t node;    /* explain: the let */
@@ -147,7 +150,9 @@ uint32_t couplerfinch_start(const uint8_t *program, size_t program_length, uint8
                             couplerfinch_answer *answer);
 
 /* Makes a step for each record, one or many: the values go to the output, 8 bytes each, and the state goes on; the program is checked
- * once. A list of records may be cut anywhere and its parts run one after the other: the same values, state and summed work. */
+ * once. A list of records may be cut anywhere and its parts run one after the other: the same values, state and summed work. A number
+ * wraps where a sum, a difference or a product that the step evaluates, for its value or for its state, leaves the 32 bits; of quotients,
+ * where the lowest number is divided by -1. */
 uint32_t couplerfinch_run(const uint8_t *program, size_t program_length, uint8_t *state, size_t state_length, const uint8_t *records,
                           size_t records_length, uint8_t *output, size_t output_length, couplerfinch_answer *answer);
 

@@ -272,8 +272,10 @@ static void hold_answer(enum call of, uint32_t code, const couplerfinch_answer *
         fail("a place, steps or work where there is none");
     if ((!checked && (a->cells != 0 || a->bound != 0 || a->type != 0)) || (!checked && !tidied && a->nodes != 0))
         fail("nodes, cells, bound or type where there is none");
-    if ((!explained && a->node != 0) || (!explained && !mended && a->entries != 0) || (!tidied && a->length != 0) || a->wrapped != 0)
+    if ((!explained && a->node != 0) || (!explained && !mended && a->entries != 0) || (!tidied && a->length != 0) || (of != RUN && a->wrapped != 0))
         fail("wrapped, length, entries or a node where there is none");
+    if (of == RUN && a->wrapped != COUPLERFINCH_NO_STEP && a->wrapped >= a->steps)
+        fail("a wrapped step that was not done");
     if ((code == COUPLERFINCH_INPUT_FAULT || code == COUPLERFINCH_TIME_BACK) && a->steps != a->place)
         fail("a record refused is not the one after the steps done");
 }
@@ -331,7 +333,9 @@ static void print_hex(struct room room)
 /* Prints the answer's numbers and the memory that the call may write. */
 static void print_answer(const struct request *request, const couplerfinch_answer *a)
 {
-    if (a->code != COUPLERFINCH_DONE)
+    if (a->code != COUPLERFINCH_DONE && request->call == RUN)
+        printf("REFUSED %" PRIu32 " %" PRIu32 " %" PRIu32 " %" PRIu32 "\n", a->code, a->place, a->work, a->wrapped);
+    else if (a->code != COUPLERFINCH_DONE)
         printf("REFUSED %" PRIu32 " %" PRIu32 " %" PRIu32 "\n", a->code, a->place, a->work);
     else if (request->call == CHECK)
         printf("OK %" PRIu32 " %" PRIu32 " %" PRIu32 " %" PRIu32 "\n", a->nodes, a->cells, a->bound, a->type);
@@ -344,7 +348,7 @@ static void print_answer(const struct request *request, const couplerfinch_answe
     else if (request->call == TIDY)
         printf("OK %" PRIu32 " %" PRIu32 "\n", a->nodes, a->length);
     else
-        printf("OK %" PRIu32 " %" PRIu32 "\n", a->steps, a->work);
+        printf("OK %" PRIu32 " %" PRIu32 " %" PRIu32 "\n", a->steps, a->work, a->wrapped);
     for (size_t i = 0; i < request->count; i++) {
         if (calls[request->call].written[i])
             print_hex(request->rooms[i]);

@@ -1,5 +1,6 @@
 /* Runs a crossing through the library: reads a file of blocks and then records, checks the program, starts its state and makes a
- * step for each record. A record that is refused changes nothing, so the next one is tried from the same state.
+ * step for each record, and says where a number wrapped in it. A record that is refused changes nothing, so the next one is tried from the
+ * same state.
  *
  *   cc -std=c99 -Iinclude host/c/example.c target/staticlib/libcouplerfinch.a -o example && ./example FILE
  */
@@ -19,13 +20,13 @@ static void print_value(const uint8_t *value)
     uint32_t word = number(value + 4);
     const char *some = value[0] > 4 ? "some " : "";
     if (!value[1])
-        printf("none\n");
+        printf("none");
     else if (value[0] % 4 == 1)
-        printf("%sunit\n", some);
+        printf("%sunit", some);
     else if (value[0] % 4 == 2)
-        printf("%s%s\n", some, word ? "true" : "false");
+        printf("%s%s", some, word ? "true" : "false");
     else
-        printf("%s%" PRId64 "\n", some, (int64_t)word - (word >> 31 ? INT64_C(4294967296) : 0));
+        printf("%s%" PRId64, some, (int64_t)word - (word >> 31 ? INT64_C(4294967296) : 0));
 }
 
 static int refused(const couplerfinch_answer *answer)
@@ -67,7 +68,8 @@ int main(int argc, char **argv)
         if (code == COUPLERFINCH_DONE)
             print_value(value);
         else
-            printf("refused\n");
+            printf("refused");
+        printf(answer.wrapped == COUPLERFINCH_NO_STEP ? "\n" : "  a number wrapped\n");
     }
     fclose(file);
     return 0;

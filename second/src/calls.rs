@@ -24,6 +24,8 @@ pub struct Accepted {
 pub struct Done {
     pub steps: usize,
     pub work: u64,
+    /// The first step, from 0, in which a number wrapped; 65535 if there was none.
+    pub wrapped: u32,
 }
 
 /// Checks a program: codes 1 to 8.
@@ -82,7 +84,7 @@ pub struct Walk<'a> {
 
 impl Walk<'_> {
     pub fn new(program: &Program, state: State) -> Walk<'_> {
-        Walk { program, state, done: Done { steps: 0, work: 0 } }
+        Walk { program, state, done: Done { steps: 0, work: 0, wrapped: refusal::NO_STEP } }
     }
 
     /// Works all records in turn, writing each output as its step is done.
@@ -96,14 +98,16 @@ impl Walk<'_> {
 
     /// Makes the next step: tries 12 and 13, then answers the value and the step's work.
     pub fn next(&mut self, record: &[u8]) -> Result<(Value, u64), Refusal> {
-        let Done { steps, work } = self.done;
-        let refused = |code| Refusal::after(code, steps, work);
+        let Done { steps, work, wrapped } = self.done;
+        let refused = |code| Refusal::after(code, steps, work, wrapped);
         let record = Record::read(record).ok_or(refused(refusal::INPUT))?;
         if self.state.time.is_some_and(|last| record.time < last) {
             return Err(refused(refusal::BACKWARD));
         }
-        let (value, own) = one::make(self.program, &mut self.state, &record);
-        self.done = Done { steps: steps + 1, work: work + own };
-        Ok((value, own))
+        let made = one::make(self.program, &mut self.state, &record);
+        let first = made.wrapped && wrapped == refusal::NO_STEP;
+        let wrapped = if first { steps as u32 } else { wrapped };
+        self.done = Done { steps: steps + 1, work: work + made.work, wrapped };
+        Ok((made.value, made.work))
     }
 }

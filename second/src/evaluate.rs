@@ -34,6 +34,7 @@ impl Step<'_> {
             _ => {
                 let left = self.evaluate(node.a as usize);
                 let right = self.evaluate(node.b as usize);
+                self.wrapped |= leaves_range(node.kind, left.word, right.word);
                 binary(node.kind, left, right)
             }
         }
@@ -74,6 +75,22 @@ fn binary(kind: u8, left: Value, right: Value) -> Value {
         kinds::EQUAL => Value::bool(x == y),
         kinds::AND => Value::bool(left.truth() && right.truth()),
         _ => Value::bool(left.truth() || right.truth()),
+    }
+}
+
+/// Whether a sum, difference or product of ints is none of 32 bits; of quotients the lowest by -1 alone.
+fn leaves_range(kind: u8, x: i32, y: i32) -> bool {
+    exact(kind, i64::from(x), i64::from(y)).is_some_and(|result| i32::try_from(result).is_err())
+}
+
+/// What an operation of two ints is before it wraps, in 64 bits. By zero there is no quotient, and other kinds give no int.
+fn exact(kind: u8, x: i64, y: i64) -> Option<i64> {
+    match kind {
+        kinds::ADD => Some(x + y),
+        kinds::SUBTRACT => Some(x - y),
+        kinds::MULTIPLY => Some(x * y),
+        kinds::DIVIDE => x.checked_div(y),
+        _ => None,
     }
 }
 

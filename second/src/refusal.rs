@@ -30,22 +30,27 @@ pub const EDITIONS: u32 = 29;
 /// What is added to the codes 1 to 8 of a new program beside an old one.
 pub const OF_NEW: u32 = 32;
 
+/// The number of the first step in which a number wrapped, where there is none.
+pub const NO_STEP: u32 = 65535;
+
 /// A refused call.
 #[derive(Clone, Copy, Debug, PartialEq, Eq)]
 pub struct Refusal {
     pub code: u32,
     pub place: u32,
     pub work: u64,
+    /// Of a run: the first finished step in which a number wrapped.
+    pub wrapped: u32,
 }
 
 impl Refusal {
     /// A refusal before any step was done.
     pub fn at(code: u32, place: usize) -> Refusal {
-        Refusal { code, place: place as u32, work: 0 }
+        Refusal { code, place: place as u32, work: 0, wrapped: NO_STEP }
     }
 
     /// A refusal of a record after `steps` finished steps of `work` altogether.
-    pub fn after(code: u32, steps: usize, work: u64) -> Refusal {
-        Refusal { code, place: steps as u32, work }
+    pub fn after(code: u32, steps: usize, work: u64, wrapped: u32) -> Refusal {
+        Refusal { code, place: steps as u32, work, wrapped }
     }
 }

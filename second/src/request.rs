@@ -217,7 +217,8 @@ impl Answer {
             Answer::Check(answer) => (answer.map(checked), vec![]),
             Answer::Start(answer, state) => (answer.map(|()| vec![]), vec![state]),
             Answer::Steps(answer, state, output) => {
-                (answer.map(|it| vec![it.steps as u64, it.work]), vec![state, output])
+                let numbers = |it: Done| vec![it.steps as u64, it.work, it.wrapped as u64];
+                (answer.map(numbers), vec![state, output])
             }
             Answer::Chain(answer, room) => {
                 (answer.map(|it| vec![it.node as u64, it.entries as u64]), vec![room])
@@ -236,7 +237,11 @@ impl Answer {
         };
         let first = match numbers {
             Ok(numbers) => line("OK", &numbers),
-            Err(it) => line("REFUSED", &[it.code as u64, it.place as u64, it.work]),
+            Err(it) => {
+                let all = [it.code as u64, it.place as u64, it.work, it.wrapped as u64];
+                let count = if matches!(self, Answer::Steps(..)) { 4 } else { 3 };
+                line("REFUSED", &all[..count])
+            }
         };
         rooms.into_iter().fold(first, |text, room| text + &hex(room) + "\n")
     }

@@ -15,18 +15,29 @@ pub struct Step<'a> {
     /// before any use of its variable, so one place for each is enough.
     pub bound: Vec<Value>,
     pub work: u64,
+    /// Whether an operation that was evaluated left the range of its numbers.
+    pub wrapped: bool,
 }
 
-/// Makes one step and answers the root's value and the work.
-pub fn make(program: &Program, state: &mut State, record: &Record) -> (Value, u64) {
+/// What a step made: the root's value, the work, and whether a number wrapped.
+#[derive(Clone, Copy, Debug, PartialEq, Eq)]
+pub struct Made {
+    pub value: Value,
+    pub work: u64,
+    pub wrapped: bool,
+}
+
+/// Makes one step.
+pub fn make(program: &Program, state: &mut State, record: &Record) -> Made {
     let bound = vec![Value::default(); program.tree.nodes.len()];
-    let mut step = Step { program, record, cells: &mut state.cells, bound, work: 0 };
+    let cells = &mut state.cells;
+    let mut step = Step { program, record, cells, bound, work: 0, wrapped: false };
     let root = program.tree.root();
-    let output = step.evaluate(root);
+    let value = step.evaluate(root);
     step.update(root);
-    let work = step.work;
+    let made = Made { value, work: step.work, wrapped: step.wrapped };
     state.time = Some(record.time);
-    (output, work)
+    made
 }
 
 impl Step<'_> {

@@ -216,6 +216,8 @@ type Bindings = BTreeMap<usize, Value>;
 struct Rules<'a> {
     program: &'a Program,
     record: &'a Record,
+    /// Whether an operation that was evaluated left the range.
+    wrapped: std::cell::Cell<bool>,
 }
 
 type Cells = BTreeMap<usize, Cell>;
@@ -277,7 +279,11 @@ impl Rules<'_> {
             }
             kinds::NOT => (Value::bool(of(a).0.word == 0), of(a).1),
             kinds::JUST => (Value { ty: of(a).0.ty + 4, ..of(a).0 }, of(a).1),
-            _ => (operate(node.kind, of(a).0.word as i64, of(b).0.word as i64), of(a).1 + of(b).1),
+            _ => {
+                let (x, y) = (of(a).0.word as i64, of(b).0.word as i64);
+                self.wrapped.set(self.wrapped.get() || out_of_range(node.kind, x, y));
+                (operate(node.kind, x, y), of(a).1 + of(b).1)
+            }
         };
         (value, work + 1)
     }
@@ -367,6 +373,18 @@ fn with(bound: &Bindings, binder: usize, value: Value) -> Bindings {
     bound
 }
 
+/// Whether the whole number that an operator gives is none of 32 bits.
+fn out_of_range(kind: u8, x: i64, y: i64) -> bool {
+    let whole = match kind {
+        kinds::ADD => x + y,
+        kinds::SUBTRACT => x - y,
+        kinds::MULTIPLY => x * y,
+        kinds::DIVIDE if y != 0 => x / y,
+        _ => 0,
+    };
+    !(-2_147_483_648..=2_147_483_647).contains(&whole)
+}
+
 /// Operators over whole numbers, cut to 32 bits afterwards.
 fn operate(kind: u8, x: i64, y: i64) -> Value {
     match kind {
@@ -386,6 +404,7 @@ fn operate(kind: u8, x: i64, y: i64) -> Value {
 #[test]
 fn steps_by_the_words() {
     let mut random = Random::new(23);
+    let mut marked = 0;
     for _ in 0..700 {
         let count = random.between(1, 60);
         let sample = generate::accepted(&mut random, count);
@@ -394,17 +413,22 @@ fn steps_by_the_words() {
         for record in generate::records(&mut random, 5, time).chunks(40) {
             let read = State::read(&program, &bytes).unwrap();
             let cells: Cells = program.cells.iter().copied().zip(read.cells).collect();
-            let rules = Rules { program: &program, record: &Record::read(record).unwrap() };
+            let read_record = Record::read(record).unwrap();
+            let wrapped = std::cell::Cell::new(false);
+            let rules = Rules { program: &program, record: &read_record, wrapped };
             let root = program.tree.root();
             let (value, first) = rules.evaluate(root, &cells, &Bindings::new());
             let (cells, second) = rules.update(root, &cells, &Bindings::new());
             let mut output = [0; 8];
             let done = second::run(&sample.file, &mut bytes, record, &mut output).unwrap();
             assert_eq!((output, done.work), (value.bytes(), first + second));
+            assert_eq!(done.wrapped, if rules.wrapped.get() { 0 } else { 65535 });
+            marked += usize::from(done.wrapped == 0);
             let after = State::read(&program, &bytes).unwrap();
             assert_eq!(after.cells, cells.into_values().collect::<Vec<_>>());
         }
     }
+    assert!(marked > 100, "{marked}");
 }
 
 /// The bound by recursion on the words: the evaluation's and the update's.

@@ -60,16 +60,16 @@ fn calls_answers_one_request() {
     assert_eq!(ask("start 512 0", &[&program]), "REFUSED 9 0 0\n\n");
     let record = assemble::records("258").expect("a record");
     let one = ask("run 512 8 40 8", &[&program, &start, &record, &[9; 8]]);
-    assert_eq!(one, format!("OK 1 2\n02010000{sum_hex}\n0301000002010000\n"));
+    assert_eq!(one, format!("OK 1 2 65535\n02010000{sum_hex}\n0301000002010000\n"));
     let run = ask("run 512 8 0 0", &[&program, &start]);
-    assert_eq!(run, format!("OK 0 0\nffffffff{sum_hex}\n\n"));
+    assert_eq!(run, format!("OK 0 0 65535\nffffffff{sum_hex}\n\n"));
     let gone = ask("step 512 8 40 8", &[&program, &start, &record, &[9; 8]]);
     assert_eq!(gone, "NO REQUEST\n");
     let bad = [record.clone(), vec![255; 40]].concat();
     let run = ask("run 512 8 80 16", &[&program, &start, &bad, &[9; 16]]);
     assert_eq!(
         run,
-        format!("REFUSED 12 1 2\n02010000{sum_hex}\n03010000020100000909090909090909\n")
+        format!("REFUSED 12 1 2 65535\n02010000{sum_hex}\n03010000020100000909090909090909\n")
     );
 }
 

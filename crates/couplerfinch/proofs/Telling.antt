@@ -34,19 +34,25 @@ coded (TimeBack j) = refl
 coded OtherProgram = refl
 
 -- The numbers of a refusal, from those that its code and place were found to be.
-pub refused-at : {res code place : ℕ} {exit : List ℕ} (c p work : ℕ) (done : List ℕ → List ℕ) → eqb c 0 ≡ false → code ≡ c → place ≡ p
-    → (res ≡ code) × (exit ≡ refusedRoom (code ∷ place ∷ work ∷ [])) → (res ≡ c) × (exit ≡ laidOut done (c ∷ p ∷ work ∷ []))
-refused-at {place = place} c p work done some ec ep (n, e) =
-    let ns : List ℕ = c ∷ p ∷ work ∷ [] in
-    (n ∙ ec, e ∙ ap (λ (x : ℕ). refusedRoom (x ∷ place ∷ work ∷ [])) ec ∙ ap (λ (x : ℕ). refusedRoom (c ∷ x ∷ work ∷ [])) ep ∙ sym (ap (λ (b : Bool). if b then done ns else refusedRoom ns) some))
+pub refused-at : {res code place : ℕ} {exit : List ℕ} (c p : ℕ) (rest : List ℕ) (done : List ℕ → List ℕ) → eqb c 0 ≡ false → code ≡ c → place ≡ p
+    → (res ≡ code) × (exit ≡ refusedRoom (code ∷ place ∷ rest)) → (res ≡ c) × (exit ≡ laidOut done (c ∷ p ∷ rest))
+refused-at {place = place} c p rest done some ec ep (n, e) =
+    let ns : List ℕ = c ∷ p ∷ rest in
+    (n ∙ ec, e ∙ ap (λ (x : ℕ). refusedRoom (x ∷ place ∷ rest)) ec ∙ ap (λ (x : ℕ). refusedRoom (c ∷ x ∷ rest)) ep ∙ sym (ap (λ (b : Bool). if b then done ns else refusedRoom ns) some))
 
 pub refused-room : {res code place : ℕ} {exit : List ℕ} (r : Refusal) (work : ℕ) (done : List ℕ → List ℕ) → code ≡ codeOf r → place ≡ placeOf r
     → (res ≡ code) × (exit ≡ refusedRoom (code ∷ place ∷ work ∷ []))
     → (res ≡ codeOf r) × (exit ≡ laidOut done (codeOf r ∷ placeOf r ∷ work ∷ []))
-refused-room r work done = refused-at (codeOf r) (placeOf r) work done (coded r)
+refused-room r work done = refused-at (codeOf r) (placeOf r) (work ∷ []) done (coded r)
+
+-- Of a run: with the first wrapped step.
+pub stopped-room : {res code place : ℕ} {exit : List ℕ} (r : Refusal) (work wrapped : ℕ) (done : List ℕ → List ℕ) → code ≡ codeOf r → place ≡ placeOf r
+    → (res ≡ code) × (exit ≡ refusedRoom (code ∷ place ∷ work ∷ wrapped ∷ []))
+    → (res ≡ codeOf r) × (exit ≡ laidOut done (codeOf r ∷ placeOf r ∷ work ∷ wrapped ∷ []))
+stopped-room r work wrapped done = refused-at (codeOf r) (placeOf r) (work ∷ wrapped ∷ []) done (coded r)
 
 -- The same of a new program's, with 32 added.
 pub new-refused-room : {res code place : ℕ} {exit : List ℕ} (r : Refusal) (done : List ℕ → List ℕ) → code ≡ codeOf r → place ≡ placeOf r
     → (res ≡ 32 + code) × (exit ≡ refusedRoom ((32 + code) ∷ place ∷ 0 ∷ []))
     → (res ≡ 32 + codeOf r) × (exit ≡ laidOut done ((32 + codeOf r) ∷ placeOf r ∷ 0 ∷ []))
-new-refused-room r done e p h = refused-at (32 + codeOf r) (placeOf r) 0 done (ne-eqb (32 + codeOf r) 0 (λ z. omega arith)) (ap (λ (x : ℕ). 32 + x) e) p h
+new-refused-room r done e p h = refused-at (32 + codeOf r) (placeOf r) (0 ∷ []) done (ne-eqb (32 + codeOf r) 0 (λ z. omega arith)) (ap (λ (x : ℕ). 32 + x) e) p h

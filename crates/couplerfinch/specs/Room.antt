@@ -36,15 +36,15 @@ twelve code place steps work nodes cells bound type wrapped long entries node =
 abbrev pub stepsDone : ℕ → ℕ → ℕ
 stepsDone code place = if eqb code 12 or eqb code 13 then place else 0
 
--- A refusal: its code, place and work, and the steps done.
+-- A refusal: its code, place and work, the steps done, and of a run the first of them in which a number wrapped.
 abbrev pub refusedRoom : List ℕ → List ℕ
-refusedRoom ns = twelve (code ns) (number ns 1) (stepsDone (code ns) (number ns 1)) (number ns 2) 0 0 0 0 0 0 0 0
+refusedRoom ns = twelve (code ns) (number ns 1) (stepsDone (code ns) (number ns 1)) (number ns 2) 0 0 0 0 (number ns 3) 0 0 0
 
 -- An answer's numbers, laid out in one way where the call went through and as a refusal's where not.
 abbrev pub laidOut : (List ℕ → List ℕ) → List ℕ → List ℕ
 laidOut done ns = if eqb (code ns) 0 then done ns else refusedRoom ns
 
--- What the numbers of a call that went through are: a check's nodes, cells, bound and type; a start has none; a run's steps and work; the let
+-- What the numbers of a call that went through are: a check's nodes, cells, bound and type; a start has none; a run's steps, work and first wrapped step; the let
 -- that explain names and how many entries its chain has; how many entries mend lists; the new table's nodes and length, of tidy; a pairing that
 -- is accepted has none.
 abbrev pub checkedDone : List ℕ → List ℕ
@@ -54,7 +54,7 @@ abbrev pub startedDone : List ℕ → List ℕ
 startedDone ns = twelve 0 0 0 0 0 0 0 0 0 0 0 0
 
 abbrev pub ranDone : List ℕ → List ℕ
-ranDone ns = twelve 0 0 (number ns 1) (number ns 2) 0 0 0 0 0 0 0 0
+ranDone ns = twelve 0 0 (number ns 1) (number ns 2) 0 0 0 0 (number ns 3) 0 0 0
 
 abbrev pub explainedDone : List ℕ → List ℕ
 explainedDone ns = twelve 0 0 0 0 0 0 0 0 0 0 (number ns 2) (number ns 1)

@@ -30,7 +30,16 @@ fn steps_done(code: u32, place: u32) -> u32
     0
 }
 
-// Writes the numbers of a refusal, and answers its code.
+// Writes the numbers of a run's refusal, and answers its code.
+fn put_stopped(code: u32, place: u32, work: u32, wrapped: u32, answer: &mut [u32; 12]) -> u32
+    ensures { λ r. ⌜ (r ≡ code) × (now (answer .exit) ≡ refusedRoom (code ∷ place ∷ work ∷ wrapped ∷ [])) ⌝ }
+{
+    let steps = steps_done(code, place);
+    *answer = [code, place, steps, work, 0, 0, 0, 0, wrapped, 0, 0, 0];
+    code
+}
+
+// Writes the numbers of another call's refusal, and answers its code.
 fn put_refused(code: u32, place: u32, work: u32, answer: &mut [u32; 12]) -> u32
     ensures { λ r. ⌜ (r ≡ code) × (now (answer .exit) ≡ refusedRoom (code ∷ place ∷ work ∷ [])) ⌝ }
 {
@@ -70,11 +79,17 @@ fn put_ran(found: Ran, answer: &mut [u32; 12]) -> u32
     ensures { λ r. ⌜ (r ≡ ranCode found) × (now (answer .exit) ≡ ranRoom found) ⌝ }
 {
     match found {
-        Ran::Finished(steps, work) => {
-            *answer = [0, 0, steps, work, 0, 0, 0, 0, 0, 0, 0, 0];
+        Ran::Finished(steps, work, wrapped) => {
+            *answer = [0, 0, steps, work, 0, 0, 0, 0, wrapped, 0, 0, 0];
             0
         }
-        Ran::Refused(r, work) => put_refused(code_of(r) as u32, place_of(r), work, answer),
+        Ran::Refused(r, work, wrapped) => put_stopped(
+            code_of(r) as u32,
+            place_of(r),
+            work,
+            wrapped,
+            answer,
+        ),
     }
 }
 

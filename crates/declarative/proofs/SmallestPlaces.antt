@@ -16,7 +16,7 @@ use Rattle.rules.specs.Scope.{scopeFault}
 use Rattle.rules.specs.Typing.{typeFault}
 use Rattle.rules.specs.Ready.{needsS, readyFault}
 use Rattle.rules.specs.Accepted.{Formed}
-use Rattle.rules.specs.Calls.{_otherwise_, refuseIf, refuseAt, programVerdict, checkAnswer, checkCall, startOutcome, startCall, lentVerdict, runOutcome, runCall}
+use Rattle.rules.specs.Calls.{_otherwise_, refuseIf, refuseAt, programVerdict, checkAnswer, checkCall, startOutcome, startCall, lentVerdict, runOutcome, runCall, noStep}
 use Rattle.rules.specs.declared.Place.{Place}
 use Rattle.rules.specs.declared.Place.the-variants.{At, Nowhere}
 use Rattle.rules.specs.declared.Refusal.{Refusal}
@@ -241,7 +241,7 @@ start-refuses p st r e = rw e
 
 -- and run.
 run-refuses : (p st recs out : Bytes) (r : Refusal) → programVerdict p ≡ Refuse r
-    → runCall p st recs out ≡ record { answer = Ran.Refused r 0; state = st; output = out }
+    → runCall p st recs out ≡ record { answer = Ran.Refused r 0 noStep; state = st; output = out }
 unfolding runCall runOutcome lentVerdict _otherwise_
 run-refuses p st recs out r e = rw e
 

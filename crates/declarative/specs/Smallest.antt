@@ -5,7 +5,7 @@ use mathlib.Core.Path.{_≡_}
 use mathlib.Core.Logic.{_⊎_}
 use Rattle.rules.specs.Bytes.{Bytes}
 use Rattle.rules.specs.Layout.{blocks, records, nodes, kindAt, aAt}
-use Rattle.rules.specs.Calls.{checkCall, startCall, runCall}
+use Rattle.rules.specs.Calls.{checkCall, startCall, runCall, noStep}
 use Rattle.rules.specs.declared.Checked.{Checked}
 use Rattle.rules.specs.declared.Started.{Started}
 use Rattle.rules.specs.declared.Ran.{Ran}
@@ -97,4 +97,4 @@ pub record SmallestPlaces (p : Bytes) : Type 0 where
   pub a-let : (n : ℕ) → checkCall p ≡ Checked.Refused (NotReady n) → (kindAt p n ≡ 5) × NeedsAt p n (aAt p n)
   pub start : (r : Refusal) → checkCall p ≡ Checked.Refused r → (st : Bytes) → startCall p st ≡ record { answer = Started.Refused r; state = st }
   pub run : (r : Refusal) → checkCall p ≡ Checked.Refused r → (st recs out : Bytes)
-      → runCall p st recs out ≡ record { answer = Ran.Refused r 0; state = st; output = out }
+      → runCall p st recs out ≡ record { answer = Ran.Refused r 0 noStep; state = st; output = out }

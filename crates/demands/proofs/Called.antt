@@ -43,8 +43,8 @@ both-alike p st recs out st′ recs′ out′ a b e l all =
     rw (is-call a, is-call b ∙ ap (λ (s : Bytes). runCall p s recs′ out′) (sym e)) (unplugged p st recs recs′ out out′ l all)
 
 -- The first part's outcome is looked at for its output only.
-any-between : {out₁ out₂ out : Bytes} {steps work : ℕ} {answer : Ran} {o : Bytes} {b c : RunOutcome} (st between : Bytes)
-    → SameParts out₁ out₂ out steps work (left answer st o) b c → SameParts out₁ out₂ out steps work (left answer between o) b c
+any-between : {out₁ out₂ out : Bytes} {steps work mark : ℕ} {answer : Ran} {o : Bytes} {b c : RunOutcome} (st between : Bytes)
+    → SameParts out₁ out₂ out steps work mark (left answer st o) b c → SameParts out₁ out₂ out steps work mark (left answer between o) b c
 any-between st between s = record {
   state = s .state;
   answer = s .answer;
@@ -60,12 +60,12 @@ pub parts-same : (p st copy recs₁ recs₂ recs out₁ out₂ out : Bytes) {fir
     → Small p → Small st → Small recs₁ → Small recs₂
     → Ran₁ p st recs₁ out₁ first mid out₁′ → Ran₁ p mid recs₂ out₂ second st′ out₂′ → Ran₁ p copy recs out whole copy′ out′
     → PartsDemand st copy recs₁ recs₂ recs out₁ out₂ out first second whole st′ copy′ out₁′ out₂′ out′
-parts-same p st copy recs₁ recs₂ recs out₁ out₂ out {mid = mid} hp hs h₁ h₂ a b c e f steps work at between =
-    let at₁ : CutAt recs₁ recs₂ out₁ out₂ out (runCall p st recs₁ out₁ .answer) steps work = rw (a .answer-is) at at in
+parts-same p st copy recs₁ recs₂ recs out₁ out₂ out {mid = mid} hp hs h₁ h₂ a b c e f steps work mark at between =
+    let at₁ : CutAt recs₁ recs₂ out₁ out₂ out (runCall p st recs₁ out₁ .answer) steps work mark = rw (a .answer-is) at at in
     any-between mid between
     (rw (
       is-call a,
       is-call b ∙ ap (λ (s : Bytes). runCall p s recs₂ out₂) (a .state-is),
       is-call c ∙ (λ i. runCall p (e i) (f i) out),
     )
-    (cut p st recs₁ recs₂ out₁ out₂ out steps work hp hs h₁ h₂ at₁))
+    (cut p st recs₁ recs₂ out₁ out₂ out steps work mark hp hs h₁ h₂ at₁))

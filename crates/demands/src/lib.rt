@@ -29,8 +29,8 @@ pub fn run(program: &[u8], state: &mut [u8], records: &[u8], output: &mut [u8]) 
 {
     let answer = watch::run(program, state, records, output);
     match answer {
-        Ran::Finished(steps, work) => Ran::Finished(steps, work),
-        Ran::Refused(fault, work) => Ran::Refused(fault, work),
+        Ran::Finished(steps, work, mark) => Ran::Finished(steps, work, mark),
+        Ran::Refused(fault, work, mark) => Ran::Refused(fault, work, mark),
     }
 }
 

@@ -18,7 +18,7 @@ use Rattle.rules.specs.WellFormed.{wellFormed}
 use Rattle.rules.specs.Bound.{bound}
 use Rattle.rules.specs.Accepted.{Accepted}
 use Rattle.rules.specs.Update.{Stepped, Made, NotMade, stepOf}
-use Rattle.rules.specs.Calls.{_otherwise_, refuseIf, inputWrong, timeWrong, recordVerdict, RunOutcome, runFrom, runOutcome, lentVerdict, runCall}
+use Rattle.rules.specs.Calls.{_otherwise_, refuseIf, inputWrong, timeWrong, recordVerdict, RunOutcome, runFrom, runOutcome, lentVerdict, runCall, noStep, firstWrapped}
 use Rattle.rules.specs.declared.Value.{Value}
 use Rattle.rules.specs.declared.Tally.{Tally}
 use Rattle.rules.specs.declared.Refusal.{Refusal}
@@ -55,36 +55,36 @@ made-inv : {π : ℕ → ℕ} {p q : Bytes} {x : LessS π (root p) (root q)} {v 
     → SameStep p q x (Made v st w) (Made v′ st′ w′) → (v ≡ v′) × Pair p q x st st′
 made-inv (made s) = (refl, s)
 
-next-run : (p recs : Bytes) (left done work : ℕ) (st out : Bytes) (m : StepMade p (inputAt recs done) st)
+next-run : (p recs : Bytes) (left done work mark : ℕ) (st out : Bytes) (m : StepMade p (inputAt recs done) st)
     → recordVerdict done st (inputAt recs done) ≡ Fine
-    → runFrom p recs (suc left) done work st out
-    ≡ runFrom p recs left (suc done) (work + m .tally .work) (m .state) (writeAt out (8 * done) (valueBytes (m .output)))
+    → runFrom p recs (suc left) done work mark st out
+    ≡ runFrom p recs left (suc done) (work + m .tally .work) (firstWrapped mark done (m .tally)) (m .state) (writeAt out (8 * done) (valueBytes (m .output)))
 unfolding runFrom
-next-run p recs left done work st out m e = rw (e, runFrom, m .made)
+next-run p recs left done work mark st out m e = rw (e, runFrom, m .made)
 
-stop-run : (p recs : Bytes) (left done work : ℕ) (st out : Bytes) (r : Refusal)
+stop-run : (p recs : Bytes) (left done work mark : ℕ) (st out : Bytes) (r : Refusal)
     → recordVerdict done st (inputAt recs done) ≡ Refuse r
-    → runFrom p recs (suc left) done work st out ≡ record { answer = Ran.Refused r work; state = st; output = out }
+    → runFrom p recs (suc left) done work mark st out ≡ record { answer = Ran.Refused r work mark; state = st; output = out }
 unfolding runFrom
-stop-run p recs left done work st out r e = rw (e, runFrom)
+stop-run p recs left done work mark st out r e = rw (e, runFrom)
 
-end-run : (p recs : Bytes) (done work : ℕ) (st out : Bytes)
-    → runFrom p recs zero done work st out ≡ record { answer = Finished done work; state = st; output = out }
+end-run : (p recs : Bytes) (done work mark : ℕ) (st out : Bytes)
+    → runFrom p recs zero done work mark st out ≡ record { answer = Finished done work mark; state = st; output = out }
 unfolding runFrom
-end-run p recs done work st out = refl
+end-run p recs done work mark st out = refl
 
 record-fine : (done : ℕ) (st rec : Bytes) → recordVerdict done st rec ≡ Fine → inputWrong rec ≡ false
 unfolding recordVerdict
 record-fine done st rec e = if-fine _ _ (both-fine _ _ e .0)
 
 module _ {π : ℕ → ℕ} (p q recs : Bytes) (x : LessS π (root p) (root q)) (pa : Accepted p) (qa : Accepted q) (sp : Seated p) (sq : Seated q) (hr : Small recs) where
-  run-same : (left done work work′ : ℕ) (st st′ out : Bytes) → wellFormed p st ≡ true → wellFormed q st′ ≡ true → Pair p q x st st′
-      → SameRun (runFrom p recs left done work st out) (runFrom q recs left done work′ st′ out)
-  run-same zero done work work′ st st′ out w w′ s =
-      rw (end-run p recs done work st out, end-run q recs done work′ st′ out) (record { answers = finished; outputs = refl })
-  run-same (suc left) done work work′ st st′ out w w′ s =
+  run-same : (left done work work′ mark mark′ : ℕ) (st st′ out : Bytes) → wellFormed p st ≡ true → wellFormed q st′ ≡ true → Pair p q x st st′
+      → SameRun (runFrom p recs left done work mark st out) (runFrom q recs left done work′ mark′ st′ out)
+  run-same zero done work work′ mark mark′ st st′ out w w′ s =
+      rw (end-run p recs done work mark st out, end-run q recs done work′ mark′ st′ out) (record { answers = finished; outputs = refl })
+  run-same (suc left) done work work′ mark mark′ st st′ out w w′ s =
       go (recordVerdict done st (inputAt recs done)) refl λ m m′ e s₁.
-      run-same left (suc done) (work + m .tally .work) (work′ + m′ .tally .work) (m .state) (m′ .state) _ (m .well) (m′ .well) s₁
+      run-same left (suc done) (work + m .tally .work) (work′ + m′ .tally .work) (firstWrapped mark done (m .tally)) (firstWrapped mark′ done (m′ .tally)) (m .state) (m′ .state) _ (m .well) (m′ .well) s₁
     where
       rec : Bytes
       rec = inputAt recs done
@@ -94,11 +94,11 @@ module _ {π : ℕ → ℕ} (p q recs : Bytes) (x : LessS π (root p) (root q)) 
 
       go : (v : Verdict) → recordVerdict done st rec ≡ v
           → ((m : StepMade p rec st) (m′ : StepMade q rec st′) → m .output ≡ m′ .output → Pair p q x (m .state) (m′ .state)
-          → SameRun (runFrom p recs left (suc done) (work + m .tally .work) (m .state) (writeAt out (8 * done) (valueBytes (m .output))))
-          (runFrom q recs left (suc done) (work′ + m′ .tally .work) (m′ .state) (writeAt out (8 * done) (valueBytes (m .output)))))
-          → SameRun (runFrom p recs (suc left) done work st out) (runFrom q recs (suc left) done work′ st′ out)
+          → SameRun (runFrom p recs left (suc done) (work + m .tally .work) (firstWrapped mark done (m .tally)) (m .state) (writeAt out (8 * done) (valueBytes (m .output))))
+          (runFrom q recs left (suc done) (work′ + m′ .tally .work) (firstWrapped mark′ done (m′ .tally)) (m′ .state) (writeAt out (8 * done) (valueBytes (m .output)))))
+          → SameRun (runFrom p recs (suc left) done work mark st out) (runFrom q recs (suc left) done work′ mark′ st′ out)
       go (Refuse r) e more =
-          rw (stop-run p recs left done work st out r e, stop-run q recs left done work′ st′ out r (sym same ∙ e)) (record { answers = refused; outputs = refl })
+          rw (stop-run p recs left done work mark st out r e, stop-run q recs left done work′ mark′ st′ out r (sym same ∙ e)) (record { answers = refused; outputs = refl })
       go Fine e more =
           let t = in-time rec (record-fine done st rec e) in
           let m = step-goes-on p rec st pa sp w (s .bytes) (small-input recs done hr) t in
@@ -107,7 +107,7 @@ module _ {π : ℕ → ℕ} (p q recs : Bytes) (x : LessS π (root p) (root q)) 
           let z₁ : SameStep p q x (Made (m .output) (m .state) (m .tally)) (Made (m′ .output) (m′ .state) (m′ .tally)) = rw (m .made, m′ .made) at z in
           let i = made-inv z₁ in
           let b : valueBytes (m′ .output) ≡ valueBytes (m .output) = ap valueBytes (sym (i .0)) in
-          rw (next-run p recs left done work st out m e, next-run q recs left done work′ st′ out m′ (sym same ∙ e), b) (more m m′ (i .0) (i .1))
+          rw (next-run p recs left done work mark st out m e, next-run q recs left done work′ mark′ st′ out m′ (sym same ∙ e), b) (more m m′ (i .0) (i .1))
 
 -- No time, and zeros.
 blank : Bytes → Bytes
@@ -173,11 +173,11 @@ answers-alike {π} p q hp hq pa qa x = record {
         lent q (startState q) recs out (eqb (length recs % inputLength) 0 and leb (length recs / inputLength) 4096) qa w′,
       )
       (go recs out (eqb (length recs % inputLength) 0 and leb (length recs / inputLength) 4096) (eqb (length out) (8 * (length recs / inputLength)))
-      (run-same p q recs x pa qa sp sq hr (length recs / inputLength) 0 0 0 (startState p) (startState q) out w w′ (start-pair p q x sp sq)));
+      (run-same p q recs x pa qa sp sq hr (length recs / inputLength) 0 0 0 noStep noStep (startState p) (startState q) out w w′ (start-pair p q x sp sq)));
 }
   where
     go : (recs out : Bytes) (fit long : Bool)
-        → SameRun (runFrom p recs (length recs / inputLength) 0 0 (startState p) out) (runFrom q recs (length recs / inputLength) 0 0 (startState q) out)
+        → SameRun (runFrom p recs (length recs / inputLength) 0 0 noStep (startState p) out) (runFrom q recs (length recs / inputLength) 0 0 noStep (startState q) out)
         → SameRun
         (runOutcome p (startState p) recs out (refuseIf (not fit) RecordsLength otherwise refuseIf (not long) OutputLength))
         (runOutcome q (startState q) recs out (refuseIf (not fit) RecordsLength otherwise refuseIf (not long) OutputLength))

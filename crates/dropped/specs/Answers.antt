@@ -11,10 +11,10 @@ use Rattle.rules.specs.declared.Ran.{Ran}
 use Rattle.rules.specs.declared.Ran.the-variants.{Finished}
 use Rattle.promises.specs.Small.{Small}
 
--- The same steps, or the same refusal; work is not compared.
+-- The same steps, or the same refusal; work and marks are not compared.
 pub data SameAnswer : Ran → Ran → Type 0 where
-  finished : {steps work work′ : ℕ} → SameAnswer (Finished steps work) (Finished steps work′)
-  refused : {r : Refusal} {work work′ : ℕ} → SameAnswer (Ran.Refused r work) (Ran.Refused r work′)
+  finished : {steps work work′ mark mark′ : ℕ} → SameAnswer (Finished steps work mark) (Finished steps work′ mark′)
+  refused : {r : Refusal} {work work′ mark mark′ : ℕ} → SameAnswer (Ran.Refused r work mark) (Ran.Refused r work′ mark′)
 
 pub record SameRun (o o′ : RunOutcome) : Type 0 where
   pub answers : SameAnswer (o .answer) (o′ .answer)

@@ -21,7 +21,7 @@ use Rattle.rules.specs.WellFormed.{wellS, longAsCells, restWell, lastMoment}
 use Rattle.rules.specs.Bound.{boundS, boundU, bound}
 use Rattle.rules.specs.Evaluate.{unbound, evalS}
 use Rattle.rules.specs.Update.{Stepped, Made, NotMade, updS, updated, evaluated, stepOf}
-use Rattle.rules.specs.Calls.{_otherwise_, refuseIf, refuseAt, programVerdict, checkAnswer, checkCall, StartOutcome, startOutcome, startCall, recordVerdict, RunOutcome, runFrom}
+use Rattle.rules.specs.Calls.{_otherwise_, refuseIf, refuseAt, programVerdict, checkAnswer, checkCall, StartOutcome, startOutcome, startCall, recordVerdict, RunOutcome, firstWrapped, runFrom}
 use Rattle.rules.specs.declared.Place.{Place}
 use Rattle.rules.specs.declared.Place.the-variants.{At, Nowhere}
 use Rattle.rules.specs.declared.Refusal.{Refusal}
@@ -110,18 +110,18 @@ module _ (p q : Bytes) (s : Everywhere p q) where
       let r = root-same p q s in
       λ i. evaluated (evalS rec st (unbound mostNodes) (r i)) λ v u. updated v u rec (updS rec (unbound mostNodes) (r i) st)
 
-  run-same : (recs : Bytes) (left done work : ℕ) (st out : Bytes) → runFrom p recs left done work st out ≡ runFrom q recs left done work st out
+  run-same : (recs : Bytes) (left done work mark : ℕ) (st out : Bytes) → runFrom p recs left done work mark st out ≡ runFrom q recs left done work mark st out
   unfolding runFrom
-  run-same recs zero done work st out = refl
-  run-same recs (suc left) done work st out =
+  run-same recs zero done work mark st out = refl
+  run-same recs (suc left) done work mark st out =
       let f = step-same (inputAt recs done) st in
       λ i.
       elim (recordVerdict done st (inputAt recs done)) [
-        | Refuse r ↦ record { answer = Ran.Refused r work; state = st; output = out }
+        | Refuse r ↦ record { answer = Ran.Refused r work mark; state = st; output = out }
         | Fine ↦
             elim (f i) [
-              | Made v st₁ w ↦ run-same recs left (suc done) (work + w .work) st₁ (writeAt out (8 * done) (valueBytes v)) i
-              | NotMade ↦ record { answer = Ran.Refused StateFault work; state = st; output = out }
+              | Made v st₁ w ↦ run-same recs left (suc done) (work + w .work) (firstWrapped mark done w) st₁ (writeAt out (8 * done) (valueBytes v)) i
+              | NotMade ↦ record { answer = Ran.Refused StateFault work mark; state = st; output = out }
             ]
       ]
 
@@ -137,7 +137,7 @@ module _ (p q : Bytes) (s : Everywhere p q) where
         start-states = start-same;
         states = λ st. (long-same st, rest-same st);
         steps = λ rec st. sym (step-same rec st);
-        runs = λ recs left done work st out. sym (run-same recs left done work st out);
+        runs = λ recs left done work mark st out. sym (run-same recs left done work mark st out);
       }
 
   -- Scope: none in edition one is none in edition two.

@@ -51,4 +51,4 @@ pub record SameCalls (p q : Bytes) : Type 0 where
   pub start-states : startState p ≡ resetS (root q) (startHeader p ++ replicate (8 * cells q) 0)
   pub states : (st : Bytes) → (longAsCells q st ≡ longAsCells p st) × (restWell q st ≡ restWell p st)
   pub steps : (rec st : Bytes) → stepOf q rec st ≡ stepOf p rec st
-  pub runs : (recs : Bytes) (left done work : ℕ) (st out : Bytes) → runFrom q recs left done work st out ≡ runFrom p recs left done work st out
+  pub runs : (recs : Bytes) (left done work mark : ℕ) (st out : Bytes) → runFrom q recs left done work mark st out ≡ runFrom p recs left done work mark st out

@@ -29,15 +29,15 @@ use Rattle.outcomes.proofs.Outcomes.{work-within, arm-goes, arm-none, arm-one, 
 pub record PartE (p : Bytes) (n x : ℕ) : Type 0 where
   pub less : x < n
   pub node : NodeOf isExpression p x
-  pub small : boundE (exprAt p x) < 65535
+  pub small : boundE (exprAt p x) < 32767
 
 -- Expressions x and y are both evaluated below one whose bound is small.
 abbrev pub PairE : Bytes → ℕ → ℕ → Type 0
-PairE p x y = boundE (exprAt p x) + boundE (exprAt p y) < 65535
+PairE p x y = boundE (exprAt p x) + boundE (exprAt p y) < 32767
 
 -- What both count together is small.
 pub pair-work : (p : Bytes) (x y : ℕ) {r s : Evaluated} (env₁ env₂ : Env) → PairE p x y → r ≡ evalE env₁ (exprAt p x) → s ≡ evalE env₂ (exprAt p y)
-    → workOf r + workOf s < 65535
+    → workOf r + workOf s < 32767
 pair-work p x y env₁ env₂ k e f =
     rw (e, f) (omega (arith, work-within _ (evalE-within env₁ (exprAt p x)), work-within _ (evalE-within env₂ (exprAt p y)), k))
 
@@ -46,10 +46,10 @@ pub read : {p : Bytes} {n x y : ℕ} → x ≡ y → PartE p n y → PartE p n x
 read {p} {n} e k = subst (PartE p n) (sym e) k
 
 -- What a part's evaluation counts is small.
-pub part-work : {p : Bytes} {n x : ℕ} {r : Evaluated} (env : Env) → PartE p n x → r ≡ evalE env (exprAt p x) → workOf r < 65535
+pub part-work : {p : Bytes} {n x : ℕ} {r : Evaluated} (env : Env) → PartE p n x → r ≡ evalE env (exprAt p x) → workOf r < 32767
 part-work {p} {n} {x} env k e = rw e (omega (arith, work-within _ (evalE-within env (exprAt p x)), k .small))
 
-module _ (p : Bytes) (n : ℕ) (w : NodeOf isExpression p n) (s : boundE (exprAt p n) < 65535) where
+module _ (p : Bytes) (n : ℕ) (w : NodeOf isExpression p n) (s : boundE (exprAt p n) < 32767) where
   pub negation-part : kindAt p n ≡ 24 → PartE p n (aAt p n)
   unfolding boundE
   negation-part e =

@@ -36,7 +36,7 @@ use Rattle.evaluate.proofs.ExprLaws.{PartE}
 pub record PartS (p : Bytes) (n x : ℕ) : Type 0 where
   pub less : x < n
   pub node : NodeOf isSignal p x
-  pub small : boundS (signalAt p x) < 65535
+  pub small : boundS (signalAt p x) < 32767
 
 -- The same part, by the field that was read.
 pub read-s : {p : Bytes} {n x y : ℕ} → x ≡ y → PartS p n y → PartS p n x
@@ -44,22 +44,22 @@ read-s {p} {n} e k = subst (PartS p n) (sym e) k
 
 -- What a part's evaluation counts is small.
 pub part-work-s : {p : Bytes} {n x : ℕ} {r : Evaluated} (rec st : Bytes) (env : Env) → PartS p n x → r ≡ evalS rec st env (signalAt p x)
-    → workOf r < 65535
+    → workOf r < 32767
 part-work-s {p} {n} {x} rec st env k e = rw e (omega (arith, work-within _ (evalS-within rec st env (signalAt p x)), k .small))
 
 -- The work of a signal itself.
-pub own-work : (p : Bytes) (n : ℕ) {r : Evaluated} (rec st : Bytes) (env : Env) → boundS (signalAt p n) < 65535 → r ≡ evalS rec st env (signalAt p n)
-    → workOf r < 65535
+pub own-work : (p : Bytes) (n : ℕ) {r : Evaluated} (rec st : Bytes) (env : Env) → boundS (signalAt p n) < 32767 → r ≡ evalS rec st env (signalAt p n)
+    → workOf r < 32767
 own-work p n rec st env h e = rw e (omega (arith, work-within _ (evalS-within rec st env (signalAt p n))))
 
 -- A cell's content counts one rule, whatever node it is of.
-pub held-work : {r : Evaluated} (m : ℕ) → r ≡ rule (give (unpacked m)) → workOf r < 65535
+pub held-work : {r : Evaluated} (m : ℕ) → r ≡ rule (give (unpacked m)) → workOf r < 32767
 unfolding rule give after _plus_ oneRule nothing
 held-work m e = rw e (omega arith)
 
 -- What a definition and a body count together is small.
-pub let-work : (p : Bytes) (x y : ℕ) {r s : Evaluated} (rec st : Bytes) (env₁ env₂ : Env) → boundS (signalAt p x) + boundS (signalAt p y) < 65535
-    → r ≡ evalS rec st env₁ (signalAt p x) → s ≡ evalS rec st env₂ (signalAt p y) → workOf r + workOf s < 65535
+pub let-work : (p : Bytes) (x y : ℕ) {r s : Evaluated} (rec st : Bytes) (env₁ env₂ : Env) → boundS (signalAt p x) + boundS (signalAt p y) < 32767
+    → r ≡ evalS rec st env₁ (signalAt p x) → s ≡ evalS rec st env₂ (signalAt p y) → workOf r + workOf s < 32767
 let-work p x y rec st env₁ env₂ k e f =
     rw (e, f) (omega (arith, work-within _ (evalS-within rec st env₁ (signalAt p x)), work-within _ (evalS-within rec st env₂ (signalAt p y)), k))
 
@@ -69,7 +69,7 @@ pub record PartB (p : Bytes) (n which : ℕ) : Type 0 where
   pub node : NodeOf isBranch p which
   pub body : PartS p n (aAt p which)
 
-module _ (p : Bytes) (n : ℕ) (w : NodeOf isSignal p n) (s : boundS (signalAt p n) < 65535) where
+module _ (p : Bytes) (n : ℕ) (w : NodeOf isSignal p n) (s : boundS (signalAt p n) < 32767) where
   pub ext-part : kindAt p n ≡ 3 → PartE p n (aAt p n)
   unfolding boundS
   ext-part e =
@@ -85,7 +85,7 @@ module _ (p : Bytes) (n : ℕ) (w : NodeOf isSignal p n) (s : boundS (signalAt p
         record { less = k .1 .less; node = k .1 .node; small = omega arith },
       )
 
-  pub let-pair : kindAt p n ≡ 5 → {a b : ℕ} → a ≡ aAt p n → b ≡ bAt p n → boundS (signalAt p a) + boundS (signalAt p b) < 65535
+  pub let-pair : kindAt p n ≡ 5 → {a b : ℕ} → a ≡ aAt p n → b ≡ bAt p n → boundS (signalAt p a) + boundS (signalAt p b) < 32767
   unfolding boundS
   let-pair e ea eb = rw (ea, eb) (omega (arith, ap boundS (let-tree p n w e), s))
 

@@ -17,7 +17,7 @@ pub record ReadyE (p : Bytes) (index : List ℕ) (env : Env) (i : ℕ) : Type 0 
   pub node : NodeOf isExpression p i
   pub indexed : Indexed p index
   pub slots : Slots env
-  pub small : boundE (exprAt p i) < 65535
+  pub small : boundE (exprAt p i) < 32767
 
 -- For a signal also a state with room for the cells.
 pub record ReadyS (p : Bytes) (index : List ℕ) (st : Bytes) (env : Env) (i : ℕ) : Type 0 where
@@ -25,4 +25,4 @@ pub record ReadyS (p : Bytes) (index : List ℕ) (st : Bytes) (env : Env) (i : �
   pub indexed : Indexed p index
   pub state : stateLength p ≤ length st
   pub slots : Slots env
-  pub small : boundS (signalAt p i) < 65535
+  pub small : boundS (signalAt p i) < 32767

@@ -6,7 +6,7 @@ use Rattle.rules.specs.Bytes.{Bytes}
 use Rattle.rules.specs.Layout.{cells, checksOf}
 use Rattle.rules.specs.WellFormed.{wellFormed}
 use Rattle.rules.specs.Accepted.{Accepted}
-use Rattle.rules.specs.Calls.{RunOutcome}
+use Rattle.rules.specs.Calls.{RunOutcome, noStep}
 use Rattle.rules.specs.declared.Refusal.the-variants.{OtherProgram}
 use Rattle.rules.specs.declared.Ran.{Ran}
 
@@ -20,4 +20,4 @@ pub record Restored (p q st : Bytes) : Type 0 where
 
 -- What a run answers then: code 15, no work done, and the lent memory as before.
 abbrev pub toldApart : Bytes → Bytes → RunOutcome
-toldApart st out = record { answer = Ran.Refused OtherProgram 0; state = st; output = out }
+toldApart st out = record { answer = Ran.Refused OtherProgram 0 noStep; state = st; output = out }

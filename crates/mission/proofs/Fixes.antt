@@ -10,7 +10,7 @@ use borrow.Author.Tests.{eqb-true}
 use Rattle.rules.specs.Bytes.{Bytes, writeAt}
 use Rattle.rules.specs.Layout.{inputLength, inputAt}
 use Rattle.rules.specs.Update.{stepOf}
-use Rattle.rules.specs.Calls.{_otherwise_, refuseIf, programVerdict, checkAnswer, checkCall, StartOutcome, startOutcome, startCall, RunOutcome, recordVerdict, runFrom, runCall}
+use Rattle.rules.specs.Calls.{_otherwise_, refuseIf, programVerdict, checkAnswer, checkCall, StartOutcome, startOutcome, startCall, RunOutcome, recordVerdict, noStep, runFrom, runCall}
 use Rattle.rules.specs.declared.Refusal.{Refusal}
 use Rattle.rules.specs.declared.Verdict.{Verdict}
 use Rattle.rules.specs.declared.Verdict.the-variants.{Fine, Refuse}
@@ -30,6 +30,7 @@ use Rattle.cut.proofs.Cut.{Lent}
 use Rattle.declarative.specs.Exactly.{Accepts}
 use Rattle.declarative.proofs.AcceptedExactly.{accepted-exactly}
 use Rattle.mission.specs.Faults.{Fault, StartFault, FirstOf}
+use Rattle.mission.specs.Through.{markIn}
 use Rattle.mission.specs.Refused.{RefusedRun, for-lent, for-record}
 use Rattle.mission.specs.Mission.{Accepting, CheckDemands, StartDemands, StepsOf, RunDemands}
 use Rattle.mission.proofs.Firsts.{first-fault, no-fault, one-fault, startVerdict, first-start, no-start-fault, one-start-fault}
@@ -37,11 +38,11 @@ use Rattle.mission.proofs.Traces.{through-run, through-long}
 use Rattle.mission.proofs.Outcomes.{was-lent, call-fine, call-refused, FirstFew, first-few}
 
 -- A run that is not refused: its steps by the rules are the definition's.
-fixed-finished : (p st recs out : Bytes) (s w : ℕ) (st₁ out₁ : Bytes) → StepsOf p st recs out (Finished s w) st₁ out₁
-    → runCall p st recs out ≡ record { answer = Finished s w; state = st₁; output = out₁ }
-unfolding runFrom workIn
-fixed-finished p st recs out s w st₁ out₁ x =
-    let d = x .all-done s w refl in
+fixed-finished : (p st recs out : Bytes) (s w m : ℕ) (st₁ out₁ : Bytes) → StepsOf p st recs out (Finished s w m) st₁ out₁
+    → runCall p st recs out ≡ record { answer = Finished s w m; state = st₁; output = out₁ }
+unfolding runFrom workIn markIn
+fixed-finished p st recs out s w m st₁ out₁ x =
+    let d = x .all-done s w m refl in
     let l = was-lent p st recs out (d .0) in
     let long = through-long (x .through) in
     let n : length recs / inputLength ≡ x .steps + 0 = omega (arith, d .2) in
@@ -50,32 +51,32 @@ fixed-finished p st recs out s w st₁ out₁ x =
     let room : writeAt out (8 * 0) (x .shown) ≡ out₁
     = write-front (x .shown) out (omega (arith, long, l .room, d .2)) ∙ ap (λ (k : ℕ). x .shown ++ drop k out) long ∙ sym (x .written) in
     call-fine p st recs out (d .0)
-    ∙ ap (λ (k : ℕ). runFrom p recs k 0 0 st out) n
+    ∙ ap (λ (k : ℕ). runFrom p recs k 0 0 noStep st out) n
     ∙ through-run (x .through) 0 0 out
-    ∙ (λ i. record { answer = Finished (steps i) (work i); state = st₁; output = room i })
+    ∙ (λ i. record { answer = Finished (steps i) (work i) m; state = st₁; output = room i })
 
 -- A run that is refused at the record numbered k, by the run of the first k.
-module _ (p st recs out : Bytes) (k : ℕ) (r : Refusal) (w : ℕ) (st₁ out₁ : Bytes) (l : Lent p st recs out) (h : k < length recs / inputLength)
+module _ (p st recs out : Bytes) (k : ℕ) (r : Refusal) (w mark : ℕ) (st₁ out₁ : Bytes) (l : Lent p st recs out) (h : k < length recs / inputLength)
     (v : recordVerdict k st₁ (inputAt recs k) ≡ Refuse r)
-    (e : runCall p st (take (inputLength * k) recs) (take (8 * k) out) ≡ record { answer = Finished k w; state = st₁; output = take (8 * k) out₁ })
+    (e : runCall p st (take (inputLength * k) recs) (take (8 * k) out) ≡ record { answer = Finished k w mark; state = st₁; output = take (8 * k) out₁ })
     (b : drop (8 * k) out₁ ≡ drop (8 * k) out) where
   few : FirstFew p st recs out k
   few = first-few l (omega arith)
 
   -- The first k records' walk, in the whole list.
   abbrev some : Walk
-  some = walk p recs k 0 0 st
+  some = walk p recs k 0 0 noStep st
 
   some-is : runCall p st (take (inputLength * k) recs) (take (8 * k) out) ≡ inRoom 0 (take (8 * k) out) some
   some-is =
       call-fine p st _ _ (few .fine)
-      ∙ ap (λ (m : ℕ). runFrom p (take (inputLength * k) recs) m 0 0 st (take (8 * k) out)) (few .count)
-      ∙ run-walk k p (take (inputLength * k) recs) 0 0 st (take (8 * k) out)
-      ∙ ap (inRoom 0 (take (8 * k) out)) (walk-agree k p (take (inputLength * k) recs) recs 0 0 st λ j f g.
+      ∙ ap (λ (m : ℕ). runFrom p (take (inputLength * k) recs) m 0 0 noStep st (take (8 * k) out)) (few .count)
+      ∙ run-walk k p (take (inputLength * k) recs) 0 0 noStep st (take (8 * k) out)
+      ∙ ap (inRoom 0 (take (8 * k) out)) (walk-agree k p (take (inputLength * k) recs) recs 0 0 noStep st λ j f g.
       let q = sym (few .same j (omega arith)) in
       record { verdict = λ s. ap (recordVerdict j s) q; step = λ s. ap (λ (x : Bytes). stepOf p x s) q })
 
-  told : some .answer ≡ Finished k w
+  told : some .answer ≡ Finished k w mark
   unfolding inRoom
   told = sym (ap (λ (o : RunOutcome). o .answer) some-is) ∙ ap (λ (o : RunOutcome). o .answer) e
 
@@ -84,7 +85,7 @@ module _ (p st recs out : Bytes) (k : ℕ) (r : Refusal) (w : ℕ) (st₁ out₁
   state-is = sym (ap (λ (o : RunOutcome). o .state) some-is) ∙ ap (λ (o : RunOutcome). o .state) e
 
   wide : length (some .written) ≡ 8 * k
-  wide = whole k p recs 0 0 st k w told .long
+  wide = whole k p recs 0 0 noStep st k w mark told .long
 
   -- What they wrote is the front of the room, and behind it is what was there.
   front-is : some .written ≡ take (8 * k) out₁
@@ -103,32 +104,32 @@ module _ (p st recs out : Bytes) (k : ℕ) (r : Refusal) (w : ℕ) (st₁ out₁
 
   -- So the whole list's walk stops at the record numbered k.
   all-is : (m : ℕ) → length recs / inputLength ≡ k + suc m
-      → walk p recs (length recs / inputLength) 0 0 st ≡ behind (some .written) (record { answer = Ran.Refused r w; state = st₁; written = [] })
+      → walk p recs (length recs / inputLength) 0 0 noStep st ≡ behind (some .written) (record { answer = Ran.Refused r w mark; state = st₁; written = [] })
   all-is m n =
-      ap (λ (j : ℕ). walk p recs j 0 0 st) n
-      ∙ walk-split k (suc m) p recs 0 0 st k w told
-      ∙ ap (behind (some .written)) (ap (walk p recs (suc m) k w) state-is ∙ walk-stops p recs m k w st₁ v)
+      ap (λ (j : ℕ). walk p recs j 0 0 noStep st) n
+      ∙ walk-split k (suc m) p recs 0 0 noStep st k w mark told
+      ∙ ap (behind (some .written)) (ap (walk p recs (suc m) k w mark) state-is ∙ walk-stops p recs m k w mark st₁ v)
 
-  fixed-at : runVerdict p st recs out ≡ Fine → runCall p st recs out ≡ record { answer = Ran.Refused r w; state = st₁; output = out₁ }
+  fixed-at : runVerdict p st recs out ≡ Fine → runCall p st recs out ≡ record { answer = Ran.Refused r w mark; state = st₁; output = out₁ }
   unfolding inRoom behind
   fixed-at fine =
       let n : length recs / inputLength ≡ k + suc (length recs / inputLength - suc k) = omega (arith, h) in
       call-fine p st recs out fine
-      ∙ run-walk (length recs / inputLength) p recs 0 0 st out
+      ∙ run-walk (length recs / inputLength) p recs 0 0 noStep st out
       ∙ ap (inRoom 0 out) (all-is _ n)
-      ∙ ap (λ (t : Bytes). record { answer = Ran.Refused r w; state = st₁; output = t }) room-is
+      ∙ ap (λ (t : Bytes). record { answer = Ran.Refused r w mark; state = st₁; output = t }) room-is
 
-fixed-refused : (p st recs out : Bytes) (r : Refusal) (w : ℕ) (st₁ out₁ : Bytes) → RefusedRun p st recs out r w st₁ out₁
-    → runCall p st recs out ≡ record { answer = Ran.Refused r w; state = st₁; output = out₁ }
-fixed-refused p st recs out r w st₁ out₁ (for-lent e f g h) =
-    call-refused p st recs out r e ∙ (λ i. record { answer = Ran.Refused r (sym f i); state = sym g i; output = sym h i })
-fixed-refused p st recs out r w st₁ out₁ (for-record k fine h v e b) =
-    fixed-at p st recs out k r w st₁ out₁ (was-lent p st recs out fine) h v e b fine
+fixed-refused : (p st recs out : Bytes) (r : Refusal) (w m : ℕ) (st₁ out₁ : Bytes) → RefusedRun p st recs out r w m st₁ out₁
+    → runCall p st recs out ≡ record { answer = Ran.Refused r w m; state = st₁; output = out₁ }
+fixed-refused p st recs out r w m st₁ out₁ (for-lent e f u g h) =
+    call-refused p st recs out r e ∙ (λ i. record { answer = Ran.Refused r (sym f i) (sym u i); state = sym g i; output = sym h i })
+fixed-refused p st recs out r w m st₁ out₁ (for-record k fine h v e b) =
+    fixed-at p st recs out k r w m st₁ out₁ (was-lent p st recs out fine) h v e b fine
 
 pub fixed-run : (p st recs out : Bytes) (answer : Ran) (st₁ out₁ : Bytes) → RunDemands p st recs out answer st₁ out₁
     → runCall p st recs out ≡ record { answer = answer; state = st₁; output = out₁ }
-fixed-run p st recs out (Finished s w) st₁ out₁ x = fixed-finished p st recs out s w st₁ out₁ (x .by-rules)
-fixed-run p st recs out (Ran.Refused r w) st₁ out₁ x = fixed-refused p st recs out r w st₁ out₁ (x .refuses r w refl)
+fixed-run p st recs out (Finished s w m) st₁ out₁ x = fixed-finished p st recs out s w m st₁ out₁ (x .by-rules)
+fixed-run p st recs out (Ran.Refused r w m) st₁ out₁ x = fixed-refused p st recs out r w m st₁ out₁ (x .refuses r w m refl)
 
 -- Check.
 fixed-verdict : (p : Bytes) (r : Refusal) → FirstOf (Fault p) r → programVerdict p ≡ Refuse r

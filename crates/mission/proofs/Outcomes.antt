@@ -11,7 +11,7 @@ use Rattle.rules.specs.Layout.{inputLength, inputAt}
 use Rattle.rules.specs.Tree.{root}
 use Rattle.rules.specs.Typing.{typeS}
 use Rattle.rules.specs.Bound.{bound}
-use Rattle.rules.specs.Calls.{RunOutcome, runFrom, runOutcome, runCall}
+use Rattle.rules.specs.Calls.{RunOutcome, noStep, runFrom, runOutcome, runCall}
 use Rattle.rules.specs.declared.Refusal.{Refusal}
 use Rattle.rules.specs.declared.Verdict.{Verdict}
 use Rattle.rules.specs.declared.Verdict.the-variants.{Fine, Refuse}
@@ -28,9 +28,9 @@ use Rattle.mission.specs.Through.{Through}
 use Rattle.mission.proofs.Traces.{Traced, trace, through-run, through-long, through-same}
 
 pub data Outcome (p st recs out : Bytes) (o : RunOutcome) : Type 0 where
-  lent-refused : (r : Refusal) → runVerdict p st recs out ≡ Refuse r → o ≡ record { answer = Ran.Refused r 0; state = st; output = out }
+  lent-refused : (r : Refusal) → runVerdict p st recs out ≡ Refuse r → o ≡ record { answer = Ran.Refused r 0 noStep; state = st; output = out }
       → Outcome p st recs out o
-  went : runVerdict p st recs out ≡ Fine → Lent p st recs out → Traced p recs o (length recs / inputLength) 0 0 st out → Outcome p st recs out o
+  went : runVerdict p st recs out ≡ Fine → Lent p st recs out → Traced p recs o (length recs / inputLength) 0 0 noStep st out → Outcome p st recs out o
 
 -- What is lent as it should be, by its verdict, and the other way.
 pub was-lent : (p st recs out : Bytes) → runVerdict p st recs out ≡ Fine → Lent p st recs out
@@ -42,12 +42,12 @@ unfolding runVerdict fits
 lent-well p st recs out l = fine-lent p st recs out l
 
 -- The call, by its verdict.
-pub call-fine : (p st recs out : Bytes) → runVerdict p st recs out ≡ Fine → runCall p st recs out ≡ runFrom p recs (length recs / inputLength) 0 0 st out
+pub call-fine : (p st recs out : Bytes) → runVerdict p st recs out ≡ Fine → runCall p st recs out ≡ runFrom p recs (length recs / inputLength) 0 0 noStep st out
 unfolding runCall runVerdict runOutcome
 call-fine p st recs out e = ap (runOutcome p st recs out) e
 
 pub call-refused : (p st recs out : Bytes) (r : Refusal) → runVerdict p st recs out ≡ Refuse r
-    → runCall p st recs out ≡ record { answer = Ran.Refused r 0; state = st; output = out }
+    → runCall p st recs out ≡ record { answer = Ran.Refused r 0 noStep; state = st; output = out }
 unfolding runCall runVerdict runOutcome
 call-refused p st recs out r e = ap (runOutcome p st recs out) e
 
@@ -60,8 +60,8 @@ outcome p st recs out hp hs hr = go (runVerdict p st recs out) refl
         let l = was-lent p st recs out e in
         let n : ℕ = length recs / inputLength in
         let acc = l .accepts in
-        went e l (rw (call-fine p st recs out e) (trace n p recs (runFrom p recs n 0 0 st out) 0 0 st out (l .well)
-        (run-from n p recs acc (seated p hp acc) hr 0 0 st out (l .well) hs)))
+        went e l (rw (call-fine p st recs out e) (trace n p recs (runFrom p recs n 0 0 noStep st out) 0 0 noStep st out (l .well)
+        (run-from n p recs acc (seated p hp acc) hr 0 0 noStep st out (l .well) hs)))
 
 -- So many of a list.
 pub taken-long : (i : ℕ) (s : Bytes) → i ≤ length s → length (take i s) ≡ i
@@ -92,11 +92,11 @@ first-few {p} {st} {recs} {out} {k} l h =
     }
 
 -- A run of the first k records alone: its steps, all done.
-pub first-run : {p st recs out : Bytes} {most type k : ℕ} {shown st₁ : Bytes} {total : ℕ} → Lent p st recs out → k ≤ length recs / inputLength
-    → Through p recs most type k 0 st shown total st₁
-    → runCall p st (take (inputLength * k) recs) (take (8 * k) out) ≡ record { answer = Finished k total; state = st₁; output = shown }
+pub first-run : {p st recs out : Bytes} {most type k : ℕ} {shown st₁ : Bytes} {total m : ℕ} → Lent p st recs out → k ≤ length recs / inputLength
+    → Through p recs most type k 0 st shown total noStep m st₁
+    → runCall p st (take (inputLength * k) recs) (take (8 * k) out) ≡ record { answer = Finished k total m; state = st₁; output = shown }
 unfolding runFrom
-first-run {p} {st} {recs} {out} {k = k} {shown = shown} {st₁ = st₁} {total = total} l h t =
+first-run {p} {st} {recs} {out} {k = k} {shown = shown} {st₁ = st₁} {total = total} {m = m} l h t =
     let few : Bytes = take (inputLength * k) recs in
     let room : Bytes = take (8 * k) out in
     let f : FirstFew p st recs out k = first-few l h in
@@ -104,6 +104,6 @@ first-run {p} {st} {recs} {out} {k = k} {shown = shown} {st₁ = st₁} {total =
     let d : 0 + k ≡ k = omega arith in
     let w : 0 + total ≡ total = omega arith in
     call-fine p st few room (f .fine)
-    ∙ ap (λ (m : ℕ). runFrom p few m 0 0 st room) (f .count ∙ z)
+    ∙ ap (λ (j : ℕ). runFrom p few j 0 0 noStep st room) (f .count ∙ z)
     ∙ through-run (through-same (λ j g. f .same j (omega arith)) t) 0 0 room
-    ∙ (λ i. record { answer = Finished (d i) (w i); state = st₁; output = write-all shown room (f .wide ∙ sym (through-long t)) i })
+    ∙ (λ i. record { answer = Finished (d i) (w i) m; state = st₁; output = write-all shown room (f .wide ∙ sym (through-long t)) i })

@@ -72,16 +72,16 @@ step-time {p = p} {rec = rec} hr w (step {st₁ = s} d u) =
     time-same s (timeIn rec) (omega (arith, header-there p (setTime s (timeIn rec)) w, length-setTime s (timeIn rec))) (u32-small rec 0 hr)
 
 -- And after so many steps it is the last record's.
-pub last-time : (n : ℕ) {p recs : Bytes} {most type k : ℕ} {st shown st₁ : Bytes} {total : ℕ} → Small recs
-    → Through p recs most type (suc n) k st shown total st₁ → lastTime st₁ ≡ timeIn (inputAt recs (k + n))
+pub last-time : (n : ℕ) {p recs : Bytes} {most type k : ℕ} {st shown st₁ : Bytes} {total m m₁ : ℕ} → Small recs
+    → Through p recs most type (suc n) k st shown total m m₁ st₁ → lastTime st₁ ≡ timeIn (inputAt recs (k + n))
 last-time zero {recs = recs} {k = k} hr (one-step e b at-end) =
     step-time (small-input recs k hr) (b .well) (b .derived) ∙ ap (λ (j : ℕ). timeIn (inputAt recs j)) (let z : k ≡ k + 0 = omega arith in z)
 last-time (suc n) {recs = recs} {k = k} hr (one-step e b more) =
     last-time n hr more ∙ ap (λ (j : ℕ). timeIn (inputAt recs j)) (let z : suc k + n ≡ k + suc n = omega arith in z)
 
 -- So the next record's time does not go back either.
-pub next-not-back : (n : ℕ) {p recs out : Bytes} {most type : ℕ} {st shown st₁ : Bytes} {total count : ℕ} → Small recs
-    → RunLent p st recs out count → n < count → Through p recs most type n 0 st shown total st₁ → NotBack st₁ (inputAt recs n)
+pub next-not-back : (n : ℕ) {p recs out : Bytes} {most type : ℕ} {st shown st₁ : Bytes} {total m m₁ count : ℕ} → Small recs
+    → RunLent p st recs out count → n < count → Through p recs most type n 0 st shown total m m₁ st₁ → NotBack st₁ (inputAt recs n)
 next-not-back zero hr l h at-end = l .forward h
 next-not-back (suc n) {recs = recs} hr l h t = λ g. omega (arith, last-time n hr t, ap (λ (j : ℕ). timeIn (inputAt recs j)) (let z : 0 + n ≡ n = omega arith in z), l .onward n h)
 

@@ -1,7 +1,7 @@
 -- Demand 3 of a run: well-formed records whose times do not go back are answered, all of them.
 -- Assumes nothing.
 use mathlib.Core.Path.{_≡_, refl, sym, ap, _∙_}
-use mathlib.Core.Bool.{true}
+use mathlib.Core.Bool.{Bool, true}
 use mathlib.Core.List.{[], _++_, append-nil}
 use Prim.Native.Nat.{ℕ, zero, suc, _+_, _*_, _/_, _<_, _≤_}
 use native.Mathlib.Omega.{arith}
@@ -10,7 +10,7 @@ use Rattle.rules.specs.Bytes.{Bytes, writeAt}
 use Rattle.rules.specs.Values.{valueBytes}
 use Rattle.rules.specs.Layout.{nodes, inputLength, inputAt}
 use Rattle.rules.specs.Bound.{bound}
-use Rattle.rules.specs.Calls.{RunOutcome, recordVerdict, checkCall}
+use Rattle.rules.specs.Calls.{RunOutcome, recordVerdict, noStep, checkCall}
 use Rattle.rules.specs.declared.Value.{Value}
 use Rattle.rules.specs.declared.Refusal.{Refusal}
 use Rattle.rules.specs.declared.Verdict.the-variants.{Fine, Refuse}
@@ -23,7 +23,7 @@ use Rattle.promises.proofs.Promises.{goes-on, Answered, answered}
 use Rattle.rooms.proofs.WalkLaws.{write-all}
 use Rattle.cut.proofs.Cut.{Lent}
 use Rattle.mission.specs.Lent.{StepLent, RunLent}
-use Rattle.mission.specs.Through.{ByRules, Through, at-end, one-step}
+use Rattle.mission.specs.Through.{ByRules, markAfter, Through, at-end, one-step}
 use Rattle.mission.specs.Mission.{Finishes, Answers}
 use Rattle.mission.proofs.Traces.{Ends, all-of, stopped, Traced, through-long, through-within, through-left}
 use Rattle.mission.proofs.Records.{not-refused, next-not-back, one-record}
@@ -52,13 +52,13 @@ module _ (p st recs out : Bytes) (o : RunOutcome) (hp : Small p) (hr : Small rec
   }
 
   -- No record is refused, so all are done.
-  done-all : (n : ℕ) → RunLent p st recs out n → (t : Traced p recs o (length recs / inputLength) 0 0 st out)
-      → Ends recs o (length recs / inputLength) 0 0 (t .steps) (t .total) → (t .steps ≡ n) × (o .answer ≡ Finished n (t .total))
+  done-all : (n : ℕ) → RunLent p st recs out n → (t : Traced p recs o (length recs / inputLength) 0 0 noStep st out)
+      → Ends recs o (length recs / inputLength) 0 0 (t .steps) (t .total) (t .mark₁) → (t .steps ≡ n) × (o .answer ≡ Finished n (t .total) (t .mark₁))
   done-all n l t (all-of h f) =
       let k : t .steps ≡ n = omega (arith, h, l .whole) in
       let d : 0 + t .steps ≡ n = omega arith in
       let w : 0 + t .total ≡ t .total = omega arith in
-      (k, f ∙ λ i. Finished (d i) (w i))
+      (k, f ∙ λ i. Finished (d i) (w i) (t .mark₁))
   done-all n l t (stopped r h v f) =
       let k : t .steps < n = omega (arith, h, l .whole) in
       let d : 0 + t .steps ≡ t .steps = omega arith in
@@ -70,10 +70,11 @@ module _ (p st recs out : Bytes) (o : RunOutcome) (hp : Small p) (hr : Small rec
   finishes n l (went e _ t) =
       let d = done-all n l t (t .ends) in
       let s : o .output ≡ t .shown = t .output ∙ write-all (t .shown) out (omega (arith, l .room, through-long (t .through), d .0)) in
-      let through : Through p recs most type n 0 st (o .output) (t .total) (o .state) = rw (s, said .most-is, said .type-is, sym (d .0)) (t .through) in
+      let through : Through p recs most type n 0 st (o .output) (t .total) noStep (t .mark₁) (o .state) = rw (s, said .most-is, said .type-is, sym (d .0)) (t .through) in
       let left = through-left (l .state) through in
       record {
         work = t .total;
+        mark = t .mark₁;
         finished = d .1;
         through = through;
         well = left .well;
@@ -83,30 +84,33 @@ module _ (p st recs out : Bytes) (o : RunOutcome) (hp : Small p) (hr : Small rec
       }
 
 -- Steps taken apart: none; and the first.
-none-left : {p recs : Bytes} {most type k : ℕ} {st shown st₁ : Bytes} {total : ℕ} → Through p recs most type zero k st shown total st₁
+none-left : {p recs : Bytes} {most type k : ℕ} {st shown st₁ : Bytes} {total m m₁ : ℕ} → Through p recs most type zero k st shown total m m₁ st₁
     → (shown ≡ []) × (total ≡ 0) × (st₁ ≡ st)
 none-left at-end = (refl, refl, refl)
 
-record OneLeft (p rec st : Bytes) (most type : ℕ) (shown : Bytes) (total : ℕ) (st₁ : Bytes) : Type 0 where
+record OneLeft (p rec st : Bytes) (most type k : ℕ) (shown : Bytes) (total m m₁ : ℕ) (st₁ : Bytes) : Type 0 where
   value : Value
+  left : Bool
   shows : shown ≡ valueBytes value
-  by-rules : ByRules p rec st most type value st₁ total
+  by-rules : ByRules p rec st most type value st₁ total left
+  after : m₁ ≡ markAfter m k left
 
-one-left : {p recs : Bytes} {most type k : ℕ} {st shown st₁ : Bytes} {total : ℕ} → Through p recs most type (suc zero) k st shown total st₁
-    → OneLeft p (inputAt recs k) st most type shown total st₁
-one-left (one-step {value = v} {work = w} e b at-end) =
+one-left : {p recs : Bytes} {most type k : ℕ} {st shown st₁ : Bytes} {total m m₁ : ℕ} → Through p recs most type (suc zero) k st shown total m m₁ st₁
+    → OneLeft p (inputAt recs k) st most type k shown total m m₁ st₁
+one-left (one-step {value = v} {work = w} {left = left} e b at-end) =
     let z : w + 0 ≡ w = omega arith in
-    record { value = v; shows = append-nil (valueBytes v); by-rules = rw z b }
+    record { value = v; left = left; shows = append-nil (valueBytes v); by-rules = rw z b; after = refl }
 
 -- One record.
 one-answered : (p st rec : Bytes) (answer : Ran) (st₁ out₁ : Bytes) (count most type : ℕ) → inputAt rec 0 ≡ rec
     → Finishes p st rec 1 answer st₁ out₁ count most type → Answers p st rec answer st₁ out₁ count most type
 one-answered p st rec answer st₁ out₁ count most type same f =
     let one = one-left (f .through) in
-    let b : ByRules p rec st most type (one .value) st₁ (f .work) = rw same at (one .by-rules) in
+    let b : ByRules p rec st most type (one .value) st₁ (f .work) (one .left) = rw same at (one .by-rules) in
     record {
       value = one .value;
       work = f .work;
+      mark = f .mark;
       finished = f .finished;
       shown = one .shows;
       valid = b .valid;
@@ -117,6 +121,7 @@ one-answered p st rec answer st₁ out₁ count most type same f =
       counted = b .counted;
       within = b .within;
       bounded = f .bounded;
+      marked = one .after ∙ ap (markAfter noStep 0) (sym (b .marked));
     }
 
 one-lent : (p st rec out : Bytes) → StepLent p st rec out → RunLent p st rec out 1

@@ -15,7 +15,7 @@ use Rattle.rules.specs.Typing.{typeS}
 use Rattle.rules.specs.Reset.{startState}
 use Rattle.rules.specs.WellFormed.{wellFormed}
 use Rattle.rules.specs.Bound.{bound}
-use Rattle.rules.specs.Calls.{checkCall}
+use Rattle.rules.specs.Calls.{checkCall, noStep}
 use Rattle.rules.specs.declared.Value.{Value}
 use Rattle.rules.specs.declared.Refusal.{Refusal}
 use Rattle.rules.specs.declared.Verdict.the-variants.{Fine}
@@ -27,11 +27,12 @@ use Rattle.rules.specs.declared.Ran.the-variants.{Finished}
 use Rattle.promises.specs.Valid.{Valid}
 use Rattle.promises.specs.Run.{runVerdict, workIn}
 use Rattle.published.specs.Steps.{Steps, sizeOf}
+use Rattle.published.specs.Marks.{leftOf}
 use Rattle.declarative.specs.Exactly.{Exactly}
 use Rattle.declarative.specs.Meets.{Meets}
 use Rattle.declarative.specs.MeetsTable.{MeetsTable}
 use Rattle.mission.specs.Lent.{StepLent, RunLent}
-use Rattle.mission.specs.Through.{Through}
+use Rattle.mission.specs.Through.{markAfter, markIn, Through}
 use Rattle.mission.specs.Faults.{Fault, StartFault, FirstOf}
 use Rattle.mission.specs.Refused.{RefusedRun}
 
@@ -69,20 +70,21 @@ pub record StartDemands (p st : Bytes) (answer : Started) (st₁ : Bytes) : Type
   pub starts : answer ≡ Ready → (st₁ ≡ startState p) × (wellFormed p st₁ ≡ true)
 
 -- How a run's steps go, whatever it is lent: so many steps by the rules, from the state lent to the state left; what they show stands in the
--- room, and behind it what was there; the answer counts their work. A run that is not refused has a step for each record.
+-- room, and behind it what was there; the answer counts their work and has the first in which a number wrapped. A run that is not refused has a step for each record.
 pub record StepsOf (p st recs out : Bytes) (answer : Ran) (st₁ out₁ : Bytes) : Type 0 where
   pub steps : ℕ
   pub shown : Bytes
-  pub through : Through p recs (bound p) (typeS (root p)) steps 0 st shown (workIn answer) st₁
+  pub through : Through p recs (bound p) (typeS (root p)) steps 0 st shown (workIn answer) noStep (markIn answer) st₁
   pub written : out₁ ≡ shown ++ drop (8 * steps) out
-  pub all-done : (s w : ℕ) → answer ≡ Finished s w
+  pub all-done : (s w m : ℕ) → answer ≡ Finished s w m
       → (runVerdict p st recs out ≡ Fine) × (s ≡ steps) × (steps ≡ length recs / inputLength)
 
 -- What demand 3 says of a run of so many records.
 pub record Finishes (p st recs : Bytes) (n : ℕ) (answer : Ran) (st₁ out₁ : Bytes) (count most type : ℕ) : Type 0 where
   pub work : ℕ
-  pub finished : answer ≡ Finished n work
-  pub through : Through p recs most type n 0 st out₁ work st₁
+  pub mark : ℕ
+  pub finished : answer ≡ Finished n work mark
+  pub through : Through p recs most type n 0 st out₁ work noStep mark st₁
   pub well : wellFormed p st₁ ≡ true
   pub long : length st₁ ≡ length st
   pub within : work ≤ n * most
@@ -93,7 +95,8 @@ pub record Answers (p st rec : Bytes) (answer : Ran) (st₁ out₁ : Bytes) (cou
   -- ".. the step answers with a value of the declared type ..
   pub value : Value
   pub work : ℕ
-  pub finished : answer ≡ Finished 1 work
+  pub mark : ℕ
+  pub finished : answer ≡ Finished 1 work mark
   pub shown : out₁ ≡ valueBytes value
   pub valid : Valid value
   pub typed : typeOf value ≡ type
@@ -106,12 +109,14 @@ pub record Answers (p st rec : Bytes) (answer : Ran) (st₁ out₁ : Bytes) (cou
   -- .. at most the bound worked out beforehand, itself at most N*(N+1)."
   pub within : work ≤ most
   pub bounded : most ≤ count * (count + 1)
+  -- .. and, by document 02's f, this mark: that some operation left the 32-bit range.
+  pub marked : mark ≡ markAfter noStep 0 (leftOf derived)
 
 -- Run: the contract of demands::run, by run-demands; fixed-run says that it fixes answer, state and output.
 pub record RunDemands (p st recs out : Bytes) (answer : Ran) (st₁ out₁ : Bytes) : Type 0 where
   -- 1. "It refuses with the first code that the rules give, and a refusal writes nothing; only a run keeps the whole steps done before the
   -- refused one."
-  pub refuses : (r : Refusal) (w : ℕ) → answer ≡ Ran.Refused r w → RefusedRun p st recs out r w st₁ out₁
+  pub refuses : (r : Refusal) (w m : ℕ) → answer ≡ Ran.Refused r w m → RefusedRun p st recs out r w m st₁ out₁
   -- 2. "The value and next state of each step are those its rules give, and no others."
   pub by-rules : StepsOf p st recs out answer st₁ out₁
   -- 3. "For any accepted program, well-formed state and well-formed record whose time doesn't go back, with an output room of 8 bytes .." (the

@@ -7,7 +7,7 @@ use native.Mathlib.Omega.{arith}
 use lib.Dec.{eqb}
 use Rattle.rules.proofs.Static.{and-both}
 use borrow.Author.Tests.{leb-true, eqb-true, eqb-false, eq-eqb, ne-eqb}
-use Rattle.rules.specs.Bytes.{Bytes, if_then_else_}
+use Rattle.rules.specs.Bytes.{Bytes, if_then_else_, _or_}
 use Rattle.rules.specs.Layout.{kindAt, bAt, cellsBefore, cell, held, hold, isClear, branchIn}
 use Rattle.rules.specs.Values.{unpacked, middleIn}
 use Rattle.rules.specs.Kinds.{isSignal}
@@ -34,7 +34,7 @@ use Rattle.outcomes.specs.declared.Event.{Event}
 use Rattle.outcomes.specs.declared.Event.the-variants.{Occurs, Quiet}
 use Rattle.outcomes.specs.declared.Parts.the-variants.{Maybe, Wrong}
 use Rattle.outcomes.proofs.Outcomes.{parts-here}
-use Rattle.moves.specs.Outcomes.{movedIn, calmOf}
+use Rattle.moves.specs.Outcomes.{countIn, tallyIn, movedIn, calmOf}
 use Rattle.moves.specs.Parts.{inSwitch, switched, inGroup}
 use Rattle.moves.specs.declared.Calm.the-variants.{Still, Broken}
 use Rattle.moves.proofs.OutcomeLaws.{then-still, then-broken}
@@ -129,8 +129,8 @@ pub branch-is : (st : Bytes) {k k′ m : ℕ} → m ≡ cell st k′ → k′ �
 unfolding branchIn
 branch-is st c q = rw (← q, ← c)
 
-one-rule : (st : Bytes) → Next st (record { work = 1 }) ≡ ruleᵘ (leave st)
-unfolding ruleᵘ afterᵘ oneRule _plus_ leave nothing
+one-rule : (st : Bytes) → Next st (record { work = 1; wrapped = false }) ≡ ruleᵘ (leave st)
+unfolding ruleᵘ afterᵘ oneRule _plus_ _or_ leave nothing
 one-rule st = refl
 
 module _ (p : Bytes) (i : ℕ) (w : NodeOf isSignal p i) {n : Node} (f : IsNode p i n) (rec : Bytes) (env : Env) (st : Bytes) where
@@ -297,7 +297,7 @@ module _ (p : Bytes) (i : ℕ) (w : NodeOf isSignal p i) (rec : Bytes) (env : En
 
   -- a kind up to 3, and any that is none of the others
   pub low-updates : {m : ℕ} → m ≡ kindAt p i → m ≤ 3 → moved (movedIn 1) st ≡ goS rec env (signalAt p i) st
-  unfolding isSignal moved movedIn
+  unfolding isSignal moved movedIn tallyIn countIn
   low-updates e u =
       let l = leb-true 1 (kindAt p i) (and-both _ _ (w .sorted) .0) in
       one-rule st ∙ three (eqb (kindAt p i) 1) (eqb (kindAt p i) 3) refl refl l (omega (arith, e))
@@ -305,7 +305,7 @@ module _ (p : Bytes) (i : ℕ) (w : NodeOf isSignal p i) (rec : Bytes) (env : En
   pub leaf-updates : {A : Type 0} {m : ℕ} → m ≡ kindAt p i
       → (((((A × (m ≡ 4 → ⊥)) × (m ≡ 5 → ⊥)) × (m ≡ 6 → ⊥)) × (m ≡ 7 → ⊥)) × (m ≡ 8 → ⊥))
       → moved (movedIn 1) st ≡ goS rec env (signalAt p i) st
-  unfolding isSignal moved movedIn
+  unfolding isSignal moved movedIn tallyIn countIn
   leaf-updates e r =
       let b = and-both _ _ (w .sorted) in
       let l = leb-true 1 (kindAt p i) (b .0) in

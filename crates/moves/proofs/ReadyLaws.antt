@@ -56,7 +56,7 @@ pub record Part (p : Bytes) (index : List ℕ) (s : ℕ) (e : Env) (i x : ℕ) :
   pub ready : Ready p index s e x
 
 -- The evaluation of a signal that is ready counts little.
-pub seen-small : {p : Bytes} {index : List ℕ} {s x : ℕ} {e : Env} → Ready p index s e x → boundS (signalAt p x) < 65535
+pub seen-small : {p : Bytes} {index : List ℕ} {s x : ℕ} {e : Env} → Ready p index s e x → boundS (signalAt p x) < 32767
 seen-small {p} {index} {s} {x} r = omega (arith, boundS≤ (signalAt p x), r .few)
 
 part : {p : Bytes} {index : List ℕ} {s i x y : ℕ} {e : Env} → x ≡ y → Part p index s e i y → Part p index s e i x

@@ -86,7 +86,7 @@ one-counted (until n s cs) = omega arith
 
 -- The sums, by the bound of the whole.
 module _ {p : Bytes} {index : List ℕ} {s i : ℕ} {e : Env} {n : Node} where
-  pub delay-sum : ReadyAs 4 p index s e i n → {u w : ℕ} → u ≤ boundS (signalAt p (n .a)) → w ≤ boundU (signalAt p (n .a)) → u + w < 1048575
+  pub delay-sum : ReadyAs 4 p index s e i n → {u w : ℕ} → u ≤ boundS (signalAt p (n .a)) → w ≤ boundU (signalAt p (n .a)) → u + w < 524287
   unfolding boundU
   delay-sum r h g =
       let b = ap boundU (delay-tree p i (r .ready .node) (r .kind)) in
@@ -95,7 +95,7 @@ module _ {p : Bytes} {index : List ℕ} {s i : ℕ} {e : Env} {n : Node} where
       omega (arith, r .ready .small)
 
   pub let-sum : ReadyAs 5 p index s e i n → {u w k : ℕ} → u ≤ boundS (signalAt p (n .a)) → w ≤ boundU (signalAt p (n .a)) → k ≤ boundU (signalAt p (n .b))
-      → u + w + k < 1048575
+      → u + w + k < 524287
   unfolding boundU
   let-sum r h g l =
       let b = ap boundU (let-tree p i (r .ready .node) (r .kind)) in
@@ -106,7 +106,7 @@ module _ {p : Bytes} {index : List ℕ} {s i : ℕ} {e : Env} {n : Node} where
 
   -- the part's count k is 0 where the switch catches
   pub switch-sum : ReadyAs 6 p index s e i n → {u w k : ℕ} → u ≤ boundS (signalAt p (n .b)) → w ≤ boundU (signalAt p (n .b))
-      → k ≤ max (boundU (signalAt p (aAt p i))) (boundU (signalAt p (cAt p i))) → u + w + k < 1048575
+      → k ≤ max (boundU (signalAt p (aAt p i))) (boundU (signalAt p (cAt p i))) → u + w + k < 524287
   unfolding boundU
   switch-sum r h g l =
       let b = ap boundU (switch-tree p i (r .ready .node) (r .kind)) in
@@ -114,7 +114,7 @@ module _ {p : Bytes} {index : List ℕ} {s i : ℕ} {e : Env} {n : Node} where
       let y = ap (λ (k : ℕ). boundU (signalAt p k)) (r .fields .b-is) in
       omega (arith, r .ready .small)
 
-  pub group-sum : ReadyAs 7 p index s e i n → {k : ℕ} → k ≤ boundU (signalAt p (n .a)) → k < 1048575
+  pub group-sum : ReadyAs 7 p index s e i n → {k : ℕ} → k ≤ boundU (signalAt p (n .a)) → k < 524287
   unfolding boundU
   group-sum r h =
       let b = ap boundU (group-tree p i (r .ready .node) (r .kind)) in
@@ -122,7 +122,7 @@ module _ {p : Bytes} {index : List ℕ} {s i : ℕ} {e : Env} {n : Node} where
       omega (arith, r .ready .small)
 
   pub branch-sum : ReadyAs 7 p index s e i n → {which : ℕ} {t : Bool} {m : Node} → t ≡ hasBranch which (branchesAt p (n .b)) → t ≡ true → IsNode p which m
-      → {k : ℕ} → k ≤ boundU (signalAt p (m .a)) → k < 1048575
+      → {k : ℕ} → k ≤ boundU (signalAt p (m .a)) → k < 524287
   unfolding boundU
   branch-sum r {which} h g q l =
       let b = ap boundU (group-tree p i (r .ready .node) (r .kind)) in
@@ -132,7 +132,7 @@ module _ {p : Bytes} {index : List ℕ} {s i : ℕ} {e : Env} {n : Node} where
       omega (arith, r .ready .small)
 
   -- an until by its walk alone, and by its walk and its signal
-  pub walk-sum : ReadyAs 8 p index s e i n → {u : ℕ} → u ≤ 1 + (boundSC (casesAt p (n .b)) + boundUC (casesAt p (n .b))) → u < 1048575
+  pub walk-sum : ReadyAs 8 p index s e i n → {u : ℕ} → u ≤ 1 + (boundSC (casesAt p (n .b)) + boundUC (casesAt p (n .b))) → u < 524287
   unfolding boundU
   walk-sum r h =
       let b = ap boundU (until-tree p i (r .ready .node) (r .kind)) in
@@ -140,7 +140,7 @@ module _ {p : Bytes} {index : List ℕ} {s i : ℕ} {e : Env} {n : Node} where
       let y = ap (λ (k : ℕ). boundUC (casesAt p k)) (r .fields .b-is) in
       omega (arith, r .ready .small, one-counted (signalAt p (aAt p i)))
 
-  pub until-sum : ReadyAs 8 p index s e i n → {u k : ℕ} → u ≤ boundSC (casesAt p (n .b)) + boundUC (casesAt p (n .b)) → k ≤ boundU (signalAt p (n .a)) → u + k < 1048575
+  pub until-sum : ReadyAs 8 p index s e i n → {u k : ℕ} → u ≤ boundSC (casesAt p (n .b)) + boundUC (casesAt p (n .b)) → k ≤ boundU (signalAt p (n .a)) → u + k < 524287
   unfolding boundU
   until-sum r h g =
       let b = ap boundU (until-tree p i (r .ready .node) (r .kind)) in
@@ -158,7 +158,7 @@ module _ {p : Bytes} {index : List ℕ} {s i : ℕ} {e : Env} {n : Node} where
       omega arith
 
   pub rest-sum : CaseAs p index s e i n → (n .b ≡ 65535 → ⊥) → {u k : ℕ} → u ≤ boundSC (casesAt p (n .b)) + boundUC (casesAt p (n .b)) → k ≤ boundU (signalAt p (n .a))
-      → u + k < 1048576
+      → u + k < 524288
   unfolding boundSC boundUC
   rest-sum r d h g =
       let t = case-on p i (r .ready .node) (λ q. d (r .fields .b-is ∙ q)) in

@@ -5,7 +5,7 @@ use mathlib.Core.Bool.{Bool, true, false}
 use Prim.Native.Nat.{ℕ, _+_, _-_, _≤_}
 use lib.Dec.{eqb}
 use native.Mathlib.Omega.{arith}
-use Rattle.rules.specs.Bytes.{Bytes, if_then_else_}
+use Rattle.rules.specs.Bytes.{Bytes, if_then_else_, _or_}
 use Rattle.rules.specs.Values.{isPlain, isMaybe, typeIn, presentIn, wordIn, valueFrom, unpacked}
 use Rattle.rules.specs.Layout.{kindAt, aAt, bAt, cAt}
 use Rattle.rules.specs.Kinds.{isSignal, isCase}
@@ -39,6 +39,7 @@ use Rattle.outcomes.specs.declared.Event.the-variants.{Occurs}
 use Rattle.outcomes.specs.declared.Parts.the-variants.{Maybe, Wrong}
 use Rattle.outcomes.specs.Outcome.{IsValue}
 use Rattle.outcomes.proofs.Outcomes.{take-value, parts-here}
+use Rattle.outcomes.proofs.Tallies.{same-tally, plus-assoc}
 use Rattle.moves.specs.Outcomes.{workOf, calmOf, walked, walkedOn, nextCases}
 use Rattle.moves.specs.declared.Calm.the-variants.{Still, Broken}
 use Rattle.moves.proofs.OutcomeLaws.{still-broken, broken-still}
@@ -57,15 +58,15 @@ zero-one e = omega (arith, e)
 -- Two counts, one after the other, and none.
 pub after-after : (u w : Tally) (X : Updated) → afterᵘ u (afterᵘ w X) ≡ afterᵘ (u plus w) X
 unfolding afterᵘ _plus_
-after-after u w (Next st x) = ap (λ (k : ℕ). Next st (record { work = k })) (let e : u .work + (w .work + x .work) ≡ u .work + w .work + x .work = omega arith in e)
+after-after u w (Next st x) = ap (Next st) (sym (plus-assoc u w x))
 after-after u w (Jump target v st x) =
-    ap (λ (k : ℕ). Jump target v st (record { work = k })) (let e : u .work + (w .work + x .work) ≡ u .work + w .work + x .work = omega arith in e)
+    ap (Jump target v st) (sym (plus-assoc u w x))
 after-after u w Halted = refl
 
-after-none : (X : Updated) → afterᵘ (record { work = 0 }) X ≡ X
-unfolding afterᵘ _plus_
-after-none (Next st w) = ap (λ (k : ℕ). Next st (record { work = k })) (let e : 0 + w .work ≡ w .work = omega arith in e)
-after-none (Jump target v st w) = ap (λ (k : ℕ). Jump target v st (record { work = k })) (let e : 0 + w .work ≡ w .work = omega arith in e)
+after-none : (X : Updated) → afterᵘ (record { work = 0; wrapped = false }) X ≡ X
+unfolding afterᵘ _plus_ _or_
+after-none (Next st w) = ap (Next st) (same-tally (omega arith) refl)
+after-none (Jump target v st w) = ap (Jump target v st) (same-tally (omega arith) refl)
 after-none Halted = refl
 
 -- No jump leaves the events.
@@ -258,7 +259,7 @@ module _ (p : Bytes) (j : ℕ) (k : NodeOf isCase p j) {n : Node} (f : IsNode p 
   pub last-on : n .b ≡ 65535 → (m : Moved) (st₁ : Bytes) → moved m st₁ ≡ goS rec env (signalAt p (n .a)) st
       → {y : Updated} → y ≡ stays (moved m st₁)
       → y ≡ walkedOn (walked rec env (nextCases p j) st) (λ s. stays (goS rec env (signalAt p (aAt p j)) s))
-  unfolding nextCases walked soonest goC onOccurrence afterᵘ leave nothing _plus_ walkedOn
+  unfolding nextCases walked soonest goC onOccurrence afterᵘ leave nothing _plus_ _or_ walkedOn
   last-on e m st₁ x y =
       y ∙ ap stays (rw (f .a-is) at x) ∙ sym (after-none (stays (goS rec env (signalAt p (aAt p j)) st)))
       ∙ rw (below-ge j noCase (casesAt p) (bAt p j) (omega (arith, f .b-is, k .inside, k .shaped .small)))

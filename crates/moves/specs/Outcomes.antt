@@ -1,7 +1,7 @@
 -- Outcomes of updates in place: what they have counted, whether they stay, and what a walk over cases leaves.
 -- Assumes nothing: these are definitions.
 use Prim.Native.Nat.{ℕ, _+_, _*_, _/_, _%_}
-use lib.Dec.{eqb, ltb}
+use lib.Dec.{eqb, ltb, leb}
 use Rattle.rules.specs.Bytes.{Bytes, if_then_else_}
 use Rattle.rules.specs.Values.{unpacked}
 use Rattle.rules.specs.Work.{Updated, Next, Jump, Halted, afterᵘ}
@@ -10,6 +10,7 @@ use Rattle.rules.specs.Tree.{Cases, noCase, below, casesAt}
 use Rattle.rules.specs.Evaluate.{Env}
 use Rattle.rules.specs.Update.{onOccurrence}
 use Rattle.current.specs.Current.{soonest, goC}
+use Rattle.rules.specs.declared.Tally.{Tally}
 use Rattle.rules.specs.declared.Moved.{Moved}
 use Rattle.rules.specs.declared.Moved.the-variants.{Stay}
 use Rattle.moves.specs.declared.Calm.{Calm}
@@ -27,10 +28,13 @@ calmOf (Stay w) = Still w
 calmOf (Moved.Jump target v w) = Broken
 calmOf Moved.Stuck = Broken
 
--- An outcome as one number: 0 is stuck; below 1,048,576 it stays, and the number is what was counted; else it jumps, with what was counted in
--- bits 0-19, the value's type in bits 20-21, the target in bits 22-31 and the value's word above.
+-- An outcome as one number: 0 is stuck; else what was counted in bits 0-19, the work in 0-18 (an update's bound is below 2 to the 19th) and the mark
+-- in 19. Below 1,048,576 it stays; else it jumps, with the value's type in bits 20-21, the target in bits 22-31 and the value's word above.
 unfoldable pub countIn : ℕ → ℕ
-countIn m = m % 1048576
+countIn m = m % 1048576 % 524288
+
+unfoldable pub tallyIn : ℕ → Tally
+tallyIn m = record { work = countIn m; wrapped = leb 524288 (m % 1048576) }
 
 unfoldable pub targetIn : ℕ → ℕ
 targetIn m = m / 4194304 % 1024
@@ -42,8 +46,8 @@ jumpValue m = m / 1048576 % 4 + 256 + 4294967296 * (m / 4294967296)
 unfoldable pub movedIn : ℕ → Moved
 movedIn m =
     if eqb m 0 then Moved.Stuck
-    else if ltb m 1048576 then Stay (record { work = m })
-    else Moved.Jump (targetIn m) (unpacked (jumpValue m)) (record { work = countIn m })
+    else if ltb m 1048576 then Stay (tallyIn m)
+    else Moved.Jump (targetIn m) (unpacked (jumpValue m)) (tallyIn m)
 
 -- The walk over the cases: the first present event, from the state as it was; where none is present, the events are updated.
 unfoldable pub walked : Bytes → Env → Cases → Bytes → Updated

@@ -6,10 +6,11 @@ ghost use lib.ListN.{length, getD};
 ghost use Rattle.rules.specs.Bytes.{Bytes};
 ghost use Rattle.rules.specs.Values.{isPlain, typeIn, unpacked};
 ghost use Rattle.rules.specs.Layout.{hold as holdIn, holdBranch};
-ghost use Rattle.rules.specs.Work.{Jump, moved, stays, leave, afterᵘ, ruleᵘ};
+ghost use Rattle.rules.specs.Work.{Jump, moved, stays, leave, noted, oneRule, _plus_, afterᵘ, ruleᵘ};
+ghost use Rattle.rules.specs.declared.Moved.the-variants.{Stay};
 ghost use Rattle.outcomes.specs.Outcome.{IsValue};
 ghost use Rattle.current.specs.Current.{shortly};
-ghost use Rattle.moves.specs.Outcomes.{countIn, targetIn, jumpValue, movedIn, calmOf};
+ghost use Rattle.moves.specs.Outcomes.{countIn, tallyIn, targetIn, jumpValue, movedIn, calmOf};
 ghost use Rattle.moves.specs.Lent.{Celled};
 use cells::number_of;
 use cells::set_cell;
@@ -34,7 +35,10 @@ pub fn settled(r: u64) -> Calm
         return Calm::Broken;
     }
     if r < 1048576 {
-        return Calm::Still(Tally { work: r });
+        return Calm::Still(Tally {
+            work: r % 524288,
+            wrapped: 524288 <= r,
+        });
     }
     Calm::Broken
 }
@@ -46,42 +50,79 @@ pub fn stay(r: u64) -> u64
     if r < 1048576 { r } else { 0 }
 }
 
+// The same outcome, with a number that wrapped in it.
+fn marked(r: u64) -> u64
+    requires { ⌜ 0 < r ⌝ }
+    ensures { λ s. ⌜ ((st : Bytes) → moved (movedIn s) st ≡ afterᵘ (noted true) (moved (movedIn r) st)) × (countIn s ≡ countIn r) ⌝ }
+{
+    if r % 1048576 < 524288 {
+        return r + 524288;
+    }
+    r
+}
+
 // An update after so much was counted.
 pub fn after(u: Tally, r: u64) -> u64
-    requires { ⌜ u .work + countIn r < 1048576 ⌝ }
+    requires { ⌜ u .work + countIn r < 524288 ⌝ }
     ensures { λ s. ⌜ ((st : Bytes) → moved (movedIn s) st ≡ afterᵘ u (moved (movedIn r) st)) × (countIn s ≤ u .work + countIn r) ⌝ }
 {
     if r == 0 {
         return 0;
     }
-    r + u.work
+    let s = r + u.work;
+    if u.wrapped {
+        return marked(s);
+    }
+    s
 }
 
 // By one more rule.
 pub fn ruled(r: u64) -> u64
-    requires { ⌜ countIn r < 1048575 ⌝ }
+    requires { ⌜ countIn r < 524287 ⌝ }
     ensures { λ s. ⌜ ((st : Bytes) → moved (movedIn s) st ≡ ruleᵘ (moved (movedIn r) st)) ⌝ }
 {
-    after(Tally { work: 1 }, r)
+    if r == 0 {
+        return 0;
+    }
+    r + 1
+}
+
+// Two counts together, and one rule.
+fn together(u: Tally, w: Tally) -> Tally
+    requires { ⌜ u .work + w .work < 524287 ⌝ }
+    ensures { λ t. ⌜ t ≡ oneRule plus (u plus w) ⌝ }
+{
+    Tally {
+        work: u.work + w.work + 1,
+        wrapped: u.wrapped | w.wrapped,
+    }
+}
+
+// What was counted, as a number of 20 bits.
+fn counted(u: Tally) -> u64
+    requires { ⌜ u .work < 524288 ⌝ }
+    ensures { λ r. ⌜ (tallyIn r ≡ u) × (u .work ≤ r) × (r < 1048576) ⌝ }
+{
+    if u.wrapped {
+        return u.work + 524288;
+    }
+    u.work
 }
 
 // By one more rule, after two counts.
 pub fn later(u: Tally, w: Tally, r: u64) -> u64
-    requires { ⌜ u .work + w .work + countIn r < 1048575 ⌝ }
+    requires { ⌜ u .work + w .work + countIn r < 524287 ⌝ }
     ensures { λ s. ⌜ ((st : Bytes) → moved (movedIn s) st ≡ ruleᵘ (afterᵘ u (afterᵘ w (moved (movedIn r) st)))) ⌝ }
 {
-    let both = Tally {
-        work: u.work + w.work + 1,
-    };
-    after(both, r)
+    after(together(u, w), r)
 }
 
 // An update that stays, by one rule and two counts.
 pub fn stayed(u: Tally, w: Tally) -> u64
-    requires { ⌜ u .work + w .work < 1048575 ⌝ }
+    requires { ⌜ u .work + w .work < 524287 ⌝ }
     ensures { λ s. ⌜ ((st : Bytes) → moved (movedIn s) st ≡ ruleᵘ (afterᵘ u (afterᵘ w (leave st)))) ⌝ }
 {
-    u.work + w.work + 1
+    counted(together(u, w))
 }
 
 // A node number as a 64-bit number.
@@ -100,24 +141,25 @@ fn short(target: usize) -> u64
 
 // A jump to a target with a plain value of 8 bytes, after so much was counted.
 pub fn jump(target: usize, v: u64, u: Tally) -> u64
-    requires { ⌜ IsValue v × (isPlain (typeIn v) ≡ true) × (u .work < 1048576) ⌝ }
+    requires { ⌜ IsValue v × (isPlain (typeIn v) ≡ true) × (u .work < 524288) ⌝ }
     ensures { λ s. ⌜ ((st : Bytes) → moved (movedIn s) st ≡ Jump (shortly target) (unpacked v) st u) ⌝ }
 {
     match unpack(v) {
         Value::Plain(t, w) => {
             let high = 4194304 * short(target) + 4294967296 * wide_word(w);
-            u.work + 1048576 * wide(t) + high
+            counted(u) + 1048576 * wide(t) + high
         }
         Value::Absent(_) => 0,
         Value::Present(_, _) => 0,
     }
 }
 
-// What an update has counted.
-pub fn count_in(r: u64) -> u64
-    ensures { λ k. ⌜ k ≡ countIn r ⌝ }
+// What a jump has counted, by one more rule, as an update that stays.
+pub fn caught(r: u64) -> u64
+    requires { ⌜ countIn r < 524287 ⌝ }
+    ensures { λ k. ⌜ (movedIn k ≡ Stay (oneRule plus tallyIn r)) ⌝ }
 {
-    r % 1048576
+    r % 1048576 + 1
 }
 
 // The target of a jump.

@@ -2,16 +2,16 @@
 -- Assumes nothing.
 use mathlib.Core.Path.{_≡_, refl, ap, sym, _∙_}
 use mathlib.Core.Bool.{Bool, true, false}
-use Prim.Native.Nat.{ℕ, _+_, _-_, _<_, _≤_}
+use Prim.Native.Nat.{ℕ, _+_, _-_, _%_, _<_, _≤_}
 use native.Mathlib.Omega.{arith}
-use lib.Dec.{eqb}
-use borrow.Author.Tests.{leb-true, le-leb, lt-leb, eqb-true, eq-eqb, ne-eqb}
-use Rattle.rules.specs.Bytes.{if_then_else_, _and_}
+use lib.Dec.{eqb, leb}
+use borrow.Author.Tests.{leb-true, leb-false, le-leb, lt-leb, eqb-true, eq-eqb, ne-eqb}
+use Rattle.rules.specs.Bytes.{if_then_else_, _and_, _or_}
 use Rattle.rules.specs.Values.{boolT, maybeOf, isPlain, isMaybe, valueFrom, packed, unpacked, typeIn, presentIn, middleIn, wordIn}
 use Rattle.rules.specs.Words.{quotientOf}
-use Rattle.rules.specs.Operations.{truth, isTrue, operandType, numberOf, truthOf, meaning}
-use Rattle.rules.specs.Work.{nothing, oneRule, _plus_, give, after, rule}
-use Rattle.rules.specs.Evaluate.{plainWord, opened, onWords, operate, operated, notOf, negated, justOf, lifted}
+use Rattle.rules.specs.Operations.{truth, isTrue, operandType, numberOf, truthOf, meaning, leavesRange}
+use Rattle.rules.specs.Work.{nothing, noted, oneRule, _plus_, give, after, rule}
+use Rattle.rules.specs.Evaluate.{plainWord, opened, meant, onWords, operate, operated, notOf, negated, justOf, lifted}
 use Rattle.rules.specs.declared.Value.{Value}
 use Rattle.rules.specs.declared.Value.the-variants.{Plain, Absent, Present}
 use Rattle.rules.specs.declared.Tally.{Tally}
@@ -21,13 +21,14 @@ use Rattle.rules.specs.declared.Evaluated.{Evaluated}
 use Rattle.rules.specs.declared.Evaluated.the-variants.{Done, Stuck}
 use Rattle.rules.proofs.Static.{and-both}
 use Rattle.rules.proofs.Round.{plain-no}
-use Rattle.outcomes.specs.Combine.{workOf, wordBy, armBy, armOf, partsBy, partsOf}
-use Rattle.outcomes.specs.Outcome.{outcomeIn, IsProper}
+use Rattle.outcomes.specs.Combine.{countOf, workOf, wordBy, armBy, armOf, partsBy, partsOf}
+use Rattle.outcomes.specs.Outcome.{tallyIn, outcomeIn, IsProper}
 use Rattle.outcomes.specs.declared.Arm.the-variants.{Go, Neither}
 use Rattle.outcomes.specs.declared.Event.the-variants.{Occurs, Quiet}
 use Rattle.outcomes.specs.declared.Parts.the-variants.{Maybe, Wrong}
+use Rattle.outcomes.proofs.Tallies.{same-tally, or-no, or-yes, more-tally, no-more, plus-assoc}
 use Rattle.outcomes.proofs.Numbers.{plain-in, proper-present}
-use Rattle.outcomes.proofs.Counted.{Gives, gives-stuck, outcome-done, outcome-stuck, work-is}
+use Rattle.outcomes.proofs.Counted.{Gives, gives-stuck, outcome-done, outcome-stuck, count-is, work-is, middle-small}
 
 pub plain-most : (t : ℕ) → isPlain t ≡ true → t ≤ 3
 unfolding isPlain
@@ -55,7 +56,7 @@ word-of : (t m : ℕ) → plainWord t (unpacked m) ≡ wordBy t (outcomeIn m)
 unfolding wordBy plainWord outcomeIn
 word-of t m = go (eqb m 0) refl
   where
-    go : (b : Bool) → eqb m 0 ≡ b → plainWord t (unpacked m) ≡ wordBy t (if b then Stuck else Done (unpacked m) (record { work = middleIn m }))
+    go : (b : Bool) → eqb m 0 ≡ b → plainWord t (unpacked m) ≡ wordBy t (if b then Stuck else Done (unpacked m) (tallyIn (middleIn m)))
     go true e = ap (λ (n : ℕ). plainWord t (unpacked n)) (eqb-true m 0 e) ∙ ap (plainWord t) nothing-in
     go false e = refl
 
@@ -76,10 +77,42 @@ module _ (t m : ℕ) {v : Value} (d : v ≡ unpacked m) where
   unfolding plainWord
   word-present e = rw (← word-of t m, ← d, e)
 
--- What an operation means, by its kind.
+-- The result of an operation, after so much was counted.
+pub result-gives : (k x y : ℕ) (w : Tally) {m : ℕ} {v : Value} {l : Bool} → v ≡ meaning k x y → l ≡ leavesRange k x y
+    → Gives m (after w (Done v (noted l))) → Gives m (after w (meant k x y))
+unfolding meant
+result-gives k x y w e f d = (d .0 ∙ (λ i. after w (Done (e i) (noted (f i)))), d .1)
+
+-- A value with what was counted, marked or not.
+pub if-left : {o m : ℕ} {v : Value} {w : Tally} {l : Bool} → l ≡ true → Gives o (Done v w) → Gives m (after (noted true) (outcomeIn o))
+    → Gives m (after w (Done v (noted l)))
+unfolding after noted _plus_ _or_
+if-left {v = v} {w} e f d =
+    (d .0 ∙ rw (f .0, e) (ap (λ (x : Tally). Done v x) (same-tally (omega arith) (sym (or-yes (w .wrapped))))), d .1)
+
+pub if-not-left : {m : ℕ} {v : Value} {w : Tally} {l : Bool} → l ≡ false → Gives m (Done v w) → Gives m (after w (Done v (noted l)))
+unfolding after noted _plus_
+if-not-left {v = v} {w} e d =
+    (d .0 ∙ rw e (ap (λ (x : Tally). Done v x) (same-tally (omega arith) (sym (or-no (w .wrapped))))), d .1)
+
+-- What an operation means, by its kind, and that a test does not leave the range.
+pub stays-in-range : (k x y : ℕ) → 20 < k → (k ≡ 21 → ⊥) → false ≡ leavesRange k x y
+unfolding leavesRange _and_
+stays-in-range k x y h n = rw (lt-leb k 21 (above k h n))
+  where
+    above : (k : ℕ) → 20 < k → (k ≡ 21 → ⊥) → 21 < k
+    above k h n = go _ refl
+      where
+        go : (b : Bool) → leb k 21 ≡ b → 21 < k
+        go true e = absurd (n (let l : k ≤ 21 = leb-true _ _ e in omega arith))
+        go false e = leb-false _ _ e
+
 pub means-number : (k x y : ℕ) {n : ℕ} → k ≤ 20 → n ≡ numberOf k x y → Plain 3 n ≡ meaning k x y
 unfolding meaning
 means-number k x y h e = rw e (simp (le-leb k 20 h))
+
+pub left-as : {k : ℕ} (x y : ℕ) → k ≡ 21 → leavesRange k x y ≡ leavesRange 21 x y
+left-as x y e = ap (λ (n : ℕ). leavesRange n x y) e
 
 pub means-quotient : (k x y : ℕ) → k ≡ 21 → quotientOf x y ≡ meaning k x y
 unfolding meaning
@@ -99,29 +132,60 @@ unfolding operandType
 takes-bools k h = simp (lt-leb k 23 h)
 
 -- A combinator of one outcome or two, by their words and what they counted.
-abbrev counted : ℕ → Tally
-counted n = record { work = n }
-
 operated-by : (k : ℕ) (r s : Evaluated)
-    → operated k r s ≡ after (counted (workOf r + workOf s)) (onWords (meaning k) (wordBy (operandType k) r) (wordBy (operandType k) s))
-unfolding operated operate wordBy onWords after _plus_
+    → operated k r s ≡ after (countOf r plus countOf s) (onWords (meant k) (wordBy (operandType k) r) (wordBy (operandType k) s))
+unfolding operated operate wordBy onWords after
 operated-by k (Done u x) (Done v y) = refl
 operated-by k (Done u x) Stuck = go (plainWord (operandType k) u)
   where
-    go : (a : Word) → Stuck ≡ after (counted (x .work + 0)) (onWords (meaning k) a Not)
+    go : (a : Word) → Stuck ≡ after (x plus nothing) (onWords (meant k) a Not)
     go (Is a) = refl
     go Not = refl
 operated-by k Stuck s = refl
 
-negated-by : (r : Evaluated) → negated r ≡ after (counted (workOf r)) (notOf (wordBy boolT r))
+negated-by : (r : Evaluated) → negated r ≡ after (countOf r) (notOf (wordBy boolT r))
 unfolding negated notOf wordBy after
 negated-by (Done u x) = refl
 negated-by Stuck = refl
 
-arm-by-word : (r : Evaluated) (yes₀ no₀ : ℕ) → armOf r yes₀ no₀ ≡ armBy (wordBy boolT r) (counted (workOf r)) yes₀ no₀
+arm-by-word : (r : Evaluated) (yes₀ no₀ : ℕ) → armOf r yes₀ no₀ ≡ armBy (wordBy boolT r) (countOf r) yes₀ no₀
 unfolding armOf armBy wordBy
 arm-by-word (Done u x) yes₀ no₀ = refl
 arm-by-word Stuck yes₀ no₀ = refl
+
+-- One more rule, after what an outcome counted.
+one-more : (r : ℕ) → workOf (outcomeIn r) < 32767 → tallyIn (middleIn r + 1) ≡ oneRule plus (countOf (outcomeIn r) plus nothing)
+unfolding oneRule
+one-more r l =
+    more-tally (middleIn r) 1 (omega (arith, work-is r)) (middle-small r)
+    ∙ ap (λ (w : Tally). oneRule plus w) (sym (no-more (countOf (outcomeIn r)) ∙ count-is r))
+
+-- What two outcomes counted together leaves room for one rule.
+few-counted : (r s c : ℕ) {i j : ℕ} → workOf (outcomeIn r) + workOf (outcomeIn s) < 32767 → i ≡ middleIn r → j ≡ middleIn s
+    → tallyIn c ≡ tallyIn i plus tallyIn j → c % 32768 < 32767
+unfolding tallyIn _plus_
+few-counted r s c {i} {j} l p q t =
+    let e : c % 32768 ≡ i % 32768 + j % 32768 = ap (λ (w : Tally). w .work) t in
+    omega (arith, work-is r, work-is s)
+
+-- An operation on two outcomes that have its words: its result, after what they counted together and one rule.
+pub operated-done : (k r s : ℕ) {a b i j c m : ℕ} → wordBy (operandType k) (outcomeIn r) ≡ Is a → wordBy (operandType k) (outcomeIn s) ≡ Is b
+    → workOf (outcomeIn r) + workOf (outcomeIn s) < 32767 → i ≡ middleIn r → j ≡ middleIn s → tallyIn c ≡ tallyIn i plus tallyIn j → c < 65535
+    → Gives m (after (tallyIn (c + 1)) (meant k a b)) → Gives m (rule (operated k (outcomeIn r) (outcomeIn s)))
+unfolding rule after onWords meant
+operated-done k r s {a} {b} {i} {j} {c} f g l p q t h d =
+    let both : tallyIn c ≡ countOf (outcomeIn r) plus countOf (outcomeIn s) = t ∙ rw (p, q, ← count-is r, ← count-is s) in
+    let few : c % 32768 < 32767 = few-counted r s c l p q t in
+    let more : tallyIn (c + 1) ≡ oneRule plus tallyIn c = unfold oneRule in more-tally c 1 (omega arith) (omega arith) in (
+      d .0
+          ∙ rw (operated-by k (outcomeIn r) (outcomeIn s), f, g, more, both)
+          (ap (λ (x : Tally). Done (meaning k a b) x) (plus-assoc oneRule (countOf (outcomeIn r) plus countOf (outcomeIn s)) (noted (leavesRange k a b)))),
+      d .1,
+    )
+
+-- The word of an outcome by the type that an operation takes.
+pub word-by : (k m : ℕ) {t a : ℕ} {x : Word} → operandType k ≡ t → x ≡ wordBy t (outcomeIn m) → x ≡ Is a → wordBy (operandType k) (outcomeIn m) ≡ Is a
+word-by k m e f h = rw (e, ← f) h
 
 module _ (k r s : ℕ) {t : ℕ} {x y : Word} (e : t ≡ operandType k) (f : x ≡ wordBy t (outcomeIn r)) (g : y ≡ wordBy t (outcomeIn s)) where
   pub operated-left : x ≡ Not → Gives 0 (rule (operated k (outcomeIn r) (outcomeIn s)))
@@ -132,34 +196,26 @@ module _ (k r s : ℕ) {t : ℕ} {x y : Word} (e : t ≡ operandType k) (f : x �
   unfolding rule after onWords
   operated-right h i = gives-stuck (rw (operated-by k (outcomeIn r) (outcomeIn s), ← e, ← f, h, ← g, i))
 
-  pub operated-done : {a b i j m : ℕ} {v : Value} → x ≡ Is a → y ≡ Is b → v ≡ meaning k a b → i ≡ middleIn r → j ≡ middleIn s
-      → Gives m (Done v (counted (i + j + 1))) → Gives m (rule (operated k (outcomeIn r) (outcomeIn s)))
-  unfolding rule oneRule after onWords give nothing _plus_
-  operated-done {i = i} {j = j} h l q u w d =
-      let n : i + j + 1 ≡ 1 + ((workOf (outcomeIn r) + workOf (outcomeIn s)) + 0) = omega (arith, work-is r, work-is s) in
-      (d .0 ∙ rw (operated-by k (outcomeIn r) (outcomeIn s), ← e, ← f, h, ← g, l, q, n), d .1)
-
 module _ (r : ℕ) {x : Word} (f : x ≡ wordBy boolT (outcomeIn r)) where
   pub negated-none : x ≡ Not → Gives 0 (rule (negated (outcomeIn r)))
   unfolding rule after notOf
   negated-none h = gives-stuck (rw (negated-by (outcomeIn r), ← f, h))
 
-  negated-done : {a i m n : ℕ} → x ≡ Is a → truth (eqb a 0) ≡ Plain boolT n → i ≡ middleIn r
-      → Gives m (Done (Plain boolT n) (counted (i + 1))) → Gives m (rule (negated (outcomeIn r)))
-  unfolding rule oneRule after notOf give nothing _plus_
-  negated-done {i = i} h q u d =
-      let n : i + 1 ≡ 1 + (workOf (outcomeIn r) + 0) = omega (arith, work-is r) in
-      (d .0 ∙ rw (negated-by (outcomeIn r), ← f, h, q, n), d .1)
+  negated-done : {a i m n : ℕ} → x ≡ Is a → truth (eqb a 0) ≡ Plain boolT n → i ≡ middleIn r → workOf (outcomeIn r) < 32767
+      → Gives m (Done (Plain boolT n) (tallyIn (i + 1))) → Gives m (rule (negated (outcomeIn r)))
+  unfolding rule after notOf give
+  negated-done {n = n} h q u l d =
+      (d .0 ∙ rw (negated-by (outcomeIn r), ← f, h, q, u) (ap (λ (x : Tally). Done (Plain boolT n) x) (one-more r l)), d .1)
 
-  pub negated-false : {a i m : ℕ} → x ≡ Is a → a ≡ 0 → i ≡ middleIn r
-      → Gives m (Done (Plain boolT 1) (counted (i + 1))) → Gives m (rule (negated (outcomeIn r)))
+  pub negated-false : {a i m : ℕ} → x ≡ Is a → a ≡ 0 → i ≡ middleIn r → workOf (outcomeIn r) < 32767
+      → Gives m (Done (Plain boolT 1) (tallyIn (i + 1))) → Gives m (rule (negated (outcomeIn r)))
   unfolding truth
-  negated-false h z u d = negated-done h (simp (eq-eqb _ _ z)) u d
+  negated-false h z u l d = negated-done h (simp (eq-eqb _ _ z)) u l d
 
-  pub negated-true : {a i m : ℕ} → x ≡ Is a → (a ≡ 0 → ⊥) → i ≡ middleIn r
-      → Gives m (Done (Plain boolT 0) (counted (i + 1))) → Gives m (rule (negated (outcomeIn r)))
+  pub negated-true : {a i m : ℕ} → x ≡ Is a → (a ≡ 0 → ⊥) → i ≡ middleIn r → workOf (outcomeIn r) < 32767
+      → Gives m (Done (Plain boolT 0) (tallyIn (i + 1))) → Gives m (rule (negated (outcomeIn r)))
   unfolding truth
-  negated-true h z u d = negated-done h (simp (ne-eqb _ _ z)) u d
+  negated-true h z u l d = negated-done h (simp (ne-eqb _ _ z)) u l d
 
 -- The arm, by the word of the test.
 module _ (r yes₀ no₀ : ℕ) {x : Word} (f : x ≡ wordBy boolT (outcomeIn r)) where
@@ -167,13 +223,13 @@ module _ (r yes₀ no₀ : ℕ) {x : Word} (f : x ≡ wordBy boolT (outcomeIn r)
   unfolding armBy
   arm-neither h = rw (arm-by-word (outcomeIn r) yes₀ no₀, ← f, h)
 
-  pub arm-first : {a i : ℕ} → x ≡ Is a → a ≡ 1 → i ≡ middleIn r → Go yes₀ (counted i) ≡ armOf (outcomeIn r) yes₀ no₀
+  pub arm-first : {a : ℕ} {w : Tally} → x ≡ Is a → a ≡ 1 → w ≡ tallyIn (middleIn r) → Go yes₀ w ≡ armOf (outcomeIn r) yes₀ no₀
   unfolding armBy isTrue
-  arm-first h z u = rw (arm-by-word (outcomeIn r) yes₀ no₀, ← f, h, eq-eqb _ _ z, work-is r, u)
+  arm-first h z u = rw (arm-by-word (outcomeIn r) yes₀ no₀, ← f, h, eq-eqb _ _ z, count-is r, u)
 
-  pub arm-second : {a i : ℕ} → x ≡ Is a → (a ≡ 1 → ⊥) → i ≡ middleIn r → Go no₀ (counted i) ≡ armOf (outcomeIn r) yes₀ no₀
+  pub arm-second : {a : ℕ} {w : Tally} → x ≡ Is a → (a ≡ 1 → ⊥) → w ≡ tallyIn (middleIn r) → Go no₀ w ≡ armOf (outcomeIn r) yes₀ no₀
   unfolding armBy isTrue
-  arm-second h z u = rw (arm-by-word (outcomeIn r) yes₀ no₀, ← f, h, ne-eqb _ _ z, work-is r, u)
+  arm-second h z u = rw (arm-by-word (outcomeIn r) yes₀ no₀, ← f, h, ne-eqb _ _ z, count-is r, u)
 
 -- Just, by the type.
 pub lifted-no : (r : ℕ) → isPlain (typeIn r) ≡ false → Gives 0 (rule (lifted (outcomeIn r)))
@@ -184,19 +240,21 @@ lifted-no r e = gives-stuck (simp e (go (eqb r 0) (eqb (presentIn r) 0)))
         → rule
         (lifted
         (if z then Stuck
-        else Done (if q then Absent (typeIn r) else Present (typeIn r) (wordIn r)) (record { work = middleIn r })))
+        else Done (if q then Absent (typeIn r) else Present (typeIn r) (wordIn r)) (tallyIn (middleIn r))))
         ≡ Stuck
     go true q = refl
     go false true = refl
     go false false = refl
 
-pub lifted-yes : (r : ℕ) {t w i m : ℕ} → t ≡ typeIn r → isPlain t ≡ true → w ≡ wordIn r → i ≡ middleIn r
-    → Gives m (Done (Present (t + 4) w) (counted (i + 1))) → Gives m (rule (lifted (outcomeIn r)))
-unfolding rule oneRule after lifted justOf give nothing maybeOf _plus_
-lifted-yes r {t} {w} {i} {m} e p g u d =
+pub lifted-yes : (r : ℕ) {t w i m : ℕ} → t ≡ typeIn r → isPlain t ≡ true → w ≡ wordIn r → i ≡ middleIn r → workOf (outcomeIn r) < 32767
+    → Gives m (Done (Present (t + 4) w) (tallyIn (i + 1))) → Gives m (rule (lifted (outcomeIn r)))
+unfolding rule after lifted justOf give maybeOf
+lifted-yes r {t} {w} {i} {m} e p g u l d =
     let q : isPlain (typeIn r) ≡ true = rw (← e) p in
-    let n : i + 1 ≡ 1 + (middleIn r + 0) = omega arith in
-    (d .0 ∙ rw (outcome-done r (plain-some r q), plain-in r q, q, e, g, n), d .1)
+    let more = one-more r l ∙ ap (λ (x : Tally). oneRule plus (x plus nothing)) (count-is r) in (
+      d .0 ∙ rw (outcome-done r (plain-some r q), plain-in r q, q, e, g, u) (ap (λ (x : Tally). Done (Present (typeIn r + 4) (wordIn r)) x) more),
+      d .1,
+    )
 
 pub lifted-proper : (t w : ℕ) → isPlain t ≡ true → IsProper (Present (t + 4) w)
 lifted-proper t w p =
@@ -210,21 +268,21 @@ module _ (r : ℕ) where
   unfolding partsOf
   parts-stuck z = rw (z, outcome-stuck)
 
-  module _ (n : r ≡ 0 → ⊥) {v : Value} (d : v ≡ unpacked r) {i : ℕ} (u : i ≡ middleIn r) where
-    parts-by : partsBy (opened v) (counted i) ≡ partsOf (outcomeIn r)
+  module _ (n : r ≡ 0 → ⊥) {v : Value} (d : v ≡ unpacked r) {c : Tally} (u : c ≡ tallyIn (middleIn r)) where
+    parts-by : partsBy (opened v) c ≡ partsOf (outcomeIn r)
     unfolding partsOf
     parts-by = rw (outcome-done r n, d, u)
 
     pub parts-plain : {t w : ℕ} → v ≡ Plain t w → Wrong ≡ partsOf (outcomeIn r)
     unfolding partsBy opened
-    parts-plain e = ap (λ (x : Value). partsBy (opened x) (counted i)) (sym e) ∙ parts-by
+    parts-plain e = ap (λ (x : Value). partsBy (opened x) c) (sym e) ∙ parts-by
 
-    pub parts-quiet : {t : ℕ} → v ≡ Absent t → Maybe Quiet (counted i) ≡ partsOf (outcomeIn r)
+    pub parts-quiet : {t : ℕ} → v ≡ Absent t → Maybe Quiet c ≡ partsOf (outcomeIn r)
     unfolding partsBy opened
-    parts-quiet e = ap (λ (x : Value). partsBy (opened x) (counted i)) (sym e) ∙ parts-by
+    parts-quiet e = ap (λ (x : Value). partsBy (opened x) c) (sym e) ∙ parts-by
 
     pub parts-occurs : {t w m : ℕ} → v ≡ Present t w → isMaybe t ≡ true → m ≡ packed (Plain (t - 4) w)
-        → Maybe (Occurs m) (counted i) ≡ partsOf (outcomeIn r)
+        → Maybe (Occurs m) c ≡ partsOf (outcomeIn r)
     unfolding partsBy opened
     parts-occurs e b f = rw (← parts-by, e, b, f)
 

@@ -25,7 +25,7 @@ use Rattle.rules.proofs.Round.{plain-yes}
 use Rattle.rules.proofs.Static.{and-both}
 use Rattle.rules.proofs.Within.{Within}
 use Rattle.outcomes.specs.Combine.{workOf, armBy, armOf, partsBy, partsOf}
-use Rattle.outcomes.specs.Outcome.{IsValue, IsProper, outcomeIn, IsOutcome, valueIn, shownIn}
+use Rattle.outcomes.specs.Outcome.{IsValue, IsProper, tallyIn, outcomeIn, IsOutcome, valueIn, shownIn}
 use Rattle.outcomes.specs.declared.Arm.the-variants.{Go, Neither}
 use Rattle.outcomes.specs.declared.Event.{Event}
 use Rattle.outcomes.specs.declared.Event.the-variants.{Occurs, Quiet}
@@ -227,12 +227,12 @@ value-stuck : {v : ℕ} {u : Tally} → Shown.Value v u ≡ Shown.Stuck → ⊥
 value-stuck e = let z : _≡_ {A = ℕ} 0 1 = cc in omega arith
 
 -- by its number: 0, or another
-shown-some : (m : ℕ) {v : ℕ} {u : Tally} → shownIn m ≡ Shown.Value v u → ((m ≡ 0 → ⊥) × (v ≡ valueIn m)) × (u ≡ record { work = middleIn m })
+shown-some : (m : ℕ) {v : ℕ} {u : Tally} → shownIn m ≡ Shown.Value v u → ((m ≡ 0 → ⊥) × (v ≡ valueIn m)) × (u ≡ tallyIn (middleIn m))
 unfolding shownIn
 shown-some m {v} {u} h = go (eqb m 0) refl h
   where
-    go : (b : Bool) → eqb m 0 ≡ b → (if b then Shown.Stuck else Shown.Value (valueIn m) (record { work = middleIn m })) ≡ Shown.Value v u
-        → ((m ≡ 0 → ⊥) × (v ≡ valueIn m)) × (u ≡ record { work = middleIn m })
+    go : (b : Bool) → eqb m 0 ≡ b → (if b then Shown.Stuck else Shown.Value (valueIn m) (tallyIn (middleIn m))) ≡ Shown.Value v u
+        → ((m ≡ 0 → ⊥) × (v ≡ valueIn m)) × (u ≡ tallyIn (middleIn m))
     go true e g = absurd (stuck-value g)
     go false e g = ((eqb-false m 0 e, cc), cc)
 
@@ -245,13 +245,14 @@ pub shown-exact : (m : ℕ) {v : ℕ} {u : Tally} → IsOutcome m → shownIn m 
 shown-exact m e h = let g = shown-some m h in rw (g .0 .1) (value-exact m (g .0 .0) e)
 
 pub shown-work : (m : ℕ) {v : ℕ} {u : Tally} → shownIn m ≡ Shown.Value v u → u .work ≡ workOf (outcomeIn m)
+unfolding tallyIn
 shown-work m h = let g = shown-some m h in ap (λ (t : Tally). t .work) (g .1) ∙ sym (work-is m)
 
 pub shown-stuck : (m : ℕ) → shownIn m ≡ Shown.Stuck → outcomeIn m ≡ Stuck
 unfolding shownIn outcomeIn
 shown-stuck m h = go (eqb m 0) h
   where
-    go : (b : Bool) → (if b then Shown.Stuck else Shown.Value (valueIn m) (record { work = middleIn m })) ≡ Shown.Stuck
-        → (if b then Stuck else Done (unpacked m) (record { work = middleIn m })) ≡ Stuck
+    go : (b : Bool) → (if b then Shown.Stuck else Shown.Value (valueIn m) (tallyIn (middleIn m))) ≡ Shown.Stuck
+        → (if b then Stuck else Done (unpacked m) (tallyIn (middleIn m))) ≡ Stuck
     go true e = refl
     go false e = absurd (value-stuck e)

@@ -4,6 +4,7 @@ use Prim.Native.Nat.{ℕ}
 use Rattle.rules.specs.Bytes.{if_then_else_}
 use Rattle.rules.specs.Values.{boolT, packed}
 use Rattle.rules.specs.Operations.{isTrue}
+use Rattle.rules.specs.Work.{nothing}
 use Rattle.rules.specs.Evaluate.{plainWord, opened}
 use Rattle.rules.specs.declared.Tally.{Tally}
 use Rattle.rules.specs.declared.Word.{Word}
@@ -19,7 +20,11 @@ use Rattle.outcomes.specs.declared.Event.the-variants.{Occurs, Quiet}
 use Rattle.outcomes.specs.declared.Parts.{Parts}
 use Rattle.outcomes.specs.declared.Parts.the-variants.{Maybe, Wrong}
 
--- What an outcome has counted; nothing where it is stuck.
+-- What an outcome has counted, and its work; nothing where it is stuck.
+abbrev pub countOf : Evaluated → Tally
+countOf (Done v w) = w
+countOf Stuck = nothing
+
 abbrev pub workOf : Evaluated → ℕ
 workOf (Done v w) = w .work
 workOf Stuck = 0

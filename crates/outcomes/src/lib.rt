@@ -1,13 +1,15 @@
 // The combinators of evaluation on outcomes that are one number each: the rules' small functions once, none of them recursive.
 ghost use mathlib.Core.Path.{_≡_};
+ghost use mathlib.Core.Bool.{true};
 ghost use Prim.Native.Nat.{_+_, _*_, _<_};
 ghost use Rattle.rules.specs.Values.{boolT, intT, valueFrom, packed, unpacked, middleIn};
-ghost use Rattle.rules.specs.Operations.{operandType, meaning};
-ghost use Rattle.rules.specs.Work.{give, after as afterOf, rule};
-ghost use Rattle.rules.specs.Evaluate.{look as lookOf, operated as operatedOf, negated as negatedOf, lifted as liftedOf};
+ghost use Rattle.rules.specs.Operations.{operandType};
+ghost use Rattle.rules.specs.Work.{noted, _plus_, give, after as afterOf, rule};
+ghost use Rattle.rules.specs.Evaluate.{look as lookOf, meant, operated as operatedOf, negated as negatedOf, lifted as liftedOf};
+ghost use Rattle.rules.specs.declared.Word.the-variants.{Is};
 ghost use Rattle.rules.specs.declared.Evaluated.the-variants.{Done};
 ghost use Rattle.outcomes.specs.Combine.{workOf, wordBy, armOf as armIn, partsOf};
-ghost use Rattle.outcomes.specs.Outcome.{outcomeIn, IsOutcome, IsProper, Slots, valueIn, shownIn};
+ghost use Rattle.outcomes.specs.Outcome.{tallyIn, outcomeIn, IsOutcome, IsProper, Slots, valueIn, shownIn};
 use rules::BOOL;
 use rules::INT;
 use rules::MAYBE;
@@ -23,6 +25,7 @@ use values::unpack;
 use values::word_in;
 use words::divide;
 use words::number;
+use words::quotient_left;
 use words::test;
 
 // The arm that an if evaluates, with what its test counted.
@@ -49,11 +52,36 @@ pub enum Shown {
     Stuck,
 }
 
-// What was counted.
-pub fn work_in(m: u64) -> u64
-    ensures { λ r. ⌜ r ≡ middleIn m ⌝ }
+// What was counted, as a number of 16 bits.
+fn counted_in(m: u64) -> u64
+    ensures { λ r. ⌜ (r ≡ middleIn m) × (r < 65536) ⌝ }
 {
     m / 65536 % 65536
+}
+
+// What was counted: the work, and whether a number wrapped.
+fn tally_in(m: u64) -> Tally
+    ensures { λ r. ⌜ r ≡ tallyIn (middleIn m) ⌝ }
+{
+    let count = counted_in(m);
+    Tally {
+        work: count % 32768,
+        wrapped: 32768 <= count,
+    }
+}
+
+// Two counts together, marked where one of them is. (Most are not.)
+fn joined(a: u64, b: u64) -> u64
+    requires { ⌜ (a < 65536) × (b < 65536) × (tallyIn a .work + tallyIn b .work < 32767) ⌝ }
+    ensures { λ r. ⌜ (tallyIn r ≡ tallyIn a plus tallyIn b) × (r < 65535) ⌝ }
+{
+    if a < 32768 {
+        return a + b;
+    }
+    if b < 32768 {
+        return a + b;
+    }
+    a + b - 32768
 }
 
 // The 8 bytes of the value: what was counted is left out.
@@ -71,11 +99,25 @@ pub fn exactly(m: u64) -> u64
 }
 
 // A value with what was counted.
-fn outcome(v: Value, work: u64) -> u64
-    requires { ⌜ IsProper v × (0 < work) × (work < 65536) ⌝ }
-    ensures { λ r. ⌜ (outcomeIn r ≡ Done v (record { work = work })) × IsOutcome r ⌝ }
+fn outcome(v: Value, count: u64) -> u64
+    requires { ⌜ IsProper v × (0 < count) × (count < 65536) ⌝ }
+    ensures { λ r. ⌜ (outcomeIn r ≡ Done v (tallyIn count)) × IsOutcome r ⌝ }
 {
-    pack(v) + 65536 * work
+    pack(v) + 65536 * count
+}
+
+// The same outcome, with a number that wrapped in it.
+fn marked(r: u64) -> u64
+    requires { ⌜ IsOutcome r ⌝ }
+    ensures { λ s. ⌜ (outcomeIn s ≡ afterOf (noted true) (outcomeIn r)) × IsOutcome s ⌝ }
+{
+    if r == 0 {
+        return 0;
+    }
+    if counted_in(r) < 32768 {
+        return r + 2147483648;
+    }
+    r
 }
 
 // A value, by one rule.
@@ -102,7 +144,7 @@ pub fn held(m: u64) -> u64
 
 // By one more rule.
 pub fn ruled(r: u64) -> u64
-    requires { ⌜ IsOutcome r × (workOf (outcomeIn r) < 65535) ⌝ }
+    requires { ⌜ IsOutcome r × (workOf (outcomeIn r) < 32767) ⌝ }
     ensures { λ s. ⌜ (outcomeIn s ≡ rule (outcomeIn r)) × IsOutcome s ⌝ }
 {
     if r == 0 {
@@ -113,13 +155,17 @@ pub fn ruled(r: u64) -> u64
 
 // By one more rule, after so much was counted.
 pub fn later(w: Tally, r: u64) -> u64
-    requires { ⌜ IsOutcome r × (w .work + workOf (outcomeIn r) < 65535) ⌝ }
+    requires { ⌜ IsOutcome r × (w .work + workOf (outcomeIn r) < 32767) ⌝ }
     ensures { λ s. ⌜ (outcomeIn s ≡ rule (afterOf w (outcomeIn r))) × IsOutcome s ⌝ }
 {
     if r == 0 {
         return 0;
     }
-    r + 65536 * (w.work + 1)
+    let s = r + 65536 * (w.work + 1);
+    if w.wrapped {
+        return marked(s);
+    }
+    s
 }
 
 // A variable's value in its binder's slot, by one rule; a slot that is 0 has none.
@@ -161,26 +207,46 @@ fn plain_word(t: u8, m: u64) -> Word
     }
 }
 
+// A value with what was counted, marked where an operation left the range.
+fn outcome_if(left: bool, v: Value, count: u64) -> u64
+    requires { ⌜ IsProper v × (0 < count) × (count < 65536) ⌝ }
+    ensures { λ r. ⌜ (outcomeIn r ≡ afterOf (tallyIn count) (Done v (noted left))) × IsOutcome r ⌝ }
+{
+    if left {
+        return marked(outcome(v, count));
+    }
+    outcome(v, count)
+}
+
 // What an operation gives on the words of its operands, with what was counted.
-fn result(k: u8, x: u32, y: u32, work: u64) -> u64
-    requires { ⌜ (0 < work) × (work < 65536) ⌝ }
-    ensures { λ r. ⌜ (outcomeIn r ≡ Done (meaning k x y) (record { work = work })) × IsOutcome r ⌝ }
+fn result(k: u8, x: u32, y: u32, count: u64) -> u64
+    requires { ⌜ (0 < count) × (count < 65536) ⌝ }
+    ensures { λ r. ⌜ (outcomeIn r ≡ afterOf (tallyIn count) (meant k x y)) × IsOutcome r ⌝ }
 {
     if k <= 20 {
-        return outcome(Value::Plain(INT, number(k, x, y)), work);
+        let n = number(k, x, y);
+        return outcome_if(n.left, Value::Plain(INT, n.word), count);
     }
     if k == 21 {
-        return outcome(divide(x, y), work);
+        return outcome_if(quotient_left(x, y), divide(x, y), count);
     }
     if test(k, x, y) {
-        return outcome(Value::Plain(BOOL, 1), work);
+        return outcome_if(false, Value::Plain(BOOL, 1), count);
     }
-    outcome(Value::Plain(BOOL, 0), work)
+    outcome_if(false, Value::Plain(BOOL, 0), count)
+}
+
+// An operation on two outcomes that have these words, by one rule.
+fn on_words(k: u8, x: u32, y: u32, r: u64, s: u64) -> u64
+    requires { ⌜ (wordBy (operandType k) (outcomeIn r) ≡ Is x) × (wordBy (operandType k) (outcomeIn s) ≡ Is y) × (workOf (outcomeIn r) + workOf (outcomeIn s) < 32767) ⌝ }
+    ensures { λ e. ⌜ (outcomeIn e ≡ rule (operatedOf k (outcomeIn r) (outcomeIn s))) × IsOutcome e ⌝ }
+{
+    result(k, x, y, joined(counted_in(r), counted_in(s)) + 1)
 }
 
 // An operation that takes ints, on two outcomes, by one rule.
 fn on_ints(k: u8, r: u64, s: u64) -> u64
-    requires { ⌜ (operandType k ≡ intT) × (workOf (outcomeIn r) + workOf (outcomeIn s) < 65535) ⌝ }
+    requires { ⌜ (operandType k ≡ intT) × (workOf (outcomeIn r) + workOf (outcomeIn s) < 32767) ⌝ }
     ensures { λ e. ⌜ (outcomeIn e ≡ rule (operatedOf k (outcomeIn r) (outcomeIn s))) × IsOutcome e ⌝ }
 {
     let Word::Is(x) = plain_word(INT, r) else {
@@ -189,12 +255,12 @@ fn on_ints(k: u8, r: u64, s: u64) -> u64
     let Word::Is(y) = plain_word(INT, s) else {
         return 0;
     };
-    result(k, x, y, work_in(r) + work_in(s) + 1)
+    on_words(k, x, y, r, s)
 }
 
-// An operation that takes bools, on two outcomes, by one rule.
+// An operation that takes bools, on two outcomes, by one rule. (One function for both, with the type as an argument, costs 3 to 8 in a hundred.)
 fn on_bools(k: u8, r: u64, s: u64) -> u64
-    requires { ⌜ (operandType k ≡ boolT) × (workOf (outcomeIn r) + workOf (outcomeIn s) < 65535) ⌝ }
+    requires { ⌜ (operandType k ≡ boolT) × (workOf (outcomeIn r) + workOf (outcomeIn s) < 32767) ⌝ }
     ensures { λ e. ⌜ (outcomeIn e ≡ rule (operatedOf k (outcomeIn r) (outcomeIn s))) × IsOutcome e ⌝ }
 {
     let Word::Is(x) = plain_word(BOOL, r) else {
@@ -203,12 +269,12 @@ fn on_bools(k: u8, r: u64, s: u64) -> u64
     let Word::Is(y) = plain_word(BOOL, s) else {
         return 0;
     };
-    result(k, x, y, work_in(r) + work_in(s) + 1)
+    on_words(k, x, y, r, s)
 }
 
 // An operation on two outcomes, by one rule: up to kind 23 it takes ints, then bools.
 pub fn operated(k: u8, r: u64, s: u64) -> u64
-    requires { ⌜ IsOutcome r × (workOf (outcomeIn r) + workOf (outcomeIn s) < 65535) ⌝ }
+    requires { ⌜ workOf (outcomeIn r) + workOf (outcomeIn s) < 32767 ⌝ }
     ensures { λ e. ⌜ (outcomeIn e ≡ rule (operatedOf k (outcomeIn r) (outcomeIn s))) × IsOutcome e ⌝ }
 {
     if k <= 23 {
@@ -219,13 +285,13 @@ pub fn operated(k: u8, r: u64, s: u64) -> u64
 
 // Not of an outcome, by one rule.
 pub fn negated(r: u64) -> u64
-    requires { ⌜ workOf (outcomeIn r) < 65535 ⌝ }
+    requires { ⌜ workOf (outcomeIn r) < 32767 ⌝ }
     ensures { λ s. ⌜ (outcomeIn s ≡ rule (negatedOf (outcomeIn r))) × IsOutcome s ⌝ }
 {
     let Word::Is(w) = plain_word(BOOL, r) else {
         return 0;
     };
-    let count = work_in(r) + 1;
+    let count = counted_in(r) + 1;
     if w == 0 {
         return outcome(Value::Plain(BOOL, 1), count);
     }
@@ -234,11 +300,11 @@ pub fn negated(r: u64) -> u64
 
 // Just of an outcome, by one rule.
 pub fn lifted(r: u64) -> u64
-    requires { ⌜ workOf (outcomeIn r) < 65535 ⌝ }
+    requires { ⌜ workOf (outcomeIn r) < 32767 ⌝ }
     ensures { λ s. ⌜ (outcomeIn s ≡ rule (liftedOf (outcomeIn r))) × IsOutcome s ⌝ }
 {
     match unpack(r) {
-        Value::Plain(t, w) => outcome(Value::Present(t + MAYBE, w), work_in(r) + 1),
+        Value::Plain(t, w) => outcome(Value::Present(t + MAYBE, w), counted_in(r) + 1),
         Value::Absent(_) => 0,
         Value::Present(_, _) => 0,
     }
@@ -251,7 +317,7 @@ pub fn chosen(r: u64, yes: usize, no: usize) -> Arm
     let Word::Is(w) = plain_word(BOOL, r) else {
         return Arm::Neither;
     };
-    let count = Tally { work: work_in(r) };
+    let count = tally_in(r);
     if w == 1 {
         return Arm::Go(yes, count);
     }
@@ -265,7 +331,7 @@ pub fn apart(r: u64) -> Parts
     if r == 0 {
         return Parts::Wrong;
     }
-    let count = Tally { work: work_in(r) };
+    let count = tally_in(r);
     match unpack(r) {
         Value::Plain(_, _) => Parts::Wrong,
         Value::Absent(_) => Parts::Maybe(Event::Quiet, count),
@@ -286,5 +352,5 @@ pub fn show(r: u64) -> Shown
     if r == 0 {
         return Shown::Stuck;
     }
-    Shown::Value(value_in(r), Tally { work: work_in(r) })
+    Shown::Value(value_in(r), tally_in(r))
 }

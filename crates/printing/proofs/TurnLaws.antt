@@ -13,7 +13,7 @@ use Rattle.rules.specs.Layout.{blockAt, edition, editionIn, countIn, inputLengt
 use Rattle.rules.specs.Accepted.{Accepted}
 use Rattle.rules.specs.WellFormed.{wellFormed, lastMoment}
 use Rattle.rules.specs.Update.{Stepped, Made, NotMade, stepOf}
-use Rattle.rules.specs.Calls.{RunOutcome, refuseIf, _otherwise_, inputWrong, timeWrong, recordVerdict, runFrom}
+use Rattle.rules.specs.Calls.{RunOutcome, refuseIf, _otherwise_, inputWrong, timeWrong, recordVerdict, noStep, firstWrapped, runFrom}
 use Rattle.rules.specs.declared.Value.{Value}
 use Rattle.rules.specs.declared.Value.the-variants.{Plain, Absent, Present}
 use Rattle.rules.specs.declared.Tally.{Tally}
@@ -94,12 +94,12 @@ module _ (p rec st out : Bytes) where
 
   -- a run of one record: it is refused, or its step is made
   stops : {r : Refusal} → recordVerdict 0 st (inputAt rec 0) ≡ Refuse r
-      → runFrom p rec (suc zero) 0 0 st out ≡ record { answer = Ran.Refused r 0; state = st; output = out }
+      → runFrom p rec (suc zero) 0 0 noStep st out ≡ record { answer = Ran.Refused r 0 noStep; state = st; output = out }
   unfolding runFrom
   stops e = rw (e, runFrom)
 
   makes : {v : Value} {st₁ : Bytes} {w : Tally} → recordVerdict 0 st (inputAt rec 0) ≡ Fine → stepOf p (inputAt rec 0) st ≡ Made v st₁ w
-      → runFrom p rec (suc zero) 0 0 st out ≡ record { answer = Finished 1 (0 + w .work); state = st₁; output = writeAt out 0 (valueBytes v) }
+      → runFrom p rec (suc zero) 0 0 noStep st out ≡ record { answer = Finished 1 (0 + w .work) (firstWrapped noStep 0 w); state = st₁; output = writeAt out 0 (valueBytes v) }
   unfolding runFrom
   makes e f = rw (e, runFrom, f)
 
@@ -108,44 +108,44 @@ module _ (p rec st out : Bytes) where
     unfolding inputAt
     whole = take-all 40 rec (omega (arith, long))
 
-    one : runFrom p rec (length rec / inputLength) 0 0 st out ≡ runFrom p rec (suc zero) 0 0 st out
-    one = ap (λ (k : ℕ). runFrom p rec k 0 0 st out) (let e : length rec / 40 ≡ suc zero = omega (arith, long) in e)
+    one : runFrom p rec (length rec / inputLength) 0 0 noStep st out ≡ runFrom p rec (suc zero) 0 0 noStep st out
+    one = ap (λ (k : ℕ). runFrom p rec k 0 0 noStep st out) (let e : length rec / 40 ≡ suc zero = omega (arith, long) in e)
 
     run-stops : {r : Refusal} → recordVerdict 0 st rec ≡ Refuse r
-        → runFrom p rec (length rec / inputLength) 0 0 st out ≡ record { answer = Ran.Refused r 0; state = st; output = out }
+        → runFrom p rec (length rec / inputLength) 0 0 noStep st out ≡ record { answer = Ran.Refused r 0 noStep; state = st; output = out }
     run-stops e = one ∙ stops (ap (recordVerdict 0 st) whole ∙ e)
 
     run-makes : {v : Value} {st₁ : Bytes} {w : Tally} → recordVerdict 0 st rec ≡ Fine → stepOf p rec st ≡ Made v st₁ w
-        → runFrom p rec (length rec / inputLength) 0 0 st out
-        ≡ record { answer = Finished 1 (0 + w .work); state = st₁; output = writeAt out 0 (valueBytes v) }
+        → runFrom p rec (length rec / inputLength) 0 0 noStep st out
+        ≡ record { answer = Finished 1 (0 + w .work) (firstWrapped noStep 0 w); state = st₁; output = writeAt out 0 (valueBytes v) }
     run-makes e f = one ∙ makes (ap (recordVerdict 0 st) whole ∙ e) (ap (λ (q : Bytes). stepOf p q st) whole ∙ f)
 
 -- what a run of one record leaves, as a turn after so many steps and so much work
 module _ (out : Bytes) {p rec st st₁ out₁ : Bytes} {answer : Ran} (steps total : ℕ) (long : length rec ≡ 40) (room : length out ≡ 8)
     (hp : Small p) (hs : Small st) (hr : Small rec) (acc : Accepted p) (well : wellFormed p st ≡ true)
-    (l : Leaves (runFrom p rec (length rec / inputLength) 0 0 st out) answer st₁ out₁) where
+    (l : Leaves (runFrom p rec (length rec / inputLength) 0 0 noStep st out) answer st₁ out₁) where
   made : recordVerdict 0 st rec ≡ Fine → StepMade p rec st
   made e = step-goes-on p rec st acc (seated p hp acc) well hs hr (in-its-time p rec st out e)
 
-  outcome : {o : RunOutcome} → runFrom p rec (length rec / inputLength) 0 0 st out ≡ o → Leaves o answer st₁ out₁
+  outcome : {o : RunOutcome} → runFrom p rec (length rec / inputLength) 0 0 noStep st out ≡ o → Leaves o answer st₁ out₁
   outcome e = rw e at l
 
-  pub finishes : {k w : ℕ} → answer ≡ Finished k w
+  pub finishes : {k w mark : ℕ} → answer ≡ Finished k w mark
       → recordTurn p rec steps total st
       ≡ record { line = stepLine (timeIn rec) (unpacked (u64At out₁ 0)) w; more = true; steps = suc steps; total = total + w; state = st₁ }
   unfolding recordTurn stepTurn
-  finishes {k} {w} a = go (recordVerdict 0 st rec) refl
+  finishes {k} {w} {mark} a = go (recordVerdict 0 st rec) refl
     where
       go : (v : Verdict) → recordVerdict 0 st rec ≡ v
           → stepTurn rec steps total st (recordVerdict steps st rec) (stepOf p rec st)
           ≡ record { line = stepLine (timeIn rec) (unpacked (u64At out₁ 0)) w; more = true; steps = suc steps; total = total + w; state = st₁ }
       go (Refuse r) e =
-          let b : Finished k w ≡ Ran.Refused r 0 = sym a ∙ outcome (run-stops p rec st out long e) .answer-is in
+          let b : Finished k w mark ≡ Ran.Refused r 0 noStep = sym a ∙ outcome (run-stops p rec st out long e) .answer-is in
           absurd (let z : _≡_ {A = ℕ} 0 1 = cc in omega arith)
       go Fine e =
           let m = made e in
           let o = outcome (run-makes p rec st out long e (m .made)) in
-          let b : Finished k w ≡ Finished 1 (0 + m .tally .work) = sym a ∙ o .answer-is in
+          let b : Finished k w mark ≡ Finished 1 (0 + m .tally .work) (firstWrapped noStep 0 (m .tally)) = sym a ∙ o .answer-is in
           let c : w ≡ 0 + m .tally .work = cc in
           let d : m .tally .work ≡ w = omega (arith, c) in
           let f : m .output ≡ unpacked (u64At out₁ 0)
@@ -153,31 +153,31 @@ module _ (out : Bytes) {p rec st st₁ out₁ : Bytes} {answer : Ran} (steps tot
           rw (verdict-fine p rec st out steps e, m .made)
           (λ i. record { line = stepLine (timeIn rec) (f i) (d i); more = true; steps = suc steps; total = total + d i; state = sym (o .state-is) i })
 
-  pub refuses : {r : Refusal} {w : ℕ} → answer ≡ Ran.Refused r w
+  pub refuses : {r : Refusal} {w mark : ℕ} → answer ≡ Ran.Refused r w mark
       → recordTurn p rec steps total st
       ≡ record { line = refusedLine (placedAt steps r); more = false; steps = steps; total = total; state = st₁ }
   unfolding recordTurn stepTurn
-  refuses {r} {w} a = go (recordVerdict 0 st rec) refl
+  refuses {r} {w} {mark} a = go (recordVerdict 0 st rec) refl
     where
       go : (v : Verdict) → recordVerdict 0 st rec ≡ v
           → stepTurn rec steps total st (recordVerdict steps st rec) (stepOf p rec st)
           ≡ record { line = refusedLine (placedAt steps r); more = false; steps = steps; total = total; state = st₁ }
       go (Refuse q) e =
           let o = outcome (run-stops p rec st out long e) in
-          let b : Ran.Refused r w ≡ Ran.Refused q 0 = sym a ∙ o .answer-is in
+          let b : Ran.Refused r w mark ≡ Ran.Refused q 0 noStep = sym a ∙ o .answer-is in
           let c : _≡_ {A = Refusal} q r = cc in
           rw (verdict-refused p rec st out steps e)
           (λ i. record { line = refusedLine (placedAt steps (c i)); more = false; steps = steps; total = total; state = sym (o .state-is) i })
       go Fine e =
           let m = made e in
-          let b : Ran.Refused r w ≡ Finished 1 (0 + m .tally .work) = sym a ∙ outcome (run-makes p rec st out long e (m .made)) .answer-is in
+          let b : Ran.Refused r w mark ≡ Finished 1 (0 + m .tally .work) (firstWrapped noStep 0 (m .tally)) = sym a ∙ outcome (run-makes p rec st out long e (m .made)) .answer-is in
           absurd (let z : _≡_ {A = ℕ} 0 1 = cc in omega arith)
 
 -- so much work has the step of a run of one
-pub spent : {k w size : ℕ} {answer : Ran} → answer ≡ Finished k w → workIn answer ≤ mostWork * (size / inputLength) → size ≡ 40 → w ≤ mostWork
+pub spent : {k w mark size : ℕ} {answer : Ran} → answer ≡ Finished k w mark → workIn answer ≤ mostWork * (size / inputLength) → size ≡ 40 → w ≤ mostWork
 unfolding workIn
-spent {k} {w} {size} e h l =
-    let g : workIn (Finished k w) ≤ mostWork * (size / inputLength) = rw e at h in
+spent {k} {w} {mark} {size} e h l =
+    let g : workIn (Finished k w mark) ≤ mostWork * (size / inputLength) = rw e at h in
     omega (arith, g, l)
 
 -- an outcome that is known, and a line that is its own

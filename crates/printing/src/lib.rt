@@ -135,13 +135,13 @@ fn taken(
 {
     let mut value = [0u8; 8];
     match run_records(program, index, rec, state, env, &mut value, count) {
-        Ran::Finished(_, work) => After {
+        Ran::Finished(_, work, _) => After {
             length: stepped(rec, &value, work, line),
             more: true,
             steps: steps + 1,
             total: total + work,
         },
-        Ran::Refused(r, _) => After {
+        Ran::Refused(r, _, _) => After {
             length: lines::refused_line(placed(steps, r), line),
             more: false,
             steps: steps,

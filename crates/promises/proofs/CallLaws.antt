@@ -15,7 +15,7 @@ use Rattle.rules.specs.Reset.{startState}
 use Rattle.rules.specs.WellFormed.{wellFormed}
 use Rattle.rules.specs.Bound.{bound}
 use Rattle.rules.specs.Accepted.{Accepted}
-use Rattle.rules.specs.Calls.{_otherwise_, refuseIf, stateVerdict, lentVerdict, startOutcome, startCall, RunOutcome, runOutcome, runCall}
+use Rattle.rules.specs.Calls.{_otherwise_, refuseIf, stateVerdict, lentVerdict, startOutcome, startCall, RunOutcome, noStep, runOutcome, runCall}
 use Rattle.rules.specs.declared.Refusal.{Refusal}
 use Rattle.rules.specs.declared.Refusal.the-variants.{RecordsLength, OutputLength}
 use Rattle.rules.specs.declared.Verdict.{Verdict}
@@ -77,7 +77,7 @@ run-outcome : (p st recs out : Bytes) → Accepted p → Seated p → wellFormed
     → RunAnswers p st recs out (runOutcome p st recs out v)
 unfolding runOutcome
 run-outcome p st recs out acc seat well hs hr Fine e fine few =
-    ran e (few refl) (run-from (length recs / inputLength) p recs acc seat hr 0 0 st out well hs)
+    ran e (few refl) (run-from (length recs / inputLength) p recs acc seat hr 0 0 noStep st out well hs)
 run-outcome p st recs out acc seat well hs hr (Refuse r) e (refuse _ h g) few = lengths r e h g refl
 
 -- Records that are not refused are at most 4,096.
@@ -100,7 +100,7 @@ run-goes-on p st recs out acc seat well hs hr =
 pub run-keeps : (p st recs out : Bytes) (o : RunOutcome) → State p st → RunAnswers p st recs out o → State p (o .state)
 run-keeps p st recs out o s (lengths r v h g e) = rw e s
 run-keeps p st recs out o s (ran _ _ m) =
-    let f = run-ends-well (length recs / inputLength) p recs o 0 0 st out (s .well) (s .bytes) m in
+    let f = run-ends-well (length recs / inputLength) p recs o 0 0 noStep st out (s .well) (s .bytes) m in
     record { bytes = f .bytes; well = f .well }
 
 -- No run's total passes 4,294,967,295.
@@ -110,4 +110,4 @@ unfolding workIn
 run-total p st recs out o b s (lengths r v h g e) = rw e (omega arith)
 run-total p st recs out o b s (ran _ few m) =
     total-fits p (length recs / inputLength) (o .answer) few b
-    (run-ends-well (length recs / inputLength) p recs o 0 0 st out (s .well) (s .bytes) m .answers)
+    (run-ends-well (length recs / inputLength) p recs o 0 0 noStep st out (s .well) (s .bytes) m .answers)

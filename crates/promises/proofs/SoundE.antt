@@ -21,7 +21,7 @@ use Rattle.rules.specs.Tree.{Expr, variable, constant, operation, negation, cho
 use Rattle.rules.specs.Scope.{Marks, mark, isMarked, scopeE}
 use Rattle.rules.specs.Typing.{justType, typeE, typesE}
 use Rattle.rules.specs.Ready.{needsE}
-use Rattle.rules.specs.Evaluate.{Env, bind, look, plainWord, opened, onWords, operate, operated, notOf, negated, armOf, chosen, justOf, lifted, takeArm, taken, evalE}
+use Rattle.rules.specs.Evaluate.{Env, bind, look, plainWord, opened, meant, onWords, operate, operated, notOf, negated, armOf, chosen, justOf, lifted, takeArm, taken, evalE}
 use Rattle.rules.specs.declared.Value.{Value}
 use Rattle.rules.specs.declared.Value.the-variants.{Plain, Absent, Present}
 use Rattle.rules.specs.declared.Tally.{Tally}
@@ -139,12 +139,12 @@ meaning-typed k x y = go (leb k 20) (eqb k 21) _ (word-if (eqb k 18) _ _ (wrappe
 
 -- An operation on two evaluations.
 operated-gives : (k : ℕ) {r s : Evaluated} → Gives r (operandType k) → Gives s (operandType k) → Gives (operated k r s) (resultType k)
-unfolding operated operate onWords
+unfolding operated operate onWords meant
 operated-gives k g h =
     let x = is-word (operandType k) (operand-plain k) (g .value) (g .valid) (g .typed) in
     let y = is-word (operandType k) (operand-plain k) (h .value) (h .valid) (h .typed) in
     let m = meaning-typed k (x .word) (y .word) in
-    rw (g .done, h .done) (after-gives (g .tally plus h .tally) (rw (x .is, y .is) (give-gives _ (m .valid) (m .typed))))
+    rw (g .done, h .done) (after-gives (g .tally plus h .tally) (rw (x .is, y .is) (gives _ _ (m .valid) (m .typed))))
 
 -- Not of an evaluation.
 negated-gives : {r : Evaluated} → Gives r boolT → Gives (negated r) boolT

@@ -1,7 +1,8 @@
--- The inference rules are the definitions: a derivation exists exactly where the definition is not stuck, it is the only one, and its size is
--- the work.
+-- The inference rules are the definitions: a derivation exists exactly where the definition is not stuck, it is the only one, its size is the
+-- work, and the mark is that some operation in it left the range.
 -- Assumes nothing.
-use mathlib.Core.Path.{_≡_, refl, sym, subst, _∙_}
+use mathlib.Core.Path.{_≡_, refl, sym, ap, subst, _∙_}
+use mathlib.Core.Bool.{Bool, false}
 use mathlib.Core.Logic.{_≢_, _↔_}
 use Prim.Native.Nat.{ℕ}
 use Rattle.rules.specs.Bytes.{Bytes}
@@ -11,10 +12,11 @@ use Rattle.rules.specs.Evaluate.{Env, evalE, evalS}
 use Rattle.rules.specs.Update.{updS}
 use Rattle.rules.specs.declared.Value.{Value}
 use Rattle.rules.specs.declared.Evaluated.{Evaluated}
-use Rattle.rules.specs.declared.Evaluated.the-variants.{Stuck}
+use Rattle.rules.specs.declared.Evaluated.the-variants.{Done, Stuck}
 use Rattle.published.specs.Expressions.{Evaluates}
 use Rattle.published.specs.Signals.{EvaluatesS}
 use Rattle.published.specs.Updates.{Part, sig, Result, becomes, leaves, Transition}
+use Rattle.published.specs.Marks.{leftE, leftS, leftT}
 use Rattle.published.proofs.Outcomes.{done, Derived, derived, stuck, done-not-stuck}
 use Rattle.published.proofs.Moves.{DerivedU, goes, leaps, halts}
 use Rattle.published.proofs.ExpressionsSound.{soundE}
@@ -27,17 +29,40 @@ use Rattle.published.proofs.ExpressionsOnly.{SomeE, onlyE}
 use Rattle.published.proofs.SignalsOnly.{SomeS, onlyS}
 use Rattle.published.proofs.UpdatesOnly.{SomeT, onlyT}
 
--- a derivation of a value and a size is the definition's outcome
-pub exactlyE : (env : Env) (e : Expr) (v : Value) (n : ℕ) → Evaluates env e v n ↔ (evalE env e ≡ done v n)
-exactlyE env e v n = (soundE, completeE)
+-- the mark of an outcome
+abbrev markOf : Evaluated → Bool
+markOf (Done v w) = w .wrapped
+markOf Stuck = false
 
-pub exactlyS : (rec st : Bytes) (env : Env) (s : Signal) (v : Value) (n : ℕ) → EvaluatesS rec st env s v n ↔ (evalS rec st env s ≡ done v n)
-exactlyS rec st env s v n = (soundS, completeS)
+abbrev markOfᵘ : Updated → Bool
+markOfᵘ (Next st w) = w .wrapped
+markOfᵘ (Jump aim v st w) = w .wrapped
+markOfᵘ Halted = false
 
-pub exactlyT : (rec : Bytes) (env : Env) (st : Bytes) (s : Signal) (r : Result) (n : ℕ)
-    → Transition rec env st (sig s) r n ↔ (updS rec env s st ≡ outcome r n)
-exactlyT rec env st s (becomes st₁) n = (soundT, completeT)
-exactlyT rec env st s (leaves aim v st₁) n = (soundT, completeJ)
+-- a derivation of a value, a size and a mark is the definition's outcome
+pub exactlyE : (env : Env) (e : Expr) (v : Value) (n : ℕ) (b : Bool) → ((d : Evaluates env e v n) × (leftE d ≡ b)) ↔ (evalE env e ≡ done v n b)
+exactlyE env e v n b = (
+  λ p. soundE (p .0) ∙ ap (done v n) (p .1),
+  λ h. let d : Evaluates env e v n = completeE h in (d, ap markOf (sym (soundE d) ∙ h)),
+)
+
+pub exactlyS : (rec st : Bytes) (env : Env) (s : Signal) (v : Value) (n : ℕ) (b : Bool)
+    → ((d : EvaluatesS rec st env s v n) × (leftS d ≡ b)) ↔ (evalS rec st env s ≡ done v n b)
+exactlyS rec st env s v n b = (
+  λ p. soundS (p .0) ∙ ap (done v n) (p .1),
+  λ h. let d : EvaluatesS rec st env s v n = completeS h in (d, ap markOf (sym (soundS d) ∙ h)),
+)
+
+pub exactlyT : (rec : Bytes) (env : Env) (st : Bytes) (s : Signal) (r : Result) (n : ℕ) (b : Bool)
+    → ((d : Transition rec env st (sig s) r n) × (leftT d ≡ b)) ↔ (updS rec env s st ≡ outcome r n b)
+exactlyT rec env st s (becomes st₁) n b = (
+  λ p. soundT (p .0) ∙ ap (outcome (becomes st₁) n) (p .1),
+  λ h. let d : Transition rec env st (sig s) (becomes st₁) n = completeT h in (d, ap markOfᵘ (sym (soundT d) ∙ h)),
+)
+exactlyT rec env st s (leaves aim v st₁) n b = (
+  λ p. soundT (p .0) ∙ ap (outcome (leaves aim v st₁) n) (p .1),
+  λ h. let d : Transition rec env st (sig s) (leaves aim v st₁) n = completeJ h in (d, ap markOfᵘ (sym (soundT d) ∙ h)),
+)
 
 -- a derivation exists exactly where the definition is not stuck, and none exactly where it is
 some-derived : {D : Value → ℕ → Type 0} {r : Evaluated} → Derived D r → r ≢ Stuck → (p : Value × ℕ) × D (p .0) (p .1)
@@ -65,9 +90,9 @@ IsHalted (Next st w) = ⊥
 IsHalted (Jump aim v st w) = ⊥
 IsHalted Halted = Unit {0}
 
-not-halted : (r : Result) (n : ℕ) → Halted ≡ outcome r n → ⊥
-not-halted (becomes st) n e = subst IsHalted e tt
-not-halted (leaves aim v st) n e = subst IsHalted e tt
+not-halted : (r : Result) (n : ℕ) (b : Bool) → Halted ≡ outcome r n b → ⊥
+not-halted (becomes st) n b e = subst IsHalted e tt
+not-halted (leaves aim v st) n b e = subst IsHalted e tt
 
 some-moved : (D : Result → ℕ → Type 0) {u : Updated} → DerivedU (λ st n. D (becomes st) n) (λ aim v st n. D (leaves aim v st) n) u → u ≢ Halted
     → (p : Result × ℕ) × D (p .0) (p .1)
@@ -77,7 +102,7 @@ some-moved D halts h = absurd (h refl)
 
 pub existsT : (rec : Bytes) (env : Env) (st : Bytes) (s : Signal) → SomeT rec env st (sig s) ↔ (updS rec env s st ≢ Halted)
 existsT rec env st s = (
-  λ p h. not-halted (p .0 .0) (p .0 .1) (sym h ∙ soundT (p .1)),
+  λ p h. not-halted (p .0 .0) (p .0 .1) _ (sym h ∙ soundT (p .1)),
   some-moved (λ r n. Transition rec env st (sig s) r n) (deriveT s rec env st),
 )
 

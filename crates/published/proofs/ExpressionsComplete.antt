@@ -8,10 +8,10 @@ use lib.ListN.{getD}
 use borrow.Author.Tests.{eq-eqb}
 use Rattle.rules.specs.Bytes.{if_then_else_}
 use Rattle.rules.specs.Values.{boolT, maybeOf, isPlain, unpacked}
-use Rattle.rules.specs.Operations.{isTrue, operandType, meaning}
+use Rattle.rules.specs.Operations.{isTrue, operandType}
 use Rattle.rules.specs.Work.{_plus_, give, after, rule}
 use Rattle.rules.specs.Tree.{Expr, variable, constant, operation, negation, choice, just, taking}
-use Rattle.rules.specs.Evaluate.{Env, bind, look, plainWord, opened, onWords, operate, operated, notOf, negated, armOf, chosen, justOf, lifted, takeArm, taken, evalE}
+use Rattle.rules.specs.Evaluate.{Env, bind, look, plainWord, opened, meant, onWords, operate, operated, notOf, negated, armOf, chosen, justOf, lifted, takeArm, taken, evalE}
 use Rattle.rules.specs.declared.Tally.{Tally}
 use Rattle.rules.specs.declared.Value.{Value}
 use Rattle.rules.specs.declared.Value.the-variants.{Plain, Absent, Present}
@@ -22,7 +22,7 @@ use Rattle.rules.specs.declared.Opened.the-variants.{Here, Gone, Amiss}
 use Rattle.rules.specs.declared.Evaluated.{Evaluated}
 use Rattle.rules.specs.declared.Evaluated.the-variants.{Done, Stuck}
 use Rattle.published.specs.Expressions.{Evaluates, ev-variable, ev-constant, ev-operation, ev-not, ev-if-true, ev-if-false, ev-just, ev-take-absent, ev-take-present}
-use Rattle.published.proofs.Outcomes.{Derived, derived, stuck, derivation, rule-give, rule-after, rule-after-give, rule-stuck, after-stuck}
+use Rattle.published.proofs.Outcomes.{Derived, derived, stuck, derivation, rule-give, rule-after, rule-after-give, rule-after-noted, rule-stuck, after-stuck}
 
 -- each kind of expression: it has a derivation where its parts have, and is stuck with them
 variable-derived : (env : Env) (i b t : ℕ) → Derived (Evaluates env (variable i b t)) (rule (look env b))
@@ -36,13 +36,13 @@ variable-derived env i b t = go (eqb (getD env b 0) 0) refl
 
 operation-derived : (env : Env) (i k : ℕ) (x y : Expr) {r s : Evaluated} → Derived (Evaluates env x) r → Derived (Evaluates env y) s
     → Derived (Evaluates env (operation i k x y)) (rule (operated k r s))
-unfolding operated operate onWords
+unfolding operated operate onWords meant
 operation-derived env i k x y (derived {v = u} {w = p} d) (derived {v = v} {w = q} c) =
     go (plainWord (operandType k) u) refl (plainWord (operandType k) v) refl
   where
     go : (a : Word) → plainWord (operandType k) u ≡ a → (b : Word) → plainWord (operandType k) v ≡ b
-        → Derived (Evaluates env (operation i k x y)) (rule (after (p plus q) (onWords (meaning k) a b)))
-    go (Is a) g (Is b) h = rule-after-give (p plus q) _ (unfold _plus_ in ev-operation d c g h)
+        → Derived (Evaluates env (operation i k x y)) (rule (after (p plus q) (onWords (meant k) a b)))
+    go (Is a) g (Is b) h = rule-after-noted (p plus q) _ _ (unfold _plus_ in ev-operation d c g h)
     go (Is a) g Not h = after-stuck (p plus q)
     go Not g b h = after-stuck (p plus q)
 operation-derived env i k x y (derived d) stuck = rule-stuck

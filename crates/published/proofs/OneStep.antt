@@ -1,10 +1,11 @@
--- A step by the inference rules is the definition's step: it exists exactly where the definition makes one, it is the only one, and its size
--- is the work.
+-- A step by the inference rules is the definition's step: it exists exactly where the definition makes one, it is the only one, its size is the
+-- work, and the mark is that some operation in it left the range.
 -- Assumes nothing.
 use mathlib.Core.Path.{_≡_, refl, sym, ap, subst, _∙_}
+use mathlib.Core.Bool.{Bool, false}
 use mathlib.Core.Logic.{_≢_, _↔_}
 use Prim.Native.Nat.{ℕ, _+_}
-use Rattle.rules.specs.Bytes.{Bytes}
+use Rattle.rules.specs.Bytes.{Bytes, _or_}
 use Rattle.rules.specs.Layout.{timeIn, setTime, mostNodes}
 use Rattle.rules.specs.Work.{_plus_, Updated}
 use Rattle.rules.specs.Tree.{root}
@@ -16,6 +17,7 @@ use Rattle.rules.specs.declared.Evaluated.{Evaluated}
 use Rattle.published.specs.Signals.{EvaluatesS}
 use Rattle.published.specs.Updates.{sig}
 use Rattle.published.specs.Steps.{Steps, step}
+use Rattle.published.specs.Marks.{leftOf}
 use Rattle.published.proofs.Outcomes.{counted, done, next, Derived, derived, stuck}
 use Rattle.published.proofs.Moves.{goes, leaps, halts}
 use Rattle.published.proofs.SignalsSound.{soundS}
@@ -25,17 +27,17 @@ use Rattle.published.proofs.UpdatesComplete.{DerivedT, deriveT}
 use Rattle.published.proofs.SignalsOnly.{SomeS, onlyS}
 use Rattle.published.proofs.UpdatesOnly.{Going, going-path, onlyT}
 
--- the outcome of a step with so much work
-abbrev made : Value → Bytes → ℕ → Stepped
-made v st n = Made v st (counted n)
+-- the outcome of a step with so much work and a mark
+abbrev made : Value → Bytes → ℕ → Bool → Stepped
+made v st n b = Made v st (counted n b)
 
-step-made : (rec : Bytes) {r : Evaluated} {u : Updated} {v : Value} {st₁ : Bytes} {m n : ℕ} → r ≡ done v m → u ≡ next st₁ n
-    → evaluated r (λ v w. updated v w rec u) ≡ made v (setTime st₁ (timeIn rec)) (m + n)
+step-made : (rec : Bytes) {r : Evaluated} {u : Updated} {v : Value} {st₁ : Bytes} {m n : ℕ} {i j : Bool} → r ≡ done v m i → u ≡ next st₁ n j
+    → evaluated r (λ v w. updated v w rec u) ≡ made v (setTime st₁ (timeIn rec)) (m + n) (i or j)
 unfolding evaluated updated _plus_
 step-made rec e f = rw (e, f)
 
-pub sound-step : {p rec st : Bytes} {v : Value} {st₁ : Bytes} {n : ℕ} → Steps p rec st v st₁ n → stepOf p rec st ≡ made v st₁ n
-unfolding stepOf
+pub sound-step : {p rec st : Bytes} {v : Value} {st₁ : Bytes} {n : ℕ} (d : Steps p rec st v st₁ n) → stepOf p rec st ≡ made v st₁ n (leftOf d)
+unfolding stepOf leftOf
 sound-step {rec = rec} (step d u) = step-made rec (soundS d) (soundT u)
 
 -- a step that is made has a derivation
@@ -61,8 +63,21 @@ from-step (derived-step d) = d
 pub complete-step : {p rec st : Bytes} {v : Value} {st₁ : Bytes} {w : Tally} → stepOf p rec st ≡ Made v st₁ w → Steps p rec st v st₁ (w .work)
 complete-step {p} {rec} {st} e = from-step (subst (DerivedStep p rec st) e (derive-step p rec st))
 
-pub exactly-step : (p rec st : Bytes) (v : Value) (st₁ : Bytes) (n : ℕ) → Steps p rec st v st₁ n ↔ (stepOf p rec st ≡ made v st₁ n)
-exactly-step p rec st v st₁ n = (sound-step, complete-step)
+-- the mark of a step that the definition makes is its derivation's
+abbrev markIn : Stepped → Bool
+markIn (Made v st w) = w .wrapped
+markIn NotMade = false
+
+pub marked-step : {p rec st : Bytes} {v : Value} {st₁ : Bytes} {n : ℕ} {u : Value} {st₂ : Bytes} {w : Tally} (d : Steps p rec st v st₁ n)
+    → stepOf p rec st ≡ Made u st₂ w → leftOf d ≡ w .wrapped
+marked-step d h = ap markIn (sym (sound-step d) ∙ h)
+
+pub exactly-step : (p rec st : Bytes) (v : Value) (st₁ : Bytes) (n : ℕ) (b : Bool)
+    → ((d : Steps p rec st v st₁ n) × (leftOf d ≡ b)) ↔ (stepOf p rec st ≡ made v st₁ n b)
+exactly-step p rec st v st₁ n b = (
+  λ q. sound-step (q .0) ∙ ap (made v st₁ n) (q .1),
+  λ h. let d : Steps p rec st v st₁ n = complete-step h in (d, marked-step d h),
+)
 
 -- a step of any value, state and size
 abbrev pub SomeStep : Bytes → Bytes → Bytes → Type 0

@@ -1,35 +1,42 @@
 -- Outcomes with their work, and what a derivation says of an evaluation's.
 -- Assumes nothing.
-use mathlib.Core.Path.{_≡_, sym, ap, subst, _∙_}
+use mathlib.Core.Path.{_≡_, refl, sym, ap₂, subst, _∙_}
+use mathlib.Core.Bool.{Bool, true, false}
 use Prim.Native.Nat.{ℕ, _+_}
 use native.Mathlib.Omega.{arith}
-use Rattle.rules.specs.Bytes.{Bytes}
-use Rattle.rules.specs.Work.{nothing, oneRule, _plus_, give, after, rule, Updated, Next, Jump}
+use Rattle.rules.specs.Bytes.{Bytes, _or_}
+use Rattle.rules.specs.Work.{nothing, noted, oneRule, _plus_, give, after, rule, Updated, Next, Jump}
 use Rattle.rules.specs.declared.Tally.{Tally}
 use Rattle.rules.specs.declared.Value.{Value}
 use Rattle.rules.specs.declared.Evaluated.{Evaluated}
 use Rattle.rules.specs.declared.Evaluated.the-variants.{Done, Stuck}
 
--- so much counted, and nothing else
-abbrev pub counted : ℕ → Tally
-counted n = record { work = n }
+-- so much counted, with a mark or not
+abbrev pub counted : ℕ → Bool → Tally
+counted n b = record { work = n; wrapped = b }
 
--- the outcome with a value and so much work
-abbrev pub done : Value → ℕ → Evaluated
-done v n = Done v (counted n)
+-- the outcome with a value, so much work and a mark
+abbrev pub done : Value → ℕ → Bool → Evaluated
+done v n b = Done v (counted n b)
 
-pub sized : (v : Value) {m n : ℕ} → m ≡ n → done v m ≡ done v n
-sized v e = ap (done v) e
+pub sized : (v : Value) {m n : ℕ} {b c : Bool} → m ≡ n → b ≡ c → done v m b ≡ done v n c
+sized v e f = ap₂ (done v) e f
 
--- an update's outcomes with so much work
-abbrev pub next : Bytes → ℕ → Updated
-next st n = Next st (counted n)
+-- an update's outcomes with so much work and a mark
+abbrev pub next : Bytes → ℕ → Bool → Updated
+next st n b = Next st (counted n b)
 
-abbrev pub jump : ℕ → Value → Bytes → ℕ → Updated
-jump aim v st n = Jump aim v st (counted n)
+abbrev pub jump : ℕ → Value → Bytes → ℕ → Bool → Updated
+jump aim v st n b = Jump aim v st (counted n b)
 
-pub nextSized : (st : Bytes) {m n : ℕ} → m ≡ n → next st m ≡ next st n
-nextSized st e = ap (next st) e
+pub nextSized : (st : Bytes) {m n : ℕ} {b c : Bool} → m ≡ n → b ≡ c → next st m b ≡ next st n c
+nextSized st e f = ap₂ (next st) e f
+
+-- nothing more is marked
+pub or-no : (b : Bool) → b or false ≡ b
+unfolding _or_
+or-no true = refl
+or-no false = refl
 
 no-more : (n : ℕ) → 1 + n ≡ 1 + (n + 0)
 no-more n = omega arith
@@ -65,6 +72,11 @@ rule-after w f stuck = stuck
 pub rule-after-give : {D : Value → ℕ → Type 0} (w : Tally) (v : Value) → D v (1 + w .work) → Derived D (rule (after w (give v)))
 unfolding rule after give oneRule nothing _plus_
 rule-after-give {D} w v d = derived (subst (D v) (no-more (w .work)) d)
+
+-- the same of a value that is marked or not
+pub rule-after-noted : {D : Value → ℕ → Type 0} (w : Tally) (v : Value) (b : Bool) → D v (1 + w .work) → Derived D (rule (after w (Done v (noted b))))
+unfolding rule after noted oneRule _plus_
+rule-after-noted {D} w v b d = derived (subst (D v) (no-more (w .work)) d)
 
 pub rule-stuck : {D : Value → ℕ → Type 0} → Derived D (rule Stuck)
 unfolding rule after

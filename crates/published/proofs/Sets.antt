@@ -80,22 +80,23 @@ opened-back Amiss = refl
 Opened-set : IsSet Opened
 Opened-set = retract-set openedCode (λ p. openedFrom (p .0) (p .1)) opened-back (pair-set ℕ-set Value-set)
 
--- an outcome as two numbers and a value
-abbrev outcomeCode : Evaluated → ℕ × (Value × ℕ)
-outcomeCode (Done v w) = (0, (v, w .work))
-outcomeCode Stuck = (1, (Plain 0 0, 0))
+-- an outcome as two numbers, a value and a mark
+abbrev outcomeCode : Evaluated → ℕ × (Value × (ℕ × Bool))
+outcomeCode (Done v w) = (0, (v, (w .work, w .wrapped)))
+outcomeCode Stuck = (1, (Plain 0 0, (0, false)))
 
-abbrev outcomeFrom : ℕ → Value → ℕ → Evaluated
-outcomeFrom zero v n = Done v (record { work = n })
-outcomeFrom (suc k) v n = Stuck
+abbrev outcomeFrom : ℕ → Value → ℕ → Bool → Evaluated
+outcomeFrom zero v n b = Done v (record { work = n; wrapped = b })
+outcomeFrom (suc k) v n b = Stuck
 
-outcome-back : (r : Evaluated) → outcomeFrom (outcomeCode r .0) (outcomeCode r .1 .0) (outcomeCode r .1 .1) ≡ r
+outcome-back : (r : Evaluated) → outcomeFrom (outcomeCode r .0) (outcomeCode r .1 .0) (outcomeCode r .1 .1 .0) (outcomeCode r .1 .1 .1) ≡ r
 outcome-back (Done v w) = refl
 outcome-back Stuck = refl
 
 Evaluated-set : IsSet Evaluated
 Evaluated-set =
-    retract-set outcomeCode (λ p. outcomeFrom (p .0) (p .1 .0) (p .1 .1)) outcome-back (pair-set ℕ-set (pair-set Value-set ℕ-set))
+    retract-set outcomeCode (λ p. outcomeFrom (p .0) (p .1 .0) (p .1 .1 .0) (p .1 .1 .1)) outcome-back
+    (pair-set ℕ-set (pair-set Value-set (pair-set ℕ-set Bool-set)))
 
 -- what a constructor was given is fixed by what it made
 image-prop : {A B : Type 0} (f : A → B) (g : B → A) → ((a : A) → g (f a) ≡ a) → IsSet B → (b : B) → IsProp ((a : A) × (b ≡ f a))

@@ -3,7 +3,8 @@
 use mathlib.Core.Path.{_≡_, refl, ap, _∙_}
 use Prim.Native.Nat.{ℕ, _+_}
 use borrow.Author.Tests.{eqb-true}
-use Rattle.rules.specs.Bytes.{Bytes, if_then_else_}
+use mathlib.Core.Bool.{Bool}
+use Rattle.rules.specs.Bytes.{Bytes, if_then_else_, _or_}
 use Rattle.rules.specs.Layout.{held, isClear, branchIn}
 use Rattle.rules.specs.Work.{oneRule, _plus_, after, rule, _then_}
 use Rattle.rules.specs.Tree.{Signal, Branches}
@@ -11,16 +12,18 @@ use Rattle.rules.specs.Evaluate.{Env, bind, evalS, evalB}
 use Rattle.rules.specs.declared.Value.{Value}
 use Rattle.rules.specs.declared.Evaluated.{Evaluated}
 use Rattle.published.specs.Signals.{BodyOf, here, later, CurrentOfSwitch, first, second, CurrentOfGroup, in-body, in-branch, EvaluatesS, ev-input, ev-time, ev-ext, ev-delay, ev-signal, ev-switch, ev-continue, ev-until}
+use Rattle.published.specs.Marks.{leftS}
 use Rattle.published.proofs.Outcomes.{done}
 use Rattle.published.proofs.ExpressionsSound.{give-done, soundE}
 
 -- one rule, and one rule after another evaluation
-rule-done : {r : Evaluated} {v : Value} {n : ℕ} → r ≡ done v n → rule r ≡ done v (1 + n)
-unfolding rule after oneRule _plus_
+rule-done : {r : Evaluated} {v : Value} {n : ℕ} {i : Bool} → r ≡ done v n i → rule r ≡ done v (1 + n) i
+unfolding rule after oneRule _plus_ _or_
 rule-done e = rw e
 
-then-done : {r : Evaluated} (f : Value → Evaluated) {u v : Value} {m n : ℕ} → r ≡ done u m → f u ≡ done v n → rule (r then f) ≡ done v (1 + (m + n))
-unfolding rule after oneRule _plus_ _then_
+then-done : {r : Evaluated} (f : Value → Evaluated) {u v : Value} {m n : ℕ} {i j : Bool} → r ≡ done u m i → f u ≡ done v n j
+    → rule (r then f) ≡ done v (1 + (m + n)) (i or j)
+unfolding rule after oneRule _plus_ _or_ _then_
 then-done f e h = rw (e, h)
 
 -- a definition by the state's cell goes to the current part
@@ -41,9 +44,9 @@ unfolding evalB
 branch-body rec st env v {k} (here {n = n} {body = s} e) = rw e (ap (λ (b : ℕ). evalS rec st (bind env b v) s) (eqb-true n k e))
 branch-body rec st env v (later e b) = rw e (branch-body rec st env v b)
 
--- a derivation gives the definition's outcome, and its size is the work
-pub soundS : {rec st : Bytes} {env : Env} {s : Signal} {v : Value} {n : ℕ} → EvaluatesS rec st env s v n → evalS rec st env s ≡ done v n
-unfolding evalS
+-- a derivation gives the definition's outcome: its size is the work, and its mark the mark
+pub soundS : {rec st : Bytes} {env : Env} {s : Signal} {v : Value} {n : ℕ} (d : EvaluatesS rec st env s v n) → evalS rec st env s ≡ done v n (leftS d)
+unfolding evalS leftS
 soundS ev-input = give-done refl
 soundS ev-time = give-done refl
 soundS (ev-ext d) = rule-done (soundE d)

@@ -6,7 +6,7 @@ use Rattle.rules.specs.Bytes.{Bytes, writeAt}
 use Rattle.rules.specs.Values.{valueBytes}
 use Rattle.rules.specs.Layout.{inputAt}
 use Rattle.rules.specs.Update.{Made, NotMade, stepOf}
-use Rattle.rules.specs.Calls.{RunOutcome, recordVerdict}
+use Rattle.rules.specs.Calls.{RunOutcome, recordVerdict, firstWrapped}
 use Rattle.rules.specs.declared.Value.{Value}
 use Rattle.rules.specs.declared.Refusal.the-variants.{StateFault}
 use Rattle.rules.specs.declared.Verdict.the-variants.{Fine, Refuse}
@@ -22,15 +22,15 @@ pub record Walk : Type 0 where
 unfoldable pub showing : Value → Walk → Walk
 showing v r = record { answer = r .answer; state = r .state; written = valueBytes v ++ r .written }
 
-unfoldable pub walk : Bytes → Bytes → ℕ → ℕ → ℕ → Bytes → Walk
-walk p recs zero done work st = record { answer = Finished done work; state = st; written = [] }
-walk p recs (suc left) done work st =
+unfoldable pub walk : Bytes → Bytes → ℕ → ℕ → ℕ → ℕ → Bytes → Walk
+walk p recs zero done work mark st = record { answer = Finished done work mark; state = st; written = [] }
+walk p recs (suc left) done work mark st =
     elim (recordVerdict done st (inputAt recs done)) [
-      | Refuse r ↦ record { answer = Ran.Refused r work; state = st; written = [] }
+      | Refuse r ↦ record { answer = Ran.Refused r work mark; state = st; written = [] }
       | Fine ↦
           elim (stepOf p (inputAt recs done) st) [
-            | Made v st₁ w ↦ showing v (walk p recs left (suc done) (work + w .work) st₁)
-            | NotMade ↦ record { answer = Ran.Refused StateFault work; state = st; written = [] }
+            | Made v st₁ w ↦ showing v (walk p recs left (suc done) (work + w .work) (firstWrapped mark done w) st₁)
+            | NotMade ↦ record { answer = Ran.Refused StateFault work mark; state = st; written = [] }
           ]
     ]
 

@@ -10,10 +10,10 @@ use Rattle.rules.specs.Bytes.{Bytes, if_then_else_}
 use Rattle.rules.specs.Scope.{hasBranch}
 use Rattle.rules.specs.Layout.{isClear, held, branchIn}
 use Rattle.rules.specs.Values.{maybeOf, isPlain, unpacked}
-use Rattle.rules.specs.Work.{nothing, oneRule, _plus_, give, after, rule, _then_, Updated, Next, Jump, Halted, stays, leave, afterᵘ, ruleᵘ, _with_, _thenᵘ_}
+use Rattle.rules.specs.Work.{nothing, noted, oneRule, _plus_, give, after, rule, _then_, Updated, Next, Jump, Halted, stays, leave, afterᵘ, ruleᵘ, _with_, _thenᵘ_}
 use Rattle.rules.specs.Tree.{Expr, variable, constant, operation, negation, choice, just, taking, Signal, input, time, ext, delay, letSignal, switch, group, until, Branches, noBranch, branch, Cases, noCase, case}
 use Rattle.rules.specs.Operations.{isTrue}
-use Rattle.rules.specs.Evaluate.{Env, bind, look, opened, onWords, operate, operated, notOf, negated, armOf, chosen, justOf, lifted, takeArm, taken, evalE, evalS, evalB}
+use Rattle.rules.specs.Evaluate.{Env, bind, look, opened, meant, onWords, operate, operated, notOf, negated, armOf, chosen, justOf, lifted, takeArm, taken, evalE, evalS, evalB}
 use Rattle.rules.specs.Update.{laterᵒ, occursIf, occurs, firstPresent, onOccurrence, caught, onEvent, updS, updB, updC}
 use Rattle.rules.specs.Bound.{boundE, boundS, boundSB, boundSC, boundU, boundUB, boundUC}
 use Rattle.rules.specs.declared.Value.{Value}
@@ -77,15 +77,19 @@ look-within : (env : Env) (n : ℕ) → Within (look env n) 0
 unfolding look
 look-within env n = if-within (eqb (getD env n 0) 0) Stuck (give (unpacked (getD env n 0))) free (give-within _)
 
-onWords-within : (f : ℕ → ℕ → Value) (x y : Word) → Within (onWords f x y) 0
+meant-within : (k x y : ℕ) → Within (meant k x y) 0
+unfolding meant noted
+meant-within k x y = record { most = le-refl 0 }
+
+onWords-within : (f : ℕ → ℕ → Evaluated) (x y : Word) → ((a b : ℕ) → Within (f a b) 0) → Within (onWords f x y) 0
 unfolding onWords
-onWords-within f (Is x) (Is y) = give-within (f x y)
-onWords-within f (Is x) Not = free
-onWords-within f Not y = free
+onWords-within f (Is x) (Is y) h = h x y
+onWords-within f (Is x) Not h = free
+onWords-within f Not y h = free
 
 operate-within : (k : ℕ) (u v : Value) → Within (operate k u v) 0
 unfolding operate
-operate-within k u v = onWords-within _ _ _
+operate-within k u v = onWords-within _ _ _ (meant-within k)
 
 operated-within : (k : ℕ) (r s : Evaluated) {b c : ℕ} → Within r b → Within s c → Within (operated k r s) (b + c)
 unfolding operated _plus_

@@ -27,6 +27,7 @@ use Rattle.rules.specs.declared.Checked.{Checked}
 use Rattle.rules.specs.declared.Checked.the-variants.{Accepted}
 use Rattle.rules.specs.declared.Started.{Started}
 use Rattle.rules.specs.declared.Started.the-variants.{Ready}
+use Rattle.rules.specs.declared.Tally.{Tally}
 use Rattle.rules.specs.declared.Ran.{Ran}
 use Rattle.rules.specs.declared.Ran.the-variants.{Finished}
 
@@ -116,23 +117,32 @@ timeWrong st rec = not (eqb (lastTime st) noTime) and ltb (timeIn rec) (lastTime
 unfoldable pub recordVerdict : ℕ → Bytes → Bytes → Verdict
 recordVerdict done st rec = refuseIf (inputWrong rec) (InputFault done) otherwise refuseIf (timeWrong st rec) (TimeBack done)
 
--- A run of the records left, after so many steps and so much work. A refusal keeps the finished steps. (NotMade never comes up in an
--- accepted program and a well-formed state.)
-unfoldable pub runFrom : Bytes → Bytes → ℕ → ℕ → ℕ → Bytes → Bytes → RunOutcome
-runFrom p recs zero done work st out = record { answer = Finished done work; state = st; output = out }
-runFrom p recs (suc left) done work st out =
+-- A run, refused or not, answers the number of the first step in which a number wrapped, from 0, or 65535 if none.
+abbrev pub noStep : ℕ
+noStep = 65535
+
+-- That number after one more step.
+unfoldable pub firstWrapped : ℕ → ℕ → Tally → ℕ
+firstWrapped mark done w = if eqb mark noStep and w .wrapped then done else mark
+
+-- A run of the records left, after so many steps, so much work and that first wrapped step. A refusal keeps the finished steps. (NotMade never
+-- comes up in an accepted program and a well-formed state.)
+unfoldable pub runFrom : Bytes → Bytes → ℕ → ℕ → ℕ → ℕ → Bytes → Bytes → RunOutcome
+runFrom p recs zero done work mark st out = record { answer = Finished done work mark; state = st; output = out }
+runFrom p recs (suc left) done work mark st out =
     elim (recordVerdict done st (inputAt recs done)) [
-      | Refuse r ↦ record { answer = Ran.Refused r work; state = st; output = out }
+      | Refuse r ↦ record { answer = Ran.Refused r work mark; state = st; output = out }
       | Fine ↦
           elim (stepOf p (inputAt recs done) st) [
-            | Made v st₁ w ↦ runFrom p recs left (suc done) (work + w .work) st₁ (writeAt out (8 * done) (valueBytes v))
-            | NotMade ↦ record { answer = Ran.Refused StateFault work; state = st; output = out }
+            | Made v st₁ w ↦
+                runFrom p recs left (suc done) (work + w .work) (firstWrapped mark done w) st₁ (writeAt out (8 * done) (valueBytes v))
+            | NotMade ↦ record { answer = Ran.Refused StateFault work mark; state = st; output = out }
           ]
     ]
 
 unfoldable pub runOutcome : Bytes → Bytes → Bytes → Bytes → Verdict → RunOutcome
-runOutcome p st recs out Fine = runFrom p recs (length recs / inputLength) 0 0 st out
-runOutcome p st recs out (Refuse r) = record { answer = Ran.Refused r 0; state = st; output = out }
+runOutcome p st recs out Fine = runFrom p recs (length recs / inputLength) 0 0 noStep st out
+runOutcome p st recs out (Refuse r) = record { answer = Ran.Refused r 0 noStep; state = st; output = out }
 
 -- A run has 0 to 4,096 records, output 8 bytes each. (A step is a run of one record.)
 unfoldable pub runCall : Bytes → Bytes → Bytes → Bytes → RunOutcome

@@ -1,11 +1,12 @@
 -- The operations, kinds 18-23, 25 and 26: what they take, what they give and what they mean.
 -- Assumes nothing: these are definitions.
 use Prim.Native.Nat.{ℕ}
-use mathlib.Core.Bool.{Bool}
+use mathlib.Core.Bool.{Bool, not}
 use lib.Dec.{eqb, leb}
+use lib.IntN.{ℤ, _+ℤ_, _-ℤ_, _*ℤ_}
 use Rattle.rules.specs.Bytes.{if_then_else_, _and_, _or_}
 use Rattle.rules.specs.Values.{boolT, intT, maybeOf}
-use Rattle.rules.specs.Words.{sumOf, differenceOf, productOf, quotientOf, isLess}
+use Rattle.rules.specs.Words.{signed, outside, sumOf, differenceOf, productOf, floorZ, quotientOf, isLess}
 use Rattle.rules.specs.declared.Value.{Value}
 use Rattle.rules.specs.declared.Value.the-variants.{Plain}
 
@@ -42,3 +43,16 @@ meaning k x y =
     if leb k 20 then Plain intT (numberOf k x y)
     else if eqb k 21 then quotientOf x y
     else truth (truthOf k x y)
+
+-- The integer that a sum, a difference, a product or a quotient of the integers of two words is, before it wraps.
+unfoldable pub exactOf : ℕ → ℕ → ℕ → ℤ
+exactOf k x y =
+    if eqb k 18 then signed x +ℤ signed y
+    else if eqb k 19 then signed x -ℤ signed y
+    else if leb k 20 then signed x *ℤ signed y
+    else floorZ (signed x) (signed y)
+
+-- Whether a sum, a difference or a product left the 32-bit range; a negative quotient does not count, and -2147483648 by -1 does. (Of quotients only
+-- that one leaves it, and a zero divisor gives none.)
+unfoldable pub leavesRange : ℕ → ℕ → ℕ → Bool
+leavesRange k x y = leb k 21 and not (eqb k 21 and eqb y 0) and outside (exactOf k x y)

@@ -6,8 +6,8 @@ use lib.ListN.{length, replicate}
 use Rattle.rules.specs.Bytes.{Bytes, bytesOf, u64At}
 use Rattle.rules.specs.Values.{boolT, intT, maybeOf, unpacked, packed, valueBytes}
 use Rattle.rules.specs.Layout.{noNext, noTime, checksOf, stateLength}
-use Rattle.rules.specs.Calls.{checkCall, startCall, runCall}
-use Rattle.rules.specs.Samples.{minus, joined, program, programIn, programTwo, quiet, event, eventFive, twoEvents, stray, input, ext, delay, letSignal, switch, letContinue, until, branch, case, variable, constant, truth, operation, add, divide, negation, choice}
+use Rattle.rules.specs.Calls.{noStep, checkCall, startCall, runCall}
+use Rattle.rules.specs.Samples.{minus, joined, program, programIn, programTwo, quiet, measured, event, eventFive, twoEvents, stray, input, ext, delay, letSignal, switch, letContinue, until, branch, case, variable, constant, truth, operation, add, divide, negation, choice, just}
 use Rattle.rules.specs.declared.Value.{Value}
 use Rattle.rules.specs.declared.Value.the-variants.{Plain, Absent, Present}
 use Rattle.rules.specs.declared.Refusal.{Refusal}
@@ -29,12 +29,15 @@ pub record Seen : Type 0 where
   pub state : Bytes
   pub output : Bytes
 
--- A step with its work; a refused step's output is as before.
+-- A step with its work, in which no number wrapped; and one in which a number wrapped. A refused step's output is as before.
 abbrev pub made : Value → ℕ → Step
-made v w = record { answer = Finished 1 w; value = v }
+made v w = record { answer = Finished 1 w noStep; value = v }
+
+abbrev pub wraps : Value → ℕ → Step
+wraps v w = record { answer = Finished 1 w 0; value = v }
 
 abbrev pub refused : Refusal → Step
-refused r = record { answer = Ran.Refused r 0; value = Absent 0 }
+refused r = record { answer = Ran.Refused r 0 noStep; value = Absent 0 }
 
 abbrev pub stepsFrom : Bytes → Bytes → List Bytes → List Step
 stepsFrom p st [] = []
@@ -100,16 +103,16 @@ abbrev pub rowA : Row
 rowA = record {
   program = counting 0;
   records = quiet 0 ∷ quiet 100 ∷ quiet 100 ∷ [];
-  sight = expect (Accepted 8 1 13 intT) (made (int 0) 13 ∷ made (int 1) 13 ∷ made (int 2) 13 ∷ []) (Finished 3 39)
+  sight = expect (Accepted 8 1 13 intT) (made (int 0) 13 ∷ made (int 1) 13 ∷ made (int 2) 13 ∷ []) (Finished 3 39 noStep)
       (stateOf (counting 0) 100 (holding (int 3) ∷ []));
 }
 
--- B: A from 2147483647: next -2147483648.
+-- B: A from 2147483647: next -2147483648. (The sum is worked out, and wraps, in the update of the step before.)
 abbrev pub rowB : Row
 rowB = record {
   program = counting 2147483647;
   records = quiet 0 ∷ quiet 0 ∷ [];
-  sight = expect (Accepted 8 1 13 intT) (made (int 2147483647) 13 ∷ made (int (minus 2147483648)) 13 ∷ []) (Finished 2 26)
+  sight = expect (Accepted 8 1 13 intT) (wraps (int 2147483647) 13 ∷ made (int (minus 2147483648)) 13 ∷ []) (Finished 2 26 0)
       (stateOf (counting 2147483647) 0 (holding (int (minus 2147483647)) ∷ []));
 }
 
@@ -130,7 +133,7 @@ abbrev pub rowC : Row
 rowC = record {
   program = selfish;
   records = [];
-  sight = expect (Checked.Refused (NotReady 4)) [] (Ran.Refused (NotReady 4) 0) (0 ∷ 0 ∷ 0 ∷ 0 ∷ 0 ∷ 0 ∷ 0 ∷ 0 ∷ []);
+  sight = expect (Checked.Refused (NotReady 4)) [] (Ran.Refused (NotReady 4) 0 noStep) (0 ∷ 0 ∷ 0 ∷ 0 ∷ 0 ∷ 0 ∷ 0 ∷ 0 ∷ []);
 }
 
 -- D: switch (ext 0) on x = input 4 in ext x. Events 5, none, 6, none give 0, 5, 5, 6; work 6, 7, 6, 7.
@@ -152,7 +155,7 @@ rowD = record {
   program = switching;
   records = event 0 5 ∷ quiet 1 ∷ event 2 6 ∷ quiet 3 ∷ [];
   sight = expect (Accepted 6 1 7 intT)
-      (made (int 0) 6 ∷ made (int 5) 7 ∷ made (int 5) 6 ∷ made (int 6) 7 ∷ []) (Finished 4 26)
+      (made (int 0) 6 ∷ made (int 5) 7 ∷ made (int 5) 6 ∷ made (int 6) 7 ∷ []) (Finished 4 26 noStep)
       (stateOf switching 3 (holding (int 6) ∷ []));
 }
 
@@ -197,7 +200,7 @@ rowE = record {
   program = swaying;
   records = quiet 0 ∷ event 1 7 ∷ event 2 9 ∷ quiet 3 ∷ [];
   sight = expect (Accepted 18 1 9 intT)
-      (made (int 0) 9 ∷ made (int 0) 7 ∷ made (int 7) 7 ∷ made (int 1) 9 ∷ []) (Finished 4 32)
+      (made (int 0) 9 ∷ made (int 0) 7 ∷ made (int 7) 7 ∷ made (int 1) 9 ∷ []) (Finished 4 32 noStep)
       (stateOf swaying 3 (inBranch up 9 ∷ []));
 }
 
@@ -213,29 +216,31 @@ dividing x y =
     ∷ []
     )
 
-abbrev pub divides : ℕ → ℕ → Value → Row
-divides x y v = record {
+-- A row of one step, and whether it wrapped.
+abbrev pub divides : ℕ → ℕ → Step → Row
+divides x y s = record {
   program = dividing x y;
   records = quiet 0 ∷ [];
-  sight = expect (Accepted 4 0 5 maybeInt) (made v 5 ∷ []) (Finished 1 5) (stateOf (dividing x y) 0 []);
+  sight = expect (Accepted 4 0 5 maybeInt) (s ∷ []) (s .answer) (stateOf (dividing x y) 0 []);
 }
 
--- F: -7 by 2 is present -4, 7 by -2 is present -4, -7 by -2 is 3. (And the lowest value by -1.)
+-- F: -7 by 2 is present -4, 7 by -2 is present -4, -7 by -2 is 3. (And the lowest value by -1.) A negative quotient does not count as wrapped, and
+-- -2147483648 by -1 does.
 abbrev pub rowF : Row
-rowF = divides (minus 7) 2 (Present maybeInt (minus 4))
+rowF = divides (minus 7) 2 (made (Present maybeInt (minus 4)) 5)
 
 abbrev pub rowFnorth : Row
-rowFnorth = divides 7 (minus 2) (Present maybeInt (minus 4))
+rowFnorth = divides 7 (minus 2) (made (Present maybeInt (minus 4)) 5)
 
 abbrev pub rowFboth : Row
-rowFboth = divides (minus 7) (minus 2) (Present maybeInt 3)
+rowFboth = divides (minus 7) (minus 2) (made (Present maybeInt 3) 5)
 
 abbrev pub rowFlowest : Row
-rowFlowest = divides (minus 2147483648) (minus 1) (Present maybeInt (minus 2147483648))
+rowFlowest = divides (minus 2147483648) (minus 1) (wraps (Present maybeInt (minus 2147483648)) 5)
 
 -- G: 5 by 0 is absent.
 abbrev pub rowG : Row
-rowG = divides 5 0 (Absent maybeInt)
+rowG = divides 5 0 (made (Absent maybeInt) 5)
 
 -- H: one input node: bound 2, which is 1 times 2. (An empty run answers 0 steps.)
 abbrev pub inputOnly : Bytes
@@ -245,7 +250,7 @@ abbrev pub rowH : Row
 rowH = record {
   program = inputOnly;
   records = [];
-  sight = expect (Accepted 1 0 2 intT) [] (Finished 0 0) (stateOf inputOnly noTime []);
+  sight = expect (Accepted 1 0 2 intT) [] (Finished 0 0 noStep) (stateOf inputOnly noTime []);
 }
 
 -- I: two cases present at once: the first in the list wins. (port, node 12, takes channel 4's value; starboard, node 9, channel 5's. The
@@ -282,7 +287,7 @@ abbrev pub rowI : Row
 rowI = record {
   program = turning;
   records = twoEvents 0 5 8 ∷ quiet 0 ∷ [];
-  sight = expect (Accepted 14 1 11 intT) (made (int 0) 7 ∷ made (int 5) 5 ∷ []) (Finished 2 12)
+  sight = expect (Accepted 14 1 11 intT) (made (int 0) 7 ∷ made (int 5) 5 ∷ []) (Finished 2 12 noStep)
       (stateOf turning 0 (inBranch port 5 ∷ []));
 }
 
@@ -291,7 +296,7 @@ abbrev pub rowTime : Row
 rowTime = record {
   program = inputOnly;
   records = quiet 2147483647 ∷ quiet 2147483648 ∷ [];
-  sight = expect (Accepted 1 0 2 intT) (made (int 0) 2 ∷ refused (InputFault 0) ∷ []) (Ran.Refused (InputFault 1) 2)
+  sight = expect (Accepted 1 0 2 intT) (made (int 0) 2 ∷ refused (InputFault 0) ∷ []) (Ran.Refused (InputFault 1) 2 noStep)
       (stateOf inputOnly 2147483647 []);
 }
 
@@ -301,19 +306,70 @@ operating kind x y =
     let first : ℕ = 0 in let second : ℕ = 1 in let result : ℕ = 2 in
     program (constant x ∷ constant y ∷ operation kind first second ∷ ext result ∷ [])
 
-abbrev pub operates : ℕ → ℕ → ℕ → Value → Row
-operates kind x y v = record {
+abbrev pub operates : ℕ → ℕ → ℕ → Step → Row
+operates kind x y s = record {
   program = operating kind x y;
   records = quiet 0 ∷ [];
-  sight = expect (Accepted 4 0 5 intT) (made v 5 ∷ []) (Finished 1 5) (stateOf (operating kind x y) 0 []);
+  sight = expect (Accepted 4 0 5 intT) (s ∷ []) (s .answer) (stateOf (operating kind x y) 0 []);
 }
 
 -- 19: 5 from which 7 is taken is -2. 20: -3 times 5 is -15.
 abbrev pub rowSubtract : Row
-rowSubtract = operates 19 5 7 (int (minus 2))
+rowSubtract = operates 19 5 7 (made (int (minus 2)) 5)
 
 abbrev pub rowMultiply : Row
-rowMultiply = operates 20 (minus 3) 5 (int (minus 15))
+rowMultiply = operates 20 (minus 3) 5 (made (int (minus 15)) 5)
+
+-- Numbers that wrap, and their neighbours that do not: 2147483647 + 1, and -1 + -1, whose unsigned sum carries; -2147483648 - 1; 65536 times 32768 is
+-- 2147483648, and times -65536 it is -2147483648.
+abbrev pub rowSumWraps : Row
+rowSumWraps = operates 18 2147483647 1 (wraps (int (minus 2147483648)) 5)
+
+abbrev pub rowSumCarries : Row
+rowSumCarries = operates 18 (minus 1) (minus 1) (made (int (minus 2)) 5)
+
+abbrev pub rowDifferenceWraps : Row
+rowDifferenceWraps = operates 19 (minus 2147483648) 1 (wraps (int 2147483647) 5)
+
+abbrev pub rowProductWraps : Row
+rowProductWraps = operates 20 65536 32768 (wraps (int (minus 2147483648)) 5)
+
+abbrev pub rowProductLowest : Row
+rowProductLowest = operates 20 (minus 65536) 32768 (made (int (minus 2147483648)) 5)
+
+-- An arm that is not taken does not count, and the test does: ext (if x + 1 = 0 then 2147483647 + 1 else 5) of a constant x.
+abbrev pub choosing : ℕ → Bytes
+choosing x =
+    program (
+    constant x
+    ∷ constant 1
+    ∷ add 0 1
+    ∷ constant 0
+    ∷ operation 23 2 3
+    ∷ constant 2147483647
+    ∷ constant 1
+    ∷ add 5 6
+    ∷ constant 5
+    ∷ choice 4 7 8
+    ∷ ext 9
+    ∷ []
+    )
+
+abbrev pub chooses : ℕ → Step → Row
+chooses x s = record {
+  program = choosing x;
+  records = quiet 0 ∷ [];
+  sight = expect (Accepted 11 0 11 intT) (s ∷ []) (s .answer) (stateOf (choosing x) 0 []);
+}
+
+abbrev pub rowArmTaken : Row
+rowArmTaken = chooses (minus 1) (wraps (int (minus 2147483648)) 11)
+
+abbrev pub rowArmNotTaken : Row
+rowArmNotTaken = chooses 0 (made (int 5) 9)
+
+abbrev pub rowTestWraps : Row
+rowTestWraps = chooses 2147483647 (wraps (int 5) 9)
 
 -- ext of a sum: 1000 if the operation holds of the first pair of constants, 100 if of the second, 10 if of the third, 1 if of the fourth. A
 -- pair's six nodes stand from a number on.
@@ -335,7 +391,7 @@ abbrev pub four : ℕ → Bytes → Bytes → Bytes → Bytes → Bytes → Byte
 four kind x₁ y₁ x₂ y₂ x₃ y₃ x₄ y₄ sum = record {
   program = fourPairs kind x₁ y₁ x₂ y₂ x₃ y₃ x₄ y₄;
   records = quiet 0 ∷ [];
-  sight = expect (Accepted 28 0 25 intT) (made (int sum) 25 ∷ []) (Finished 1 25)
+  sight = expect (Accepted 28 0 25 intT) (made (int sum) 25 ∷ []) (Finished 1 25 noStep)
       (stateOf (fourPairs kind x₁ y₁ x₂ y₂ x₃ y₃ x₄ y₄) 0 []);
 }
 
@@ -365,7 +421,7 @@ abbrev pub rowNot : Row
 rowNot = record {
   program = negating;
   records = quiet 0 ∷ [];
-  sight = expect (Accepted 7 0 7 boolT) (made (Plain boolT 0) 7 ∷ []) (Finished 1 7) (stateOf negating 0 []);
+  sight = expect (Accepted 7 0 7 boolT) (made (Plain boolT 0) 7 ∷ []) (Finished 1 7 noStep) (stateOf negating 0 []);
 }
 
 -- Two faults of type, node 1 and node 3, each a not of an int: code 7 at the smaller, whichever of the two is met first.
@@ -375,7 +431,7 @@ twoFaults first second =
     record {
       program = program (constant 1 ∷ negation one ∷ constant 1 ∷ negation other ∷ operation 25 first second ∷ ext joint ∷ []);
       records = [];
-      sight = expect (Checked.Refused (TypeFault 1)) [] (Ran.Refused (TypeFault 1) 0) (0 ∷ 0 ∷ 0 ∷ 0 ∷ 0 ∷ 0 ∷ 0 ∷ 0 ∷ []);
+      sight = expect (Checked.Refused (TypeFault 1)) [] (Ran.Refused (TypeFault 1) 0 noStep) (0 ∷ 0 ∷ 0 ∷ 0 ∷ 0 ∷ 0 ∷ 0 ∷ 0 ∷ []);
     }
 
 abbrev pub rowSmallerFirst : Row
@@ -392,7 +448,7 @@ rowAbsent =
       program = inputOnly;
       records =
           stray (1 ∷ 0 ∷ 0 ∷ 0 ∷ []) ∷ stray (0 ∷ 1 ∷ 0 ∷ 0 ∷ []) ∷ stray (0 ∷ 0 ∷ 1 ∷ 0 ∷ []) ∷ stray (0 ∷ 0 ∷ 0 ∷ 1 ∷ []) ∷ [];
-      sight = expect (Accepted 1 0 2 intT) (no₀ ∷ no₀ ∷ no₀ ∷ no₀ ∷ []) (Ran.Refused (InputFault 0) 0) (stateOf inputOnly noTime []);
+      sight = expect (Accepted 1 0 2 intT) (no₀ ∷ no₀ ∷ no₀ ∷ no₀ ∷ []) (Ran.Refused (InputFault 0) 0 noStep) (stateOf inputOnly noTime []);
     }
 
 -- J (edition two): the group berth inside the branch final of the group arrival; in berth's branch fast, input 5 goes around, which leaves both
@@ -447,7 +503,7 @@ rowJ = record {
   program = programTwo arriving;
   records = quiet 0 ∷ event 1 7 ∷ event 2 9 ∷ eventFive 3 8 ∷ event 4 6 ∷ quiet 5 ∷ [];
   sight = expect (Accepted 25 2 11 intT)
-      (made (int 0) 9 ∷ made (int 0) 7 ∷ made (int 1) 9 ∷ made (int 9) 9 ∷ made (int 8) 7 ∷ made (int 1) 11 ∷ []) (Finished 6 52)
+      (made (int 0) 9 ∷ made (int 0) 7 ∷ made (int 1) 9 ∷ made (int 9) 9 ∷ made (int 8) 7 ∷ made (int 1) 11 ∷ []) (Finished 6 52 noStep)
       (stateOf (programTwo arriving) 5 (replicate 8 0 ∷ inBranch final 6 ∷ []));
 }
 
@@ -456,7 +512,7 @@ abbrev pub rowJone : Row
 rowJone = record {
   program = program arriving;
   records = [];
-  sight = expect (Checked.Refused (ScopeFault 13)) [] (Ran.Refused (ScopeFault 13) 0) (replicate 24 0);
+  sight = expect (Checked.Refused (ScopeFault 13)) [] (Ran.Refused (ScopeFault 13) 0 noStep) (replicate 24 0);
 }
 
 -- An edition above 1.
@@ -464,15 +520,73 @@ abbrev pub rowJthree : Row
 rowJthree = record {
   program = programIn 2 arriving;
   records = [];
-  sight = expect (Checked.Refused (BlockNumber 0)) [] (Ran.Refused (BlockNumber 0) 0) (replicate 24 0);
+  sight = expect (Checked.Refused (BlockNumber 0)) [] (Ran.Refused (BlockNumber 0) 0 noStep) (replicate 24 0);
 }
 
--- The table: the paper's readings, and rows that tell each operation, the smallest place and the absent words; and edition two's.
+-- What is evaluated before a jump counts: a group with port x = ext x and the body ext 0 until ext (just (2147483647 + 1)) => port.
+abbrev pub leaving : Bytes
+leaving =
+    let nought : ℕ = 0 in let still : ℕ = 1 in let most : ℕ = 2 in let one : ℕ = 3 in let sum : ℕ = 4 in let held₀ : ℕ = 5 in
+    let beyond : ℕ = 6 in let leave : ℕ = 7 in let body : ℕ = 8 in let x : ℕ = 9 in let portBody : ℕ = 10 in let port₀ : ℕ = 11 in
+    program (
+    constant 0
+    ∷ ext nought
+    ∷ constant 2147483647
+    ∷ constant 1
+    ∷ add most one
+    ∷ just sum
+    ∷ ext held₀
+    ∷ case beyond noNext port₀
+    ∷ until still leave
+    ∷ variable port₀
+    ∷ ext x
+    ∷ branch portBody noNext
+    ∷ letContinue body port₀
+    ∷ []
+    )
+
+-- Step 0 jumps, and its event wrapped; step 1 shows what was caught, and nothing in it wraps.
+abbrev pub rowJumpWraps : Row
+rowJumpWraps = record {
+  program = leaving;
+  records = quiet 0 ∷ quiet 0 ∷ [];
+  sight = expect (Accepted 13 1 13 intT) (wraps (int 0) 11 ∷ made (int (minus 2147483648)) 5 ∷ []) (Finished 2 16 0)
+      (stateOf leaving 0 (inBranch 11 (minus 2147483648) ∷ []));
+}
+
+-- let x = input 0 in ext (x + x): twice a distance.
+abbrev pub doubling : Bytes
+doubling =
+    let distance : ℕ = 0 in let once : ℕ = 1 in let again : ℕ = 2 in let sum : ℕ = 3 in let shown : ℕ = 4 in let x : ℕ = 5 in
+    program (
+    input 0
+    ∷ variable x
+    ∷ variable x
+    ∷ add once again
+    ∷ ext sum
+    ∷ letSignal distance shown
+    ∷ []
+    )
+
+-- Steps 1 and 2 wrap, at a sensor's full scale, and the fourth record is refused: the run answers the first of its finished steps that wrapped.
+abbrev pub rowFirstWrapped : Row
+rowFirstWrapped = record {
+  program = doubling;
+  records = measured 0 5 ∷ measured 0 1073741824 ∷ measured 0 1073741824 ∷ quiet 2147483648 ∷ [];
+  sight = expect (Accepted 6 0 10 intT)
+      (made (int 10) 10 ∷ wraps (int (minus 2147483648)) 10 ∷ wraps (int (minus 2147483648)) 10 ∷ refused (InputFault 0) ∷ [])
+      (Ran.Refused (InputFault 3) 30 1)
+      (stateOf doubling 0 []);
+}
+
+-- The table: the paper's readings, and rows that tell each operation, the smallest place and the absent words; edition two's; and numbers that wrap.
 abbrev pub readings : List Row
 readings =
     rowA ∷ rowB ∷ rowC ∷ rowD ∷ rowE ∷ rowF ∷ rowFnorth ∷ rowFboth ∷ rowFlowest ∷ rowG ∷ rowH ∷ rowI ∷ rowTime
     ∷ rowSubtract ∷ rowMultiply ∷ rowLess ∷ rowEqual ∷ rowNot ∷ rowAnd ∷ rowOr ∷ rowSmallerFirst ∷ rowSmallerLast ∷ rowAbsent
-    ∷ rowJ ∷ rowJone ∷ rowJthree ∷ []
+    ∷ rowJ ∷ rowJone ∷ rowJthree
+    ∷ rowSumWraps ∷ rowSumCarries ∷ rowDifferenceWraps ∷ rowProductWraps ∷ rowProductLowest
+    ∷ rowArmTaken ∷ rowArmNotTaken ∷ rowTestWraps ∷ rowJumpWraps ∷ rowFirstWrapped ∷ []
 
 -- Every row is seen as it should be.
 abbrev pub sights : List Row → List Seen

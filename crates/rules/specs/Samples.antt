@@ -73,6 +73,9 @@ negation x = node 24 0 x 0 0 0
 abbrev pub choice : ℕ → ℕ → ℕ → Bytes
 choice test x y = node 27 0 test x y 0
 
+abbrev pub just : ℕ → Bytes
+just x = node 28 0 x 0 0 0
+
 abbrev pub joined : List Bytes → Bytes
 joined [] = []
 joined (x ∷ xs) = x ++ joined xs
@@ -117,10 +120,13 @@ eventWords (some w ∷ es) = bytesOf 4 w ++ eventWords es
 abbrev pub reading : ℕ → List ℕ → List (Option ℕ) → Bytes
 reading t channels events = bytesOf 4 t ++ words channels ++ flags events ∷ 0 ∷ 0 ∷ 0 ∷ eventWords events
 
--- A record at a time whose channels 0-3 are zero: with no event, with one on channel 4, with one on channel 5, with one
--- each on channels 4 and 5.
+-- A record at a time whose channels 0-3 are zero, but for a word on channel 0 where one is measured: with no event, with one on channel 4, with one
+-- on channel 5, with one each on channels 4 and 5.
 abbrev pub quiet : ℕ → Bytes
 quiet t = reading t (0 ∷ 0 ∷ 0 ∷ 0 ∷ []) (none ∷ none ∷ none ∷ none ∷ [])
+
+abbrev pub measured : ℕ → ℕ → Bytes
+measured t x = reading t (x ∷ 0 ∷ 0 ∷ 0 ∷ []) (none ∷ none ∷ none ∷ none ∷ [])
 
 abbrev pub event : ℕ → ℕ → Bytes
 event t x = reading t (0 ∷ 0 ∷ 0 ∷ 0 ∷ []) (some x ∷ none ∷ none ∷ none ∷ [])

@@ -12,6 +12,9 @@ pub const MAYBE: u8 = 4;
 
 pub const NO_NEXT: u16 = 65535;
 
+// No step: none in which a number wrapped.
+pub const NO_STEP: u32 = 65535;
+
 // A value: its type code and its word, unsigned two's complement. Types 1-3 are Plain; 5-7 are Absent or Present.
 pub enum Value {
     Plain(u8, u32),
@@ -19,9 +22,10 @@ pub enum Value {
     Present(u8, u32),
 }
 
-// What an evaluation or an update has counted.
+// What an evaluation or an update has counted, and whether a number in it wrapped.
 pub struct Tally {
     pub work: u64,
+    pub wrapped: bool,
 }
 
 // The fields of a node's record: kind, type, a, b, c, word.
@@ -109,10 +113,11 @@ pub enum Started {
     Refused(Refusal),
 }
 
-// The answer of step and run: steps done, work; of a refusal, the work of the steps done.
+// The answer of run: steps done, work and the first step in which a number wrapped, NO_STEP if none; of a refusal, the work and that step of the
+// steps done.
 pub enum Ran {
-    Finished(u32, u32),
-    Refused(Refusal, u32),
+    Finished(u32, u32, u32),
+    Refused(Refusal, u32, u32),
 }
 
 // What a field a, b or c of a record is.

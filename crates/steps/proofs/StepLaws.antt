@@ -1,7 +1,7 @@
 -- What a step of an accepted program needs, and what it comes to.
 -- Assumes nothing.
 use mathlib.Core.Path.{_≡_, refl, sym, ap, _∙_, subst}
-use mathlib.Core.Bool.{Bool, true, false}
+use mathlib.Core.Bool.{Bool, true, false, _||_}
 use mathlib.Core.List.{List}
 use Prim.Native.Nat.{ℕ, _+_, _-_, _*_, _<_, _≤_}
 use native.Mathlib.Omega.{arith}
@@ -13,7 +13,7 @@ use Rattle.rules.specs.Kinds.{isSignal}
 use Rattle.rules.specs.Shaped.{NodeOf}
 use Rattle.rules.specs.Tree.{root, signalAt}
 use Rattle.rules.specs.Bound.{bound, boundS, boundU}
-use Rattle.rules.specs.Work.{_plus_, Updated, Next, Jump, Halted, moved}
+use Rattle.rules.specs.Work.{nothing, _plus_, Updated, Next, Jump, Halted, moved}
 use Rattle.rules.specs.Accepted.{Accepted}
 use Rattle.rules.specs.WellFormed.{wellFormed}
 use Rattle.rules.specs.Evaluate.{Env, unbound, evalS}
@@ -25,7 +25,7 @@ use Rattle.rules.specs.declared.Evaluated.the-variants.{Done, Stuck}
 use Rattle.rules.specs.declared.Moved.{Moved}
 use Rattle.rules.proofs.Rooted.{some-node, root-of, shaped-of}
 use Rattle.rules.proofs.Once.{bound-small, tree-small}
-use Rattle.rules.proofs.Bounds.{boundS≤}
+use Rattle.rules.proofs.Bounds.{boundS≤, update-small}
 use Rattle.rules.specs.Size.{sizeS}
 use Rattle.outcomes.specs.Outcome.{Slots}
 use Rattle.evaluate.specs.Ready.{ReadyS}
@@ -33,7 +33,9 @@ use Rattle.moves.specs.Lent.{Ready}
 use native.Mathlib.Nat.{mul-le-mul}
 use lib.Dec.{ltb}
 use borrow.Author.Tests.{ltb-true, ltb-false, lt-ltb, le-ltb}
-use Rattle.outcomes.specs.Combine.{workOf}
+use Rattle.outcomes.specs.Combine.{countOf, workOf}
+use Rattle.outcomes.proofs.Tallies.{same-tally}
+use Rattle.moves.proofs.NumberLaws.{or-same}
 use Rattle.outcomes.proofs.Outcomes.{work-within, slots-none}
 use Rattle.rules.proofs.Within.{evalS-within}
 use Rattle.current.specs.Current.{goS}
@@ -89,7 +91,7 @@ module _ {p : Bytes} {index : List ℕ} {size : ℕ} {env : Env} {count : ℕ} (
   update-ready s hs = record {
     node = rooted p count (g .accepted) (g .counted);
     lent = record { table = g .indexed; cells = rw hs (g .cells); slots = empty env (g .blank) };
-    small = rw (root-at p count (g .counted)) (omega (arith, bound-parts p .1, small-bound p (g .accepted)));
+    small = update-small (signalAt p (count - 1)) sized;
     few = sized;
   }
 
@@ -166,8 +168,8 @@ module _ {p : Bytes} {index : List ℕ} {size : ℕ} {env : Env} {count : ℕ} (
     evaluated-at = e ∙ (λ i. evalS rec st (g .blank i) (root-at p count (g .counted) i))
 
     -- what is shown of it
-    pub shows-none : r ≡ Stuck → (out : Bytes) (place : ℕ) → Displayed (evalS rec st (unbound mostNodes) (root p)) out out place 0
-    unfolding displayedIn
+    pub shows-none : r ≡ Stuck → (out : Bytes) (place : ℕ) → Displayed (evalS rec st (unbound mostNodes) (root p)) out out place (record { work = 0; wrapped = false })
+    unfolding displayedIn nothing
     shows-none f out place = rw (sym evaluated-at ∙ f) (record { written = refl; counted = refl; below = omega arith })
 
     pub evaluation-small : {v : Value} {u : Tally} → r ≡ Done v u → u .work ≤ mostWork
@@ -175,7 +177,7 @@ module _ {p : Bytes} {index : List ℕ} {size : ℕ} {env : Env} {count : ℕ} (
         omega (arith, bound-parts p .0, small-bound p (g .accepted), work-within _ (evalS-within rec st (unbound mostNodes) (root p)), ap workOf (sym evaluated-at ∙ f))
 
     pub shows : {v : Value} {u : Tally} → r ≡ Done v u → {out out₁ : Bytes} {place m : ℕ} → out₁ ≡ writeAt out place (bytesOf 8 m) → m ≡ packed v
-        → Displayed (evalS rec st (unbound mostNodes) (root p)) out out₁ place (u .work)
+        → Displayed (evalS rec st (unbound mostNodes) (root p)) out out₁ place u
     unfolding displayedIn valueBytes
     shows f {out} {out₁} {place} a b =
         rw (sym evaluated-at ∙ f) (record { written = a ∙ ap (λ (n : ℕ). writeAt out place (bytesOf 8 n)) b; counted = refl; below = evaluation-small f })
@@ -217,7 +219,7 @@ module _ {p st : Bytes} {index : List ℕ} {env : Env} {count : ℕ} (g : Going 
       never-broken e = broken x refl e
 
       pub advances : {t : Tally} → calmOf x ≡ Still t → {st₂ : Bytes} {moment : ℕ} → st₂ ≡ setTime st₁ moment → moment ≡ timeIn rec
-          → Advanced p rec st st₂ (t .work)
+          → Advanced p rec st st₂ t
       unfolding moved _plus_
       advances {t} c {st₂} a b =
           let m = goes in
@@ -231,30 +233,28 @@ module _ {p st : Bytes} {index : List ℕ} {env : Env} {count : ℕ} (g : Going 
           record {
             output = both p rec st m .value;
             seen = both p rec st m .seen;
-            tally = t;
             evaluates = e;
             made = q;
-            worked = refl;
             well = λ h. rw s (m .well h);
             within = omega (arith, m .within, ap (λ (x : Tally). x .work) w);
             below = omega (arith, small-bound p (g .accepted), m .within, ap (λ (x : Tally). x .work) w);
           }
 
-      pub update-small : {t : Tally} → calmOf x ≡ Still t → t .work ≤ mostWork
-      update-small k = advances k {st₂ = setTime st₁ (timeIn rec)} {moment = timeIn rec} refl refl .below
+      pub calm-small : {t : Tally} → calmOf x ≡ Still t → t .work ≤ mostWork
+      calm-small k = advances k {st₂ = setTime st₁ (timeIn rec)} {moment = timeIn rec} refl refl .below
 
 -- shown and advanced, a step is taken
-pub step-taken : {p rec st st₁ out out₁ : Bytes} {place a b : ℕ} → Displayed (evalS rec st (unbound mostNodes) (root p)) out out₁ place a
-    → Advanced p rec st st₁ b → Taken p rec st st₁ out out₁ place (a + b)
+pub step-taken : {p rec st st₁ out out₁ : Bytes} {place : ℕ} {a b : Tally} → Displayed (evalS rec st (unbound mostNodes) (root p)) out out₁ place a
+    → Advanced p rec st st₁ b → Taken p rec st st₁ out out₁ place (record { work = a .work + b .work; wrapped = a .wrapped || b .wrapped })
 unfolding _plus_ displayedIn
-step-taken {out = out} {place = place} {a = a} s m =
-    let w : a ≡ m .seen .work = s .counted ∙ ap workOf (m .evaluates) in
+step-taken {p = p} {rec = rec} {st = st} {st₁ = st₁} {out = out} {place = place} {a = a} {b = b} s m =
+    let w : a ≡ m .seen = s .counted ∙ ap countOf (m .evaluates) in
+    let sum : (m .seen plus b) ≡ record { work = a .work + b .work; wrapped = a .wrapped || b .wrapped }
+    = ap (λ (x : Tally). x plus b) (sym w) ∙ same-tally refl (sym (or-same (a .wrapped) (b .wrapped))) in
     record {
       output = m .output;
-      tally = m .seen plus m .tally;
-      made = m .made;
+      made = m .made ∙ ap (λ (x : Tally). Made (m .output) st₁ x) sum;
       shown = s .written ∙ ap (λ (e : Evaluated). displayedIn e out place) (m .evaluates);
-      worked = omega (arith, m .worked);
       well = m .well;
-      within = omega (arith, m .within);
+      within = omega (arith, m .within, ap (λ (x : Tally). x .work) w);
     }

@@ -15,13 +15,13 @@ use Rattle.rules.specs.Accepted.{Accepted}
 use Rattle.rules.specs.WellFormed.{wellFormed, lastMoment}
 use Rattle.rules.specs.Evaluate.{Env, unbound, evalS}
 use Rattle.rules.specs.Update.{Made, stepOf}
-use Rattle.rules.specs.Calls.{RunOutcome, runFrom}
+use Rattle.rules.specs.Calls.{RunOutcome, noStep, runFrom}
 use Rattle.rules.specs.declared.Value.{Value}
 use Rattle.rules.specs.declared.Tally.{Tally}
 use Rattle.rules.specs.declared.Ran.{Ran}
 use Rattle.rules.specs.declared.Evaluated.{Evaluated}
 use Rattle.rules.specs.declared.Evaluated.the-variants.{Done, Stuck}
-use Rattle.outcomes.specs.Combine.{workOf}
+use Rattle.outcomes.specs.Combine.{countOf}
 use Rattle.cells.specs.Indexed.{Indexed}
 
 -- An accepted program of so many nodes with its table of cells, a well-formed state, and a scratch in which nothing is bound.
@@ -49,32 +49,28 @@ displayedIn Stuck out place = out
 abbrev pub mostWork : ℕ
 mostWork = 1017072
 
-pub record Displayed (e : Evaluated) (out out₁ : Bytes) (place work : ℕ) : Type 0 where
+pub record Displayed (e : Evaluated) (out out₁ : Bytes) (place : ℕ) (seen : Tally) : Type 0 where
   pub written : out₁ ≡ displayedIn e out place
-  pub counted : work ≡ workOf e
-  pub below : work ≤ mostWork
+  pub counted : seen ≡ countOf e
+  pub below : seen .work ≤ mostWork
 
--- A step made, from state st to st₁, with so much work in its update. Its value stands in no room yet.
-pub record Advanced (p rec st st₁ : Bytes) (work : ℕ) : Type 0 where
+-- A step made, from state st to st₁, with so much counted in its update. Its value stands in no room yet.
+pub record Advanced (p rec st st₁ : Bytes) (tally : Tally) : Type 0 where
   pub output : Value
   pub seen : Tally
-  pub tally : Tally
   pub evaluates : evalS rec st (unbound mostNodes) (root p) ≡ Done output seen
   pub made : stepOf p rec st ≡ Made output st₁ (seen plus tally)
-  pub worked : work ≡ tally .work
   pub well : timeIn rec ≤ lastMoment → wellFormed p st₁ ≡ true
-  pub within : seen .work + work ≤ bound p
-  pub below : work ≤ mostWork
+  pub within : seen .work + tally .work ≤ bound p
+  pub below : tally .work ≤ mostWork
 
--- A step made, from state st to st₁, with its value written into the output room at a place, and so much work.
-pub record Taken (p rec st st₁ out out₁ : Bytes) (place work : ℕ) : Type 0 where
+-- A step made, from state st to st₁, with its value written into the output room at a place, and so much counted.
+pub record Taken (p rec st st₁ out out₁ : Bytes) (place : ℕ) (tally : Tally) : Type 0 where
   pub output : Value
-  pub tally : Tally
   pub made : stepOf p rec st ≡ Made output st₁ tally
   pub shown : out₁ ≡ writeAt out place (valueBytes output)
-  pub worked : work ≡ tally .work
   pub well : timeIn rec ≤ lastMoment → wellFormed p st₁ ≡ true
-  pub within : work ≤ bound p
+  pub within : tally .work ≤ bound p
 
 -- The answer, state and output room of an outcome.
 pub record Leaves (o : RunOutcome) (answer : Ran) (st out : Bytes) : Type 0 where
@@ -82,12 +78,12 @@ pub record Leaves (o : RunOutcome) (answer : Ran) (st out : Bytes) : Type 0 wher
   pub state-is : st ≡ o .state
   pub output-is : out ≡ o .output
 
--- A run on its way: so many of its records are done, with so much work, and what is left to do from here is what the run began with.
-pub record OnTheWay (p : Bytes) (index : List ℕ) (recs st₀ out₀ st : Bytes) (env : Env) (out : Bytes) (count left done work : ℕ) : Type 0 where
+-- A run on its way: so many of its records are done, with so much work and a first wrapped step, and what is left to do from here is what the run began with.
+pub record OnTheWay (p : Bytes) (index : List ℕ) (recs st₀ out₀ st : Bytes) (env : Env) (out : Bytes) (count left done work mark : ℕ) : Type 0 where
   pub going : Going p index st env count
   pub all : left ≡ length recs / inputLength
   pub within : done ≤ left
   pub fits : work ≤ mostWork * done
   pub cells : length st ≡ length st₀
   pub room : length out ≡ length out₀
-  pub same : runFrom p recs (left - done) done work st out ≡ runFrom p recs left 0 0 st₀ out₀
+  pub same : runFrom p recs (left - done) done work mark st out ≡ runFrom p recs left 0 0 noStep st₀ out₀

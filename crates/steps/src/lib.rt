@@ -5,7 +5,7 @@ ghost use lib.ListN.{length};
 ghost use Rattle.rules.specs.Layout.{inputLength, headerLength, mostNodes};
 ghost use Rattle.rules.specs.Tree.{root};
 ghost use Rattle.rules.specs.Evaluate.{unbound, evalS};
-ghost use Rattle.rules.specs.Calls.{recordVerdict, runFrom};
+ghost use Rattle.rules.specs.Calls.{recordVerdict, noStep, firstWrapped, runFrom};
 ghost use Rattle.steps.specs.Going.{Going, Held, Displayed, Advanced, Taken, Leaves, mostWork};
 ghost use Rattle.promises.specs.Run.{workIn};
 use answers::otherwise;
@@ -19,8 +19,10 @@ use outcomes::Shown;
 use record::input_wrong;
 use record::time_of;
 use record::time_wrong;
+use rules::NO_STEP;
 use rules::Ran;
 use rules::Refusal;
+use rules::Tally;
 use rules::Verdict;
 use update::update_s;
 
@@ -34,7 +36,7 @@ fn record_verdict(st: &[u8], rec: &[u8], done: u32) -> Verdict
     otherwise(input, time)
 }
 
-// The output of a step: the root is evaluated, and its value goes to the output room. The answer is the work.
+// The output of a step: the root is evaluated, and its value goes to the output room. The answer is what was counted.
 fn show(
     p: &[u8],
     index: &[u16; 2016],
@@ -44,22 +46,25 @@ fn show(
     out: &mut [u8],
     at: usize,
     count: usize,
-) -> u32
+) -> Tally
     requires { ⌜ Held (now p) (now index) (length (now st)) (now env) count × (at + 8 ≤ length (now out)) ⌝ }
     ensures { λ w. ⌜ Displayed (evalS (now (rec .entry)) (now (st .entry)) (unbound mostNodes) (root (now (p .entry)))) (now (out .entry)) (now (out .exit)) at w × (now (env .exit) ≡ now (env .entry)) ⌝ }
 {
     let outcome = evaluated(&p, index, &rec, st, env, count - 1);
     let shown = outcomes::show(outcome);
     match shown {
-        Shown::Stuck => 0,
+        Shown::Stuck => Tally {
+            work: 0,
+            wrapped: false,
+        },
         Shown::Value(v, u) => {
             put64(out, at, v);
-            u.work as u32
+            u
         }
     }
 }
 
-// The state after a step: the root is updated, and the time becomes the record's. The answer is the work. (No accepted program halts in a
+// The state after a step: the root is updated, and the time becomes the record's. The answer is what was counted. (No accepted program halts in a
 // well-formed state, nor jumps out of its root: that arm is never taken.)
 fn advance(
     p: &[u8],
@@ -68,19 +73,22 @@ fn advance(
     st: &mut [u8],
     env: &mut [u64; 1008],
     count: usize,
-) -> u32
+) -> Tally
     requires { ⌜ Going (now p) (now index) (now st) (now env) count × (inputLength ≤ length (now rec)) ⌝ }
     ensures { λ w. ⌜ Advanced (now (p .entry)) (now (rec .entry)) (now (st .entry)) (now (st .exit)) w × Held (now (p .entry)) (now (index .entry)) (length (now (st .exit))) (now (env .exit)) count ⌝ }
 {
     let moved = update_s(&p, index, &rec, st, env, count - 1);
     let Calm::Still(w) = settled(moved) else {
-        return 0;
+        return Tally {
+            work: 0,
+            wrapped: false,
+        };
     };
     set_time(st, time_of(rec));
-    w.work as u32
+    w
 }
 
-// A step: its value is that of the state before the update. The answer is the work.
+// A step: its value is that of the state before the update. The answer is what both phases counted.
 fn make_step(
     p: &[u8],
     index: &[u16; 2016],
@@ -90,13 +98,28 @@ fn make_step(
     out: &mut [u8],
     at: usize,
     count: usize,
-) -> u32
+) -> Tally
     requires { ⌜ Going (now p) (now index) (now st) (now env) count × (inputLength ≤ length (now rec)) × (at + 8 ≤ length (now out)) ⌝ }
     ensures { λ w. ⌜ Taken (now (p .entry)) (now (rec .entry)) (now (st .entry)) (now (st .exit)) (now (out .entry)) (now (out .exit)) at w × (now (env .exit) ≡ now (env .entry)) ⌝ }
 {
     let seen = show(p, index, rec, st, env, out, at, count);
     let moved = advance(p, index, rec, st, env, count);
-    seen + moved
+    Tally {
+        work: seen.work + moved.work,
+        wrapped: seen.wrapped | moved.wrapped,
+    }
+}
+
+// The first step in which a number wrapped, after one more step that counted so much.
+fn first_wrapped(mark: u32, done: u32, w: Tally) -> u32
+    ensures { λ r. ⌜ r ≡ firstWrapped mark done w ⌝ }
+{
+    if w.wrapped {
+        if mark == NO_STEP {
+            return done;
+        }
+    }
+    mark
 }
 
 // The records of a run, one after the other, until one is refused. More records may follow in another run. (No step works more than 1,008
@@ -111,22 +134,24 @@ pub fn run_records(
     count: usize,
 ) -> Ran
     requires { ⌜ Going (now p) (now index) (now st) (now env) count × (length (now recs) ≤ 163840) × (length (now out) ≡ 8 * (length (now recs) / inputLength)) ⌝ }
-    ensures { λ r. ⌜ Leaves (runFrom (now (p .entry)) (now (recs .entry)) (length (now (recs .entry)) / inputLength) 0 0 (now (st .entry)) (now (out .entry))) r (now (st .exit)) (now (out .exit)) × Going (now (p .entry)) (now (index .entry)) (now (st .exit)) (now (env .exit)) count × (workIn r ≤ mostWork * (length (now (recs .entry)) / inputLength)) ⌝ }
+    ensures { λ r. ⌜ Leaves (runFrom (now (p .entry)) (now (recs .entry)) (length (now (recs .entry)) / inputLength) 0 0 noStep (now (st .entry)) (now (out .entry))) r (now (st .exit)) (now (out .exit)) × Going (now (p .entry)) (now (index .entry)) (now (st .exit)) (now (env .exit)) count × (workIn r ≤ mostWork * (length (now (recs .entry)) / inputLength)) ⌝ }
 {
     let left = recs.len() / 40;
     let mut done: usize = 0;
     let mut work: u32 = 0;
+    let mut mark: u32 = NO_STEP;
     while done < left {
         let from = 40 * done;
         let to = from + 40;
         let rec = &recs[from..to];
         let found = record_verdict(st, rec, done as u32);
         if let Verdict::Refuse(r) = found {
-            return Ran::Refused(r, work);
+            return Ran::Refused(r, work, mark);
         }
         let spent = make_step(p, index, rec, st, env, out, 8 * done, count);
-        work += spent;
+        work += spent.work as u32;
+        mark = first_wrapped(mark, done as u32, spent);
         done += 1;
     }
-    Ran::Finished(done as u32, work)
+    Ran::Finished(done as u32, work, mark)
 }

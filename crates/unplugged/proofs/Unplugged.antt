@@ -13,7 +13,7 @@ use Rattle.rules.specs.Bytes.{Bytes, writeAt, if_then_else_, _and_}
 use Rattle.rules.specs.Layout.{nodes, aAt, inputLength, inputAt, timeIn, lastTime, channelValue}
 use Rattle.rules.specs.Tree.{root}
 use Rattle.rules.specs.Update.{stepOf}
-use Rattle.rules.specs.Calls.{_otherwise_, refuseIf, programVerdict, lentVerdict, inputWrong, timeWrong, recordVerdict, RunOutcome, runFrom, runOutcome, runCall}
+use Rattle.rules.specs.Calls.{_otherwise_, refuseIf, programVerdict, lentVerdict, inputWrong, timeWrong, recordVerdict, RunOutcome, noStep, runFrom, runOutcome, runCall}
 use Rattle.rules.specs.declared.Refusal.the-variants.{OutputLength}
 use Rattle.rules.specs.declared.Verdict.{Verdict}
 use Rattle.rules.specs.declared.Verdict.the-variants.{Fine, Refuse}
@@ -75,7 +75,7 @@ lent-fine p st recs out e =
 
 -- Two runs in their rooms, of one walk.
 walked : (out₁ out₂ : Bytes) (o₁ o₂ : RunOutcome) (r : Walk) → o₁ ≡ inRoom 0 out₁ r → o₂ ≡ inRoom 0 out₂ r
-    → ((steps work : ℕ) → r .answer ≡ Finished steps work → (length out₁ ≡ length (r .written)) × (length out₂ ≡ length (r .written)))
+    → ((steps work mark : ℕ) → r .answer ≡ Finished steps work mark → (length out₁ ≡ length (r .written)) × (length out₂ ≡ length (r .written)))
     → SameRuns out₁ out₂ o₁ o₂
 unfolding inRoom
 walked out₁ out₂ o₁ o₂ r e f full = record {
@@ -84,8 +84,8 @@ walked out₁ out₂ o₁ o₂ r e f full = record {
   written = r .written;
   into₁ = ap (λ (o : RunOutcome). o .output) e;
   into₂ = ap (λ (o : RunOutcome). o .output) f;
-  whole = λ steps work g.
-      let l = full steps work (sym (ap (λ (o : RunOutcome). o .answer) e) ∙ g) in
+  whole = λ steps work mark g.
+      let l = full steps work mark (sym (ap (λ (o : RunOutcome). o .answer) e) ∙ g) in
       ap (λ (o : RunOutcome). o .output) e ∙ write-all (r .written) out₁ (l .0)
       ∙ sym (write-all (r .written) out₂ (l .1)) ∙ sym (ap (λ (o : RunOutcome). o .output) f);
   equal-rooms = λ q.
@@ -109,13 +109,13 @@ unplugged p st recs₁ recs₂ out₁ out₂ lo a = go (lentVerdict p st recs₁
 
     go : (v : Verdict) → lentVerdict p st recs₁ out₁ (fits recs₁) ≡ v → SameRuns out₁ out₂ (runCall p st recs₁ out₁) (runCall p st recs₂ out₂)
     go (Refuse r) e =
-        walked out₁ out₂ _ _ (record { answer = Ran.Refused r 0; state = st; written = [] })
-        (as-lent (Refuse r) e) (as-lent₂ (Refuse r) e) (λ steps work f. absurd (not-finished f))
+        walked out₁ out₂ _ _ (record { answer = Ran.Refused r 0 noStep; state = st; written = [] })
+        (as-lent (Refuse r) e) (as-lent₂ (Refuse r) e) (λ steps work mark f. absurd (not-finished f))
     go Fine e =
         let l = lent-fine p st recs₁ out₁ e in
         let n : ℕ = length recs₁ / inputLength in
-        walked out₁ out₂ _ _ (walk p recs₁ n 0 0 st)
-        (as-lent Fine e ∙ run-walk n p recs₁ 0 0 st out₁)
-        (as-lent₂ Fine e ∙ ap (λ (m : ℕ). runFrom p recs₂ (m / inputLength) 0 0 st out₂) (sym lr) ∙ run-walk n p recs₂ 0 0 st out₂
-        ∙ sym (ap (inRoom 0 out₂) (walk-agree n p recs₁ recs₂ 0 0 st λ k g h. alike p _ _ k (l .some) (a .each k (omega arith)))))
-        (λ steps work f. let w = whole n p recs₁ 0 0 st steps work f in (omega (arith, l .room, w .long), omega (arith, l .room, w .long, lo)))
+        walked out₁ out₂ _ _ (walk p recs₁ n 0 0 noStep st)
+        (as-lent Fine e ∙ run-walk n p recs₁ 0 0 noStep st out₁)
+        (as-lent₂ Fine e ∙ ap (λ (m : ℕ). runFrom p recs₂ (m / inputLength) 0 0 noStep st out₂) (sym lr) ∙ run-walk n p recs₂ 0 0 noStep st out₂
+        ∙ sym (ap (inRoom 0 out₂) (walk-agree n p recs₁ recs₂ 0 0 noStep st λ k g h. alike p _ _ k (l .some) (a .each k (omega arith)))))
+        (λ steps work mark f. let w = whole n p recs₁ 0 0 noStep st steps work mark f in (omega (arith, l .room, w .long), omega (arith, l .room, w .long, lo)))

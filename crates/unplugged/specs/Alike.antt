@@ -29,7 +29,7 @@ pub record AllAlike (p recs₁ recs₂ : Bytes) : Type 0 where
   pub as-many : length recs₁ ≡ length recs₂
   pub each : (k : ℕ) → k < length recs₁ / inputLength → Alike p (inputAt recs₁ k) (inputAt recs₂ k)
 
--- Two runs give equal answers (with them the work), equal final states, and write the same bytes into their rooms; of a run that is not
+-- Two runs give equal answers (with them the work and the first wrapped step), equal final states, and write the same bytes into their rooms; of a run that is not
 -- refused, or in equal rooms, all of the output is the same.
 pub record SameRuns (out₁ out₂ : Bytes) (o₁ o₂ : RunOutcome) : Type 0 where
   pub answers : o₁ .answer ≡ o₂ .answer
@@ -37,5 +37,5 @@ pub record SameRuns (out₁ out₂ : Bytes) (o₁ o₂ : RunOutcome) : Type 0 wh
   pub written : Bytes
   pub into₁ : o₁ .output ≡ writeAt out₁ 0 written
   pub into₂ : o₂ .output ≡ writeAt out₂ 0 written
-  pub whole : (steps work : ℕ) → o₁ .answer ≡ Finished steps work → o₁ .output ≡ o₂ .output
+  pub whole : (steps work mark : ℕ) → o₁ .answer ≡ Finished steps work mark → o₁ .output ≡ o₂ .output
   pub equal-rooms : out₁ ≡ out₂ → o₁ .output ≡ o₂ .output

@@ -15,7 +15,8 @@ use Rattle.rules.specs.Reset.{resetS}
 use Rattle.rules.specs.Work.{Updated, moved, oneRule, afterᵘ, ruleᵘ, _plus_}
 use Rattle.rules.specs.declared.Value.{Value}
 use Rattle.current.specs.Current.{leaves, swapped}
-use Rattle.moves.specs.Outcomes.{countIn, targetIn, jumpValue, movedIn}
+use Rattle.rules.specs.declared.Moved.the-variants.{Stay}
+use Rattle.moves.specs.Outcomes.{tallyIn, targetIn, jumpValue, movedIn}
 use Rattle.moves.proofs.KindLaws.{pick-clear, pick-held}
 use Rattle.moves.proofs.SmallLaws.{leaves-stay, leaves-stuck, leaves-other, leaves-here}
 use Rattle.moves.proofs.NumberLaws.{moved-stuck, moved-stays, moved-jumps}
@@ -34,11 +35,10 @@ module _ (k : ℕ) (part : Signal) (brs : Branches) (r : ℕ) (st : Bytes) where
     catch-other h z = leaves-other k part brs (movedIn r) st (moved-jumps r l) (rw e at h) z
 
     pub catch-here : hasBranch t brs ≡ true → {v : ℕ} → v ≡ jumpValue r → {st₁ : Bytes} → st₁ ≡ resetS part (holdBranch st k t (unpacked v))
-        → {q : ℕ} → q ≡ countIn r → countIn r < 1048575 → moved (movedIn (q + 1)) st₁ ≡ ruleᵘ (leaves k part brs (moved (movedIn r) st))
-    unfolding moved ruleᵘ afterᵘ oneRule _plus_
-    catch-here h f s {q} g c =
-        let a : q + 1 ≡ 1 + countIn r = omega arith in
-        leaves-here k part brs (movedIn r) st (moved-jumps r l) (rw e at h) (rw (e, f) at s) (rw (moved-stays (q + 1) (omega arith) (omega arith), a))
+        → (q : ℕ) → movedIn q ≡ Stay (oneRule plus tallyIn r) → moved (movedIn q) st₁ ≡ ruleᵘ (leaves k part brs (moved (movedIn r) st))
+    unfolding moved ruleᵘ afterᵘ
+    catch-here h f s q g =
+        leaves-here k part brs (movedIn r) st (moved-jumps r l) (rw e at h) (rw (e, f) at s) (rw g)
 
 -- A group enters a branch, and a switch catches a value: the content of the cell, then the part that is left to start.
 module _ (p st : Bytes) {c k : ℕ} (b : c ≡ k) {st₂ st₁ : Bytes} (n : ℕ) (e : st₁ ≡ resetS (signalAt p n) st₂) where

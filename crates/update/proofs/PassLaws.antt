@@ -3,11 +3,12 @@
 use mathlib.Core.Path.{_≡_, refl, sym, ap, _∙_, subst}
 use mathlib.Core.Bool.{Bool, true, false}
 use mathlib.Core.List.{List}
-use Prim.Native.Nat.{ℕ, zero, suc, _+_, _*_, _≤_, _<_}
+use Prim.Native.Nat.{ℕ, zero, suc, _+_, _*_, _%_, _≤_, _<_}
 use native.Mathlib.Omega.{arith}
 use lib.ListN.{length}
-use borrow.Author.Tests.{eq-eqb, ne-eqb}
-use Rattle.rules.specs.Bytes.{Bytes}
+use lib.Dec.{leb}
+use borrow.Author.Tests.{eq-eqb, ne-eqb, leb-true, leb-false, le-leb, lt-leb}
+use Rattle.rules.specs.Bytes.{Bytes, _or_}
 use Rattle.rules.specs.Values.{unpacked}
 use Rattle.rules.specs.Layout.{kindAt, typeAt, aAt, bAt, cAt, wordAt, mostNodes}
 use Rattle.rules.specs.Kinds.{isCase}
@@ -17,36 +18,52 @@ use Rattle.rules.specs.Tree.{signalAt, casesAt}
 use Rattle.rules.specs.Work.{_plus_, Updated, Next, Jump, Halted, moved, stays, afterᵘ}
 use Rattle.rules.specs.Evaluate.{Env, evalS}
 use Rattle.rules.specs.declared.Node.{Node}
+use Rattle.rules.specs.declared.Tally.{Tally}
 use Rattle.rules.specs.declared.Moved.{Moved}
 use Rattle.rules.specs.declared.Moved.the-variants.{Stay}
 use Rattle.outcomes.specs.Combine.{partsOf}
 use Rattle.outcomes.specs.declared.Event.{Event}
 use Rattle.outcomes.specs.declared.Parts.the-variants.{Maybe}
+use Rattle.outcomes.proofs.Tallies.{counted, same-tally, or-no, yes-or, no-or, plus-assoc, one-first, four-parts}
 use Rattle.current.specs.Current.{goS}
-use Rattle.moves.specs.Outcomes.{workOf, calmOf, countIn, targetIn, jumpValue, movedIn, walked}
+use Rattle.moves.specs.Outcomes.{workOf, calmOf, countIn, tallyIn, targetIn, jumpValue, movedIn, walked}
 use Rattle.moves.specs.Lent.{ReadyC, CaseAs}
 use Rattle.moves.proofs.KindLaws.{low-updates}
 use Rattle.moves.proofs.ReadyLaws.{case-part, case-rest}
-use Rattle.moves.proofs.NumberLaws.{moved-stays, moved-jumps, more-moved}
+use Rattle.moves.proofs.NumberLaws.{moved-stays, moved-jumps, more-moved, more-count}
 use Rattle.moves.proofs.WalkLaws.{walk-quiet, walk-count, goes-on, broken-on}
-use Rattle.update.specs.Passes.{Fits, quietly, quietWork, onward, passedFrom}
+use Rattle.update.specs.Passes.{Fits, seenIn, keeping, quietly, quietWork, onward, passedFrom}
 use Rattle.update.specs.declared.Passed.{Passed}
 use Rattle.update.proofs.QuietLaws.{IsQuiet, quiet-tells}
 
 -- Nothing counted before a walk, and one event more.
 quietly-none : (X : Updated) → X ≡ quietly 0 0 X
-unfolding quietly
-quietly-none (Next st w) = ap (λ (k : ℕ). Next st (record { work = k })) (let e : w .work ≡ 0 + (0 + w .work) = omega arith in e)
-quietly-none (Jump target v st w) = ap (λ (k : ℕ). Jump target v st (record { work = k })) (let e : w .work ≡ 0 + w .work = omega arith in e)
+unfolding quietly keeping seenIn afterᵘ _plus_ _or_
+quietly-none (Next st w) = ap (Next st) (same-tally (omega arith) refl)
+quietly-none (Jump target v st w) = ap (Jump target v st) (same-tally (omega arith) refl)
 quietly-none Halted = refl
 
-quietly-more : (s k u : ℕ) (X : Updated) → quietly s k (quietly u 1 X) ≡ quietly (s + u) (k + 1) X
-unfolding quietly
-quietly-more s k u (Next st w) =
-    ap (λ (x : ℕ). Next st (record { work = x })) (let e : s + (k + (u + (1 + w .work))) ≡ s + u + (k + 1 + w .work) = omega arith in e)
-quietly-more s k u (Jump target v st w) =
-    ap (λ (x : ℕ). Jump target v st (record { work = x })) (let e : s + (u + w .work) ≡ s + u + w .work = omega arith in e)
-quietly-more s k u Halted = refl
+-- What events counted, of two numbers together: their work has room in 32 bits.
+seen-more : (s u : ℕ) → s % 4294967296 + u % 4294967296 < 4294967296 → seenIn (s + u) ≡ seenIn s plus seenIn u
+unfolding seenIn _plus_
+seen-more s u h = same-tally (omega arith) (go (leb 4294967296 s) (leb 4294967296 u) refl refl)
+  where
+    go : (a b : Bool) → leb 4294967296 s ≡ a → leb 4294967296 u ≡ b → leb 4294967296 (s + u) ≡ a or b
+    go true b e f = let l : 4294967296 ≤ s = leb-true _ _ e in le-leb 4294967296 (s + u) (omega arith) ∙ sym (yes-or b)
+    go false true e f = let l : 4294967296 ≤ u = leb-true _ _ f in le-leb 4294967296 (s + u) (omega arith) ∙ sym (no-or true)
+    go false false e f =
+        let k : s < 4294967296 = leb-false _ _ e in
+        let l : u < 4294967296 = leb-false _ _ f in
+        lt-leb 4294967296 (s + u) (omega arith) ∙ sym (no-or false)
+
+quietly-more : (s k u : ℕ) (X : Updated) → s % 4294967296 + u % 4294967296 < 4294967296 → quietly s k (quietly u 1 X) ≡ quietly (s + u) (k + 1) X
+unfolding quietly keeping afterᵘ
+quietly-more s k u (Next st w) h = rw (seen-more s u h) (ap (Next st) (tallies (seenIn s) (seenIn u)))
+  where
+    tallies : (a b : Tally) → a plus (counted k plus (b plus (counted 1 plus w))) ≡ (a plus b) plus (counted (k + 1) plus w)
+    tallies a b = four-parts a b w k
+quietly-more s k u (Jump target v st w) h = rw (seen-more s u h) (ap (Jump target v st) (sym (plus-assoc (seenIn s) (seenIn u) w)))
+quietly-more s k u Halted h = refl
 
 -- The walk from a case that is quiet so, by the walk from the next one.
 module _ {p : Bytes} {index : List ℕ} (rec st : Bytes) {env : Env} {j : ℕ} {n : Node} (r : CaseAs p index (length st) env j n)
@@ -57,18 +74,18 @@ module _ {p : Bytes} {index : List ℕ} (rec st : Bytes) {env : Env} {j : ℕ} {
   on : n .b ≡ 65535 → ⊥
   on h = q .follows o (sym (r .fields .b-is) ∙ h)
 
-  gone : partsOf (evalS rec st env (signalAt p (n .a))) ≡ Maybe Event.Quiet (record { work = u })
+  gone : partsOf (evalS rec st env (signalAt p (n .a))) ≡ Maybe Event.Quiet (seenIn u)
   gone = rw (r .fields .a-is) (q .absent o)
 
   updates : (s : Bytes) → moved (movedIn 1) s ≡ goS rec env (signalAt p (n .a)) s
   updates s = low-updates p (n .a) (case-part r .ready .node) rec env s refl (rw (r .fields .a-is) (q .idle o))
 
   passed-by : (X : Updated) → X ≡ walked rec env (casesAt p (n .b)) st → quietly u 1 X ≡ walked rec env (casesAt p j) st
-  unfolding quietly afterᵘ _plus_ moved movedIn stays calmOf
+  unfolding quietly keeping afterᵘ moved movedIn tallyIn countIn stays calmOf
   passed-by (Next s w) h =
-      walk-quiet p j (r .ready .node) (r .fields) rec env st refl gone refl (Stay (w plus record { work = 1 })) s
+      walk-quiet p j (r .ready .node) (r .fields) rec env st refl gone refl (Stay (w plus counted 1)) s
       (goes-on p j (r .ready .node) (r .fields) rec env st on (Stay w) s h refl refl (movedIn 1) s (updates s) refl refl)
-      (ap (λ (x : ℕ). Next s (record { work = x })) (let z : u + (1 + w .work) ≡ u + (w .work + 1) = omega arith in z))
+      (ap (λ (x : Tally). Next s (seenIn u plus x)) (one-first w))
   passed-by (Jump target v s w) h =
       walk-quiet p j (r .ready .node) (r .fields) rec env st refl gone refl (Moved.Jump target v w) s
       (broken-on p j (r .ready .node) (r .fields) rec env st on (Moved.Jump target v w) s h refl) refl
@@ -76,8 +93,11 @@ module _ {p : Bytes} {index : List ℕ} (rec st : Bytes) {env : Env} {j : ℕ} {
       walk-quiet p j (r .ready .node) (r .fields) rec env st refl gone refl Moved.Stuck st
       (broken-on p j (r .ready .node) (r .fields) rec env st on Moved.Stuck st h refl) refl
 
-  pub counted-small : u < 65536
+  pub counted-small : u % 4294967296 < 65536
   counted-small = q .small
+
+  pub counted-once : u < 8589934592
+  counted-once = q .once
 
   pub next-ready : (n .b < j) × ReadyC p index (length st) env (n .b)
   next-ready = case-rest r on
@@ -87,31 +107,39 @@ pub record Passing (p : Bytes) (index : List ℕ) (rec st : Bytes) (env : Env) (
   pub ready : ReadyC p index (length st) env i
   pub same : walked rec env (casesAt p j) st ≡ quietly seen kept (walked rec env (casesAt p i) st)
   pub down : kept + i ≤ j
-  pub few : seen ≤ 65536 * kept
+  pub few : seen % 4294967296 ≤ 65536 * kept
+  pub marks : seen < 4294967296 * kept + 4294967296
 
 pub pass-start : {p : Bytes} {index : List ℕ} (rec st : Bytes) {env : Env} {j : ℕ} → ReadyC p index (length st) env j → Passing p index rec st env j j 0 0
-pass-start rec st r = record { ready = r; same = quietly-none _; down = omega arith; few = omega arith }
+pass-start rec st r = record { ready = r; same = quietly-none _; down = omega arith; few = omega arith; marks = omega arith }
 
-pub pass-next : {p : Bytes} {index : List ℕ} {rec st : Bytes} {env : Env} {j i seen kept : ℕ} → Passing p index rec st env j i seen kept
+-- The counts stay small: no more cases are passed than there are nodes.
+low-sum : (seen u kept : ℕ) → seen % 4294967296 ≤ 65536 * kept → u % 4294967296 < 65536 → kept < 1008
+    → (seen % 4294967296 + u % 4294967296 < 4294967296) × ((seen + u) % 4294967296 ≤ 65536 * (kept + 1))
+low-sum seen u kept h g l = (omega arith, omega arith)
+
+pub pass-next : {p : Bytes} {index : List ℕ} {rec st : Bytes} {env : Env} {j i seen kept : ℕ} → NodeOf isCase p j → Passing p index rec st env j i seen kept
     → {n : Node} → IsNode p i n → {u : ℕ} → u ≡ quietWork p rec st env i → 0 < u
     → (n .b < i) × Passing p index rec st env j (n .b) (seen + u) (kept + 1)
-pass-next {p} {index} {rec} {st} {env} {j} {i} {seen} {kept} s {n} f {u} q o =
+pass-next {p} {index} {rec} {st} {env} {j} {i} {seen} {kept} w s {n} f {u} q o =
     let r : CaseAs p index (length st) env i n = record { ready = s .ready; fields = f } in
     let k = next-ready rec st r q o in
+    let room = low-sum seen u kept (s .few) (counted-small rec st r q o) (omega (arith, w .inside, w .shaped .small, s .down, k .0)) in
     let W = walked rec env (casesAt p (n .b)) st in (
       k .0,
       record {
         ready = k .1;
-        same = s .same ∙ ap (quietly seen kept) (sym (passed-by rec st r q o W refl)) ∙ quietly-more seen kept u W;
+        same = s .same ∙ ap (quietly seen kept) (sym (passed-by rec st r q o W refl)) ∙ quietly-more seen kept u W (room .0);
         down = omega (arith, s .down, k .0);
-        few = omega (arith, s .few, counted-small rec st r q o);
+        few = room .1;
+        marks = omega (arith, s .marks, counted-once rec st r q o);
       },
     )
 
 pub pass-room : {p : Bytes} {index : List ℕ} {rec st : Bytes} {env : Env} {j i seen kept : ℕ} → NodeOf isCase p j → Passing p index rec st env j i seen kept
-    → (seen + 65536 < 4294967296) × (kept + 1 < 4294967296)
+    → (seen + 8589934592 < 18446744073709551616) × (kept + 1 < 4294967296)
 pass-room w s = (
-  omega (arith, w .inside, w .shaped .small, s .down, s .few),
+  omega (arith, w .inside, w .shaped .small, s .down, s .marks),
   omega (arith, w .inside, w .shaped .small, s .down),
 )
 
@@ -125,7 +153,6 @@ pub record Passes (p : Bytes) (index : List ℕ) (rec st : Bytes) (env : Env) (j
   pub ready : ReadyC p index (length st) env (s .at)
   pub down : s .at ≤ j
   pub same : walked rec env (casesAt p j) st ≡ quietly (s .seen) (s .kept) (walked rec env (casesAt p (s .at)) st)
-  pub few-seen : s .seen < 4294967296
   pub few-kept : s .kept < 4294967296
 
 pass-end : {p : Bytes} {index : List ℕ} {rec st : Bytes} {env : Env} {j : ℕ} (s : Passed) → NodeOf isCase p j
@@ -136,7 +163,6 @@ pass-end s w x =
       ready = x .ready;
       down = omega (arith, x .down);
       same = x .same;
-      few-seen = omega (arith, k .0);
       few-kept = omega (arith, k .1);
     }
 
@@ -206,16 +232,16 @@ module _ {p rec st : Bytes} {env : Env} {j i seen kept : ℕ} where
       ∙ made-same i (let z : seen + 0 ≡ seen = omega arith in z) (let z : kept + 0 ≡ kept = omega arith in z))
 
 -- What the definition passes, from a case where the loop may stand: by the turns, each as the loop's.
-module _ (p : Bytes) (index : List ℕ) (rec st : Bytes) (env : Env) (j : ℕ) where
+module _ (p : Bytes) (index : List ℕ) (rec st : Bytes) (env : Env) (j : ℕ) (case-node : NodeOf isCase p j) where
   abbrev Through : ℕ → ℕ → Passed → Type 0
   Through a b s = Passing p index rec st env j (s .at) (a + s .seen) (b + s .kept)
 
-  counted : (i : ℕ) {a b x y : ℕ} → a ≡ x → b ≡ y → Passing p index rec st env j i a b → Passing p index rec st env j i x y
-  counted i e f s = rw (← e, ← f) s
+  recounted : (i : ℕ) {a b x y : ℕ} → a ≡ x → b ≡ y → Passing p index rec st env j i a b → Passing p index rec st env j i x y
+  recounted i e f s = rw (← e, ← f) s
 
   stopped : {i a b : ℕ} → Passing p index rec st env j i a b → {s : Passed} → s ≡ made i 0 0 → Through a b s
   stopped {i} {a} {b} x e =
-      subst (Through a b) (sym e) (counted i (let z : a ≡ a + 0 = omega arith in z) (let z : b ≡ b + 0 = omega arith in z) x)
+      subst (Through a b) (sym e) (recounted i (let z : a ≡ a + 0 = omega arith in z) (let z : b ≡ b + 0 = omega arith in z) x)
 
   one-more : (fuel : ℕ) → ((i a b : ℕ) → Passing p index rec st env j i a b → Through a b (passedFrom p rec st env fuel i))
       → {i a b : ℕ} → Passing p index rec st env j i a b → (u : ℕ) → u ≡ quietWork p rec st env i → Through a b (passedFrom p rec st env (suc fuel) i)
@@ -228,8 +254,8 @@ module _ (p : Bytes) (index : List ℕ) (rec st : Bytes) (env : Env) (j : ℕ) w
       let S = passedFrom p rec st env fuel (bAt p i) in
       let W = quietWork p rec st env i in
       subst (Through a b) (sym (passed-on p rec st env fuel i (rw (← e) o)))
-      (counted (S .at) (let z : a + suc k + S .seen ≡ a + (W + S .seen) = omega (arith, e) in z) (let z : b + 1 + S .kept ≡ b + (1 + S .kept) = omega arith in z)
-      (rest (bAt p i) (a + suc k) (b + 1) (pass-next x f e o .1)))
+      (recounted (S .at) (let z : a + suc k + S .seen ≡ a + (W + S .seen) = omega (arith, e) in z) (let z : b + 1 + S .kept ≡ b + (1 + S .kept) = omega arith in z)
+      (rest (bAt p i) (a + suc k) (b + 1) (pass-next case-node x f e o .1)))
 
   through : (fuel i a b : ℕ) → Passing p index rec st env j i a b → Through a b (passedFrom p rec st env fuel i)
   through zero i a b x = stopped x (passed-none p rec st env i)
@@ -239,8 +265,8 @@ pub passes-from : {p : Bytes} {index : List ℕ} (rec st : Bytes) {env : Env} {j
     → {s : Passed} → s ≡ passedFrom p rec st env mostNodes j → Passes p index rec st env j s
 passes-from {p} {index} rec st {env} {j} r {s} e =
     pass-end s (r .node)
-    (counted p index rec st env j (s .at) (let z : 0 + s .seen ≡ s .seen = omega arith in z) (let z : 0 + s .kept ≡ s .kept = omega arith in z)
-    (subst (Through p index rec st env j 0 0) (sym e) (through p index rec st env j mostNodes j 0 0 (pass-start rec st r))))
+    (recounted p index rec st env j (r .node) (s .at) (let z : 0 + s .seen ≡ s .seen = omega arith in z) (let z : 0 + s .kept ≡ s .kept = omega arith in z)
+    (subst (Through p index rec st env j (r .node) 0 0) (sym e) (through p index rec st env j (r .node) mostNodes j 0 0 (pass-start rec st r))))
 
 -- What is still to go: the cases down to 0, or nothing where the loop is to end.
 abbrev pub still : Bool → ℕ → ℕ
@@ -256,27 +282,40 @@ still-end i k e g = rw (e, g) (let z : 0 < i + 1 = omega arith in z)
 -- What was passed may be added to the walk's outcome: both together are the walk from case j, whose count is within its bound.
 pub passes-fit : {p : Bytes} {index : List ℕ} {rec st : Bytes} {env : Env} {j : ℕ} {s : Passed} → ReadyC p index (length st) env j
     → Passes p index rec st env j s → (o : ℕ) (st₁ : Bytes) → moved (movedIn o) st₁ ≡ walked rec env (casesAt p (s .at)) st → Fits s o
-unfolding quietly moved
+unfolding quietly keeping seenIn afterᵘ _plus_ moved tallyIn
 passes-fit {p} {index} {rec} {st} {env} {j} {s} r x o st₁ e =
     record {
-      still = λ n l. small (Stay (record { work = s .seen + (s .kept + o) })) (rw (moved-stays o n l) at whole);
-      jumps = λ l. small (Moved.Jump (targetIn o) (unpacked (jumpValue o)) (record { work = s .seen + countIn o })) (rw (moved-jumps o l) at whole);
+      still = λ n l. small (Stay (seenIn (s .seen) plus (counted (s .kept) plus tallyIn o))) (rw (moved-stays o n l) at whole);
+      jumps = λ l. small (Moved.Jump (targetIn o) (unpacked (jumpValue o)) (seenIn (s .seen) plus tallyIn o)) (rw (moved-jumps o l) at whole);
     }
   where
     whole : quietly (s .seen) (s .kept) (moved (movedIn o) st₁) ≡ walked rec env (casesAt p j) st
     whole = ap (quietly (s .seen) (s .kept)) e ∙ sym (x .same)
 
-    small : (m : Moved) → moved m st₁ ≡ walked rec env (casesAt p j) st → workOf m < 1048576
+    small : (m : Moved) → moved m st₁ ≡ walked rec env (casesAt p j) st → workOf m < 524288
     small m h = omega (arith, r .small, walk-count m st₁ rec env (casesAt p j) st h)
 
 -- The sum, by what the outcome's number is.
-module _ (s : Passed) (o : ℕ) (f : Fits s o) (st : Bytes) where
-  pub added-stays : 0 < o → o < 1048576 → moved (movedIn (s .seen + (s .kept + o))) st ≡ quietly (s .seen) (s .kept) (moved (movedIn o) st)
-  unfolding quietly moved
-  added-stays n l = rw (moved-stays (s .seen + (s .kept + o)) (omega arith) (f .still n l), moved-stays o n l)
+module _ (s : Passed) (o : ℕ) (f : Fits s o) {u : Tally} (e : u ≡ seenIn (s .seen)) (st : Bytes) where
+  pub added-stays : 0 < o → o < 1048576 → afterᵘ u (moved (movedIn (s .kept + o)) st) ≡ quietly (s .seen) (s .kept) (moved (movedIn o) st)
+  unfolding quietly keeping moved afterᵘ
+  added-stays n l =
+      let c : s .kept + o ≡ o + s .kept = omega arith in
+      let more = more-moved o (s .kept) (omega (arith, f .still n l)) n st in
+      rw (c, e, more, moved-stays o n l)
 
-  pub added-jumps : 1048576 ≤ o → moved (movedIn (s .seen + o)) st ≡ quietly (s .seen) (s .kept) (moved (movedIn o) st)
-  unfolding quietly moved afterᵘ _plus_
-  added-jumps l =
-      let c : s .seen + o ≡ o + s .seen = omega arith in
-      rw c (more-moved o (s .seen) (f .jumps l) (omega arith) st ∙ rw (moved-jumps o l))
+  pub added-jumps : 1048576 ≤ o → afterᵘ u (moved (movedIn o) st) ≡ quietly (s .seen) (s .kept) (moved (movedIn o) st)
+  unfolding quietly keeping moved
+  added-jumps l = rw (e, moved-jumps o l)
+
+  -- there is room for it
+  pub fits-stays : 0 < o → o < 1048576 → u .work + countIn (s .kept + o) < 524288
+  unfolding seenIn
+  fits-stays n l =
+      let c : s .kept + o ≡ o + s .kept = omega arith in
+      let z : u .work ≡ s .seen % 4294967296 = ap (λ (x : Tally). x .work) e in
+      rw c (omega (arith, f .still n l, more-count o (s .kept) (omega (arith, f .still n l))))
+
+  pub fits-jumps : 1048576 ≤ o → u .work + countIn o < 524288
+  unfolding seenIn
+  fits-jumps l = let z : u .work ≡ s .seen % 4294967296 = ap (λ (x : Tally). x .work) e in omega (arith, f .jumps l)

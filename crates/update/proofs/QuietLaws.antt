@@ -3,27 +3,29 @@
 use mathlib.Core.Path.{_≡_, refl, sym, ap, _∙_, subst}
 use mathlib.Core.Bool.{Bool, true, false}
 use mathlib.Core.List.{List}
-use Prim.Native.Nat.{ℕ, _≤_, _<_}
+use Prim.Native.Nat.{ℕ, _+_, _%_, _≤_, _<_}
 use native.Mathlib.Omega.{arith}
-use lib.Dec.{eqb, ltb}
+use lib.Dec.{eqb, ltb, leb}
 use lib.ListN.{length}
-use borrow.Author.Tests.{eq-eqb, ne-eqb, eqb-true, eqb-false, lt-ltb, le-ltb, ltb-true, ltb-false}
-use Rattle.rules.specs.Bytes.{Bytes}
+use borrow.Author.Tests.{eq-eqb, ne-eqb, eqb-true, eqb-false, lt-ltb, le-ltb, ltb-true, ltb-false, le-leb, lt-leb}
+use Rattle.rules.specs.Bytes.{Bytes, if_then_else_}
 use Rattle.rules.specs.Layout.{kindAt, aAt, bAt, noNext}
 use Rattle.rules.specs.Tree.{signalAt}
 use Rattle.rules.specs.Evaluate.{Env, evalS}
 use Rattle.rules.specs.declared.Node.{Node}
+use Rattle.rules.specs.declared.Tally.{Tally}
 use Rattle.rules.specs.declared.Evaluated.{Evaluated}
 use Rattle.rules.proofs.Within.{evalS-within}
-use Rattle.outcomes.specs.Combine.{partsOf}
+use Rattle.outcomes.specs.Combine.{workOf, partsOf}
 use Rattle.outcomes.specs.declared.Event.{Event}
 use Rattle.outcomes.specs.declared.Event.the-variants.{Occurs}
 use Rattle.outcomes.specs.declared.Parts.{Parts}
 use Rattle.outcomes.specs.declared.Parts.the-variants.{Maybe, Wrong}
 use Rattle.outcomes.proofs.Outcomes.{work-within, take-work}
+use Rattle.outcomes.proofs.Tallies.{same-tally}
 use Rattle.moves.specs.Lent.{CaseAs}
 use Rattle.moves.proofs.ReadyLaws.{case-part, seen-small}
-use Rattle.update.specs.Passes.{absentWork, quietWork}
+use Rattle.update.specs.Passes.{seenOf, seenIn, absentWork, quietWork}
 
 -- The count by tests: of the last case, of an event of another kind, and of an event that is looked at.
 module _ (p rec st : Bytes) (env : Env) (j : ℕ) where
@@ -54,17 +56,36 @@ module _ {p : Bytes} {index : List ℕ} (rec st : Bytes) {env : Env} {j : ℕ} {
         ap absentWork (sym a ∙ ap partsOf q) ∙ ap (λ (i : ℕ). absentWork (partsOf (evalS rec st env (signalAt p i)))) (r .fields .a-is)
         ∙ sym (work-low p rec st env j (λ z. d (r .fields .b-is ∙ z)) (rw (← r .fields .a-is) (rw (← e) h)))
 
+-- What the event of a case counted is small.
+pub few-seen : {p : Bytes} {index : List ℕ} (rec st : Bytes) {env : Env} {j : ℕ} {n : Node} → CaseAs p index (length st) env j n
+    → {x : Evaluated} → x ≡ evalS rec st env (signalAt p (n .a)) → {e : Event} {u : Tally} → partsOf x ≡ Maybe e u → u .work < 4294967296
+few-seen {p} rec st {env} {n = n} r q d =
+    omega (arith, take-work _ d, ap workOf q, work-within _ (evalS-within rec st env (signalAt p (n .a))), seen-small (case-part r .ready))
+
+-- What an event counted is read back from its number.
+pub seen-back : (w : Tally) → w .work < 65536 → (seenIn (seenOf w) ≡ w) × (seenOf w % 4294967296 < 65536) × (seenOf w < 8589934592)
+unfolding seenIn seenOf
+seen-back w h = go (w .wrapped) refl
+  where
+    go : (b : Bool) → w .wrapped ≡ b
+        → (_≡_ {A = Tally} (record { work = (w .work + (if b then 4294967296 else 0)) % 4294967296; wrapped = leb 4294967296 (w .work + (if b then 4294967296 else 0)) }) w)
+        × ((w .work + (if b then 4294967296 else 0)) % 4294967296 < 65536) × (w .work + (if b then 4294967296 else 0) < 8589934592)
+    go true e = (same-tally (omega arith) (le-leb 4294967296 (w .work + 4294967296) (omega arith) ∙ sym e), omega arith, omega arith)
+    go false e = (same-tally (omega arith) (lt-leb 4294967296 (w .work + 0) (omega arith) ∙ sym e), omega arith, omega arith)
+
 -- What a count u of case j tells: it is small, and where it is above 0 a case follows and the event, of a low kind, is absent.
 pub record IsQuiet (p rec st : Bytes) (env : Env) (j u : ℕ) : Type 0 where
-  pub small : u < 65536
+  pub small : u % 4294967296 < 65536
+  pub once : u < 8589934592
   pub follows : 0 < u → bAt p j ≡ noNext → ⊥
   pub idle : 0 < u → kindAt p (aAt p j) ≤ 3
-  pub absent : 0 < u → partsOf (evalS rec st env (signalAt p (aAt p j))) ≡ Maybe Event.Quiet (record { work = u })
+  pub absent : 0 < u → partsOf (evalS rec st env (signalAt p (aAt p j))) ≡ Maybe Event.Quiet (seenIn u)
 
 none-quiet : {p rec st : Bytes} {env : Env} {j u : ℕ} → u ≡ 0 → IsQuiet p rec st env j u
 none-quiet {u = u} e =
     record {
       small = omega (arith, e);
+      once = omega (arith, e);
       follows = λ h. absurd (none h);
       idle = λ h. absurd (none h);
       absent = λ h. absurd (none h);
@@ -80,11 +101,14 @@ module _ {p : Bytes} {index : List ℕ} (rec st : Bytes) {env : Env} {j : ℕ} {
   by-parts d l (Maybe (Occurs v) w) e f = none-quiet f
   by-parts d l {u} (Maybe Event.Quiet w) e f =
       let s : partsOf (evalS rec st env (signalAt p (n .a))) ≡ Maybe Event.Quiet w = rw (r .fields .a-is) e in
+      let few : w .work < 65536 = omega (arith, take-work _ s, work-within _ (evalS-within rec st env (signalAt p (n .a))), seen-small (case-part r .ready)) in
+      let back = seen-back w few in
       record {
-        small = omega (arith, f, take-work _ s, work-within _ (evalS-within rec st env (signalAt p (n .a))), seen-small (case-part r .ready));
+        small = omega (arith, f, back .1);
+        once = omega (arith, f, back .2);
         follows = λ _. d;
         idle = λ _. l;
-        absent = λ _. rw f e;
+        absent = λ _. rw (f, back .0) e;
       }
   by-parts d l Wrong e f = none-quiet f
 

@@ -14,7 +14,7 @@ ghost use Rattle.outcomes.specs.Outcome.{IsValue};
 ghost use Rattle.current.specs.Current.{leaves, goS};
 ghost use Rattle.moves.specs.Outcomes.{countIn, movedIn, walked, walkedOn, nextCases};
 ghost use Rattle.moves.specs.Parts.{inSwitch, switched, entered};
-ghost use Rattle.update.specs.Passes.{Fits, quietly, quietWork, passedFrom};
+ghost use Rattle.update.specs.Passes.{Fits, seenOf, seenIn, quietly, quietWork, passedFrom};
 ghost use Rattle.moves.specs.Lent.{Ready, ReadyAs, Placed, ReadyC, CaseAs};
 use branches::has_branch;
 use cells::kind_by;
@@ -24,7 +24,7 @@ use evaluate::content;
 use evaluate::evaluated;
 use moves::Calm;
 use moves::after;
-use moves::count_in;
+use moves::caught;
 use moves::hold;
 use moves::hold_branch;
 use moves::jump;
@@ -42,6 +42,7 @@ use outcomes::apart;
 use outcomes::exactly;
 use outcomes::show;
 use rules::Node;
+use rules::Tally;
 use state::resets;
 
 // Switch i catches the value v: the part that is left goes to start.
@@ -86,7 +87,7 @@ fn catches(
     part: usize,
     r: u64,
 ) -> u64
-    requires { ⌜ Placed 7 (now (now p)) (now index) (length (now st)) i n × NodeOf isSignal (now (now p)) part × (countIn r < 1048575) ⌝ }
+    requires { ⌜ Placed 7 (now (now p)) (now index) (length (now st)) i n × NodeOf isSignal (now (now p)) part × (countIn r < 524287) ⌝ }
     ensures { λ s. ⌜ moved (movedIn s) (now (st .exit)) ≡ ruleᵘ (leaves (cellsBefore (now (now (p .entry))) i) (signalAt (now (now (p .entry))) part) (branchesAt (now (now (p .entry))) (bAt (now (now (p .entry))) i)) (moved (movedIn r) (now (st .entry)))) ⌝ }
 {
     if r < 1048576 {
@@ -95,7 +96,7 @@ fn catches(
     let which = target_in(r);
     if has_branch(*p, index, n.b, which) {
         enters(p, index, st, i, n, part, which, value_in(r));
-        return count_in(r) + 1;
+        return caught(r);
     }
     ruled(r)
 }
@@ -105,6 +106,27 @@ pub struct Passed {
     pub at: usize,
     pub seen: u64,
     pub kept: u64,
+}
+
+// What an event counted, as one number: its work, and 4,294,967,296 more where a number wrapped.
+fn seen_of(u: Tally) -> u64
+    requires { ⌜ u .work < 4294967296 ⌝ }
+    ensures { λ n. ⌜ n ≡ seenOf u ⌝ }
+{
+    if u.wrapped {
+        return u.work + 4294967296;
+    }
+    u.work
+}
+
+// What was counted so, read back.
+fn seen_in(n: u64) -> Tally
+    ensures { λ u. ⌜ u ≡ seenIn n ⌝ }
+{
+    Tally {
+        work: n % 4294967296,
+        wrapped: 4294967296 <= n,
+    }
 }
 
 // What the event of case j counted, if it is absent, if its update does nothing (input, time and ext) and if a case follows; else 0.
@@ -132,7 +154,7 @@ fn quiet(
         return 0;
     };
     let Event::Occurs(_) = event else {
-        return u.work;
+        return seen_of(u);
     };
     0
 }
@@ -179,10 +201,11 @@ fn added(s: Passed, o: u64) -> u64
     if o == 0 {
         return 0;
     }
+    let seen = seen_in(s.seen);
     if o < 1048576 {
-        return s.seen + (s.kept + o);
+        return after(seen, s.kept + o);
     }
-    s.seen + o
+    after(seen, o)
 }
 
 // Signal i goes one step on; input, time and ext, which do nothing, without a call.

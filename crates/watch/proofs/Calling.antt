@@ -13,7 +13,7 @@ use Rattle.rules.specs.Tree.{root}
 use Rattle.rules.specs.Typing.{typeS}
 use Rattle.rules.specs.Bound.{bound}
 use Rattle.rules.specs.Accepted.{Accepted}
-use Rattle.rules.specs.Calls.{_otherwise_, refuseIf, programVerdict, checkAnswer, checkCall, startOutcome, startCall, lentVerdict, runFrom, runOutcome, runCall}
+use Rattle.rules.specs.Calls.{_otherwise_, refuseIf, programVerdict, checkAnswer, checkCall, startOutcome, startCall, lentVerdict, noStep, runFrom, runOutcome, runCall}
 use Rattle.rules.specs.WellFormed.{wellFormed}
 use Rattle.rules.specs.declared.Refusal.{Refusal}
 use Rattle.rules.specs.declared.Refusal.the-variants.{StateFault}
@@ -57,7 +57,7 @@ start-accepted p st e = rw e
 
 -- run, by the verdict
 pub run-refused : (p st recs out : Bytes) (r : Refusal) → programVerdict p ≡ Refuse r
-    → runCall p st recs out ≡ record { answer = Ran.Refused r 0; state = st; output = out }
+    → runCall p st recs out ≡ record { answer = Ran.Refused r 0 noStep; state = st; output = out }
 unfolding runCall runOutcome lentVerdict _otherwise_
 run-refused p st recs out r e = rw e
 
@@ -96,10 +96,10 @@ fits-most recs e =
     omega arith
 
 -- what a run leaves where one of them found something
-pub run-lent : (p st recs out : Bytes) (v : Verdict) {r : Refusal} → v ≡ Refuse r → Leaves (runOutcome p st recs out v) (Ran.Refused r 0) st out
+pub run-lent : (p st recs out : Bytes) (v : Verdict) {r : Refusal} → v ≡ Refuse r → Leaves (runOutcome p st recs out v) (Ran.Refused r 0 noStep) st out
 unfolding runOutcome
 run-lent p st recs out v e = rw e (record { answer-is = refl; state-is = refl; output-is = refl })
 
-pub run-fits : (p st recs out : Bytes) (v : Verdict) → v ≡ Fine → runOutcome p st recs out v ≡ runFrom p recs (length recs / 40) 0 0 st out
+pub run-fits : (p st recs out : Bytes) (v : Verdict) → v ≡ Fine → runOutcome p st recs out v ≡ runFrom p recs (length recs / 40) 0 0 noStep st out
 unfolding runOutcome
 run-fits p st recs out v e = rw e

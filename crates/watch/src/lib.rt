@@ -19,6 +19,7 @@ use bound::bound_of;
 use cells::count_cells;
 use cells::index_cells;
 use rules::Checked;
+use rules::NO_STEP;
 use rules::Ran;
 use rules::Refusal;
 use rules::Started;
@@ -126,7 +127,7 @@ fn run_accepted(p: &[u8], st: &mut [u8], recs: &[u8], out: &mut [u8], count: usi
     let fit = run_fits(recs);
     let fault = lent_verdict(p, &index, st, recs, out, count, held, fit);
     match fault {
-        Verdict::Refuse(r) => Ran::Refused(r, 0),
+        Verdict::Refuse(r) => Ran::Refused(r, 0, NO_STEP),
         Verdict::Fine => {
             let mut env: [u64; 1008] = [0; 1008];
             run_records(p, &index, recs, st, &mut env, out, count)
@@ -141,7 +142,7 @@ pub fn run(program: &[u8], state: &mut [u8], records: &[u8], output: &mut [u8]) 
     let found = judge(program);
     let fault = found.verdict;
     match fault {
-        Verdict::Refuse(r) => Ran::Refused(r, 0),
+        Verdict::Refuse(r) => Ran::Refused(r, 0, NO_STEP),
         Verdict::Fine => run_accepted(program, state, records, output, found.count),
     }
 }

@@ -51,14 +51,22 @@ unfoldable pub startedLine : Started → List ℕ
 startedLine Ready = 79 ∷ 75 ∷ 10 ∷ []
 startedLine (Started.Refused r) = refusedLine r 0
 
--- OK and two numbers: steps and work, the let and the entries of its chain, or the nodes and the length of a new table
+-- OK and two numbers: the let and the entries of its chain, or the nodes and the length of a new table
 unfoldable pub finishedLine : ℕ → ℕ → List ℕ
-finishedLine steps work = ok ++ field steps 32 ++ field work 10
+finishedLine one other = ok ++ field one 32 ++ field other 10
 
--- the answer of run: OK steps work, or the refusal with the work of the steps done
+-- OK steps work wrapped
+unfoldable pub stepsLine : ℕ → ℕ → ℕ → List ℕ
+stepsLine steps work wrapped = ok ++ field steps 32 ++ field work 32 ++ field wrapped 10
+
+-- REFUSED code place work wrapped
+unfoldable pub stoppedLine : Refusal → ℕ → ℕ → List ℕ
+stoppedLine r work wrapped = refused ++ field (codeOf r) 32 ++ field (placeOf r) 32 ++ field work 32 ++ field wrapped 10
+
+-- the answer of run: steps, work and the first wrapped step, or the refusal with those of the steps done
 unfoldable pub ranLine : Ran → List ℕ
-ranLine (Finished steps work) = finishedLine steps work
-ranLine (Ran.Refused r work) = refusedLine r work
+ranLine (Finished steps work wrapped) = stepsLine steps work wrapped
+ranLine (Ran.Refused r work wrapped) = stoppedLine r work wrapped
 
 -- the answer of explain: OK let entries, or the refusal with no work
 unfoldable pub explainedLine : Explained → List ℕ

@@ -3,7 +3,7 @@ ghost use mathlib.Core.Path.{_≡_};
 ghost use lib.ListN.{take};
 ghost use Rattle.io.specs.Counts.{Counts};
 ghost use Rattle.rules.specs.declared.Started.the-variants.{Ready};
-ghost use Rattle.wire.specs.Lines.{acceptedLine, checkedLine, codedLine, explainedLine, finishedLine, listedLine, mendedLine, newLine, pairedLine, ranLine, refusedLine, startedLine, tidiedLine};
+ghost use Rattle.wire.specs.Lines.{acceptedLine, checkedLine, codedLine, explainedLine, finishedLine, listedLine, mendedLine, newLine, pairedLine, ranLine, refusedLine, startedLine, stepsLine, stoppedLine, tidiedLine};
 use crate::text::put;
 use crate::text::put_field;
 use chains::Explained;
@@ -78,15 +78,40 @@ pub fn started_line(answer: Started, line: &mut [u8; 64]) -> usize
     }
 }
 
-// Puts `OK` and two numbers, the steps and the work of a run, the let and the entries of a chain or the nodes and the length of a new table, at
-// the start of line, and answers its length.
-fn finished_line(steps: u32, work: u32, line: &mut [u8; 64]) -> usize
+// Puts `OK` and two numbers, the let and the entries of a chain or the nodes and the length of a new table, at the start of line, and answers
+// its length.
+fn finished_line(one: u32, other: u32, line: &mut [u8; 64]) -> usize
     ensures { λ r. ⌜ Counts r (now (line .exit)) ⌝ }
-    ensures { λ r. ⌜ take r (now (line .exit)) ≡ finishedLine steps work ⌝ }
+    ensures { λ r. ⌜ take r (now (line .exit)) ≡ finishedLine one other ⌝ }
+{
+    let a = put(b"OK ", line, 0);
+    let b = put_field(one, b' ', line, a);
+    put_field(other, b'\n', line, b)
+}
+
+// Puts the answer of a run that is finished, `OK steps work wrapped`, at the start of line, and answers its length.
+fn steps_line(steps: u32, work: u32, wrapped: u32, line: &mut [u8; 64]) -> usize
+    ensures { λ r. ⌜ Counts r (now (line .exit)) ⌝ }
+    ensures { λ r. ⌜ take r (now (line .exit)) ≡ stepsLine steps work wrapped ⌝ }
 {
     let a = put(b"OK ", line, 0);
     let b = put_field(steps, b' ', line, a);
-    put_field(work, b'\n', line, b)
+    let c = put_field(work, b' ', line, b);
+    put_field(wrapped, b'\n', line, c)
+}
+
+// Puts the answer of a run that is refused, `REFUSED code place work wrapped`, at the start of line, and answers its length.
+fn stopped_line(r: Refusal, work: u32, wrapped: u32, line: &mut [u8; 64]) -> usize
+    ensures { λ n. ⌜ Counts n (now (line .exit)) ⌝ }
+    ensures { λ n. ⌜ take n (now (line .exit)) ≡ stoppedLine r work wrapped ⌝ }
+{
+    let code = rules::code_of(r) as u32;
+    let place = rules::place_of(r);
+    let a = put(b"REFUSED ", line, 0);
+    let b = put_field(code, b' ', line, a);
+    let c = put_field(place, b' ', line, b);
+    let d = put_field(work, b' ', line, c);
+    put_field(wrapped, b'\n', line, d)
 }
 
 // Puts the answer of a run at the start of line, and answers its length.
@@ -95,8 +120,8 @@ pub fn ran_line(answer: Ran, line: &mut [u8; 64]) -> usize
     ensures { λ r. ⌜ take r (now (line .exit)) ≡ ranLine answer ⌝ }
 {
     match answer {
-        Ran::Finished(steps, work) => finished_line(steps, work, line),
-        Ran::Refused(r, work) => refused_line(r, work, line),
+        Ran::Finished(steps, work, wrapped) => steps_line(steps, work, wrapped, line),
+        Ran::Refused(r, work, wrapped) => stopped_line(r, work, wrapped, line),
     }
 }
 

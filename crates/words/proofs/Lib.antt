@@ -3,4 +3,5 @@ pub mod Signs
 pub mod Floor
 pub mod Lowered
 pub mod Wide
+pub mod Leaving
 pub mod Cases

@@ -17,7 +17,7 @@ use Rattle.words.proofs.Signs.{signed-high, size-small}
 use Rattle.words.proofs.Floor.{size-minus, word-below}
 
 -- An integer below 2 to the 63rd in size fits 64 bits, and so does one of at most 2 to the 32nd.
-fits-below : (z : ℤ) → natAbs z < 9223372036854775808 → SFits w64 z
+pub fits-below : (z : ℤ) → natAbs z < 9223372036854775808 → SFits w64 z
 fits-below (pos n) h = record { sfits = h }
 fits-below (negsuc n) h = record { sfits = let e : n < 9223372036854775808 = omega arith in e }
 

@@ -1,1 +1,2 @@
 pub mod Division
+pub mod Leaving

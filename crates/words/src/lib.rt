@@ -1,9 +1,10 @@
 // Arithmetic on 32-bit words, two's complement, held as unsigned numbers.
 ghost use mathlib.Core.Path.{_≡_};
 ghost use Prim.Native.Nat.{_≤_, _<_};
-ghost use lib.IntN.{natAbs};
-ghost use Rattle.rules.specs.Operations.{numberOf, truthOf};
-ghost use Rattle.rules.specs.Words.{signed, wordOf, sumOf, differenceOf, productOf, floorZ, quotientOf, isLess};
+ghost use lib.IntN.{natAbs, _+ℤ_, _-ℤ_, _*ℤ_};
+ghost use Rattle.rules.specs.Operations.{numberOf, truthOf, leavesRange};
+ghost use Rattle.rules.specs.Words.{signed, wordOf, outside, sumOf, differenceOf, productOf, floorZ, quotientOf, isLess};
+ghost use Rattle.words.specs.Leaving.{astrideOf};
 use rules::INT;
 use rules::MAYBE;
 use rules::Value;
@@ -86,17 +87,89 @@ pub fn divide(x: u32, y: u32) -> Value
     Value::Present(MAYBE_INT, word(rounded_down(a, b)))
 }
 
-// Kinds 18-20: the number.
-pub fn number(k: u8, x: u32, y: u32) -> u32
-    ensures { λ r. ⌜ r ≡ numberOf k x y ⌝ }
+// A sum, a difference or a product, wrapped, and whether it left the range.
+pub struct Worked {
+    pub word: u32,
+    pub left: bool,
+}
+
+// Whether the integers of two words stand on two sides of zero (which counts as not below).
+fn astride(x: u32, y: u32) -> bool
+    ensures { λ r. ⌜ r ≡ astrideOf x y ⌝ }
+{
+    if x < 2147483648 {
+        return 2147483648 <= y;
+    }
+    y < 2147483648
+}
+
+// Whether an integer is outside the range.
+fn is_outside(z: i64) -> bool
+    ensures { λ r. ⌜ r ≡ outside z ⌝ }
+{
+    if z < 0 {
+        return z < -2147483648;
+    }
+    2147483647 < z
+}
+
+// A sum leaves the range where both integers stand on one side of zero, and the wrapped sum on the other.
+fn sum(x: u32, y: u32) -> Worked
+    ensures { λ r. ⌜ (r .word ≡ sumOf x y) × (r .left ≡ outside (signed x +ℤ signed y)) ⌝ }
+{
+    let s = std::num::wrapping_add_u32(x, y);
+    let left = !astride(x, y) & astride(x, s);
+    Worked {
+        word: s,
+        left: left,
+    }
+}
+
+// A difference leaves it where the integers stand on two sides of zero, and the wrapped difference on the second's.
+fn difference(x: u32, y: u32) -> Worked
+    ensures { λ r. ⌜ (r .word ≡ differenceOf x y) × (r .left ≡ outside (signed x -ℤ signed y)) ⌝ }
+{
+    let s = std::num::wrapping_sub_u32(x, y);
+    let left = astride(x, y) & astride(x, s);
+    Worked {
+        word: s,
+        left: left,
+    }
+}
+
+// A product is worked out whole: it fits 63 bits.
+fn product(x: u32, y: u32) -> Worked
+    ensures { λ r. ⌜ (r .word ≡ productOf x y) × (r .left ≡ outside (signed x *ℤ signed y)) ⌝ }
+{
+    let exact = integer(x) * integer(y);
+    Worked {
+        word: times(x, y),
+        left: is_outside(exact),
+    }
+}
+
+// Kinds 18-20: the number, and whether it left the range.
+pub fn number(k: u8, x: u32, y: u32) -> Worked
+    requires { ⌜ k ≤ 20 ⌝ }
+    ensures { λ r. ⌜ (r .word ≡ numberOf k x y) × (r .left ≡ leavesRange k x y) ⌝ }
 {
     if k == 18 {
-        return std::num::wrapping_add_u32(x, y);
+        return sum(x, y);
     }
     if k == 19 {
-        return std::num::wrapping_sub_u32(x, y);
+        return difference(x, y);
     }
-    times(x, y)
+    product(x, y)
+}
+
+// Kind 21: of quotients only -2147483648 by -1 leaves the range.
+pub fn quotient_left(x: u32, y: u32) -> bool
+    ensures { λ r. ⌜ r ≡ leavesRange 21 x y ⌝ }
+{
+    if x == 2147483648 {
+        return y == 4294967295;
+    }
+    false
 }
 
 // Kinds 22, 23, 25 and 26: the truth value.

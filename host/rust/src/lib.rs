@@ -38,7 +38,7 @@ pub mod raw;
 pub use code::{Code, Type};
 pub use raw::{
     list_entries, state_length, BLOCK, BLOCKS, LONGEST_LIST, LONGEST_PROGRAM, LONGEST_STATE, NODES,
-    NO_ENTRY, RECORD, RECORDS, TIME_ENTRY, VALUE,
+    NO_ENTRY, NO_STEP, RECORD, RECORDS, TIME_ENTRY, VALUE,
 };
 
 use core::fmt;
@@ -72,12 +72,15 @@ impl Checked {
 }
 
 /// What run says of steps that went through.
-#[derive(Clone, Copy, Debug, PartialEq, Eq)]
+#[derive(Clone, Copy, Debug, Default, PartialEq, Eq)]
 pub struct Ran {
     /// How many steps were done.
     pub steps: u32,
     /// How many rules they used.
     pub work: u32,
+    /// The first of them, from 0, in which a number wrapped: a sum, difference or product that left the 32
+    /// bits, or the lowest number divided by -1.
+    pub wrapped: Option<u16>,
 }
 
 /// What explain says of a program that is not ready.
@@ -145,7 +148,7 @@ pub fn run(
     records: &[u8],
     output: &mut [u8],
 ) -> Result<Ran, Refusal> {
-    let answer = answered(|answer| {
+    let answer = ran_or_refused(|answer| {
         let (program, program_length) = (program.as_ptr(), program.len());
         let (state, state_length) = (state.as_mut_ptr(), state.len());
         let (records, records_length) = (records.as_ptr(), records.len());
@@ -164,8 +167,8 @@ pub fn run(
                 answer,
             )
         }
-    })?;
-    Ok(ran(&answer))
+    });
+    answer.map(|answer| ran(&answer))
 }
 
 /// Explains why a program is not ready, where [`check`] refuses it by [`Code::NotReady`]. The room has
@@ -240,8 +243,13 @@ pub fn paired(old: &[u8], new: &[u8], pairing: &[u16]) -> Result<(), Refusal> {
     Ok(())
 }
 
-/// Makes a call with room for its answer, which is a refusal where its code is not 0.
+/// Makes a call with room for its answer, which is a refusal where its code is not 0; it is none of a run.
 fn answered(call: impl FnOnce(&mut raw::Answer) -> u32) -> Result<raw::Answer, Refusal> {
+    ran_or_refused(call).map_err(|refusal| Refusal { ran: Ran::default(), ..refusal })
+}
+
+/// The same of a run, whose refusal says what was done before.
+fn ran_or_refused(call: impl FnOnce(&mut raw::Answer) -> u32) -> Result<raw::Answer, Refusal> {
     let mut answer = raw::Answer::default();
     match call(&mut answer) {
         raw::DONE => Ok(answer),
@@ -253,5 +261,8 @@ fn answered(call: impl FnOnce(&mut raw::Answer) -> u32) -> Result<raw::Answer, R
 }
 
 fn ran(answer: &raw::Answer) -> Ran {
-    Ran { steps: answer.steps, work: answer.work }
+    let raw::Answer { steps, work, wrapped, .. } = *answer;
+    // One of the steps done: NO_STEP is none of them, nor is the 0 of a call that makes no step.
+    let wrapped = u16::try_from(wrapped).ok().filter(|&step| u32::from(step) < steps);
+    Ran { steps, work, wrapped }
 }

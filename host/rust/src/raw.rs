@@ -12,6 +12,8 @@ pub const LONGEST_PROGRAM: usize = BLOCK * BLOCKS;
 
 pub const NO_ENTRY: u16 = 65535;
 
+pub const NO_STEP: u16 = 65535;
+
 /// The length of a state of so many cells.
 pub const fn state_length(cells: usize) -> usize {
     8 + 8 * cells

@@ -157,7 +157,7 @@ const SILENT: [&str; 4] = [
 #[test]
 fn declarations_are_the_headers() {
     let (one, other) = (header(HEADER), rust(RAW));
-    assert_eq!((one.numbers.len(), one.fields.len(), one.functions.len()), (43, 12, 7));
+    assert_eq!((one.numbers.len(), one.fields.len(), one.functions.len()), (44, 12, 7));
     assert_eq!(one, other);
     assert!(RAW.contains("#[repr(C)]\n#[derive"), "C's layout");
 }

@@ -79,7 +79,7 @@ fn state_of(program: &[u8; BLOCK], time: u32, cell: [u8; 8]) -> Vec<u8> {
 }
 
 fn refusal(code: Code, place: u32) -> Refusal {
-    Refusal { code, place, ran: Ran { steps: 0, work: 0 } }
+    Refusal { code, place, ran: Ran::default() }
 }
 
 #[test]
@@ -93,7 +93,7 @@ fn reading_a_record_by_record() {
     for (time, value) in [(0, 0), (100, 1), (100, 2)] {
         let mut output = [9; 8];
         let ran = run(&program, &mut state, &record(time, None), &mut output);
-        assert_eq!((ran, output), (Ok(Ran { steps: 1, work: 13 }), int(value)));
+        assert_eq!((ran, output), (Ok(Ran { steps: 1, work: 13, wrapped: None }), int(value)));
     }
     assert_eq!(state, state_of(&program, 100, int(3)));
 }
@@ -106,9 +106,12 @@ fn reading_d_by_a_run() {
         (0..).zip(events).flat_map(|(time, event)| record(time, event)).collect();
     let (mut state, mut output) = ([0; 16], [9; 32]);
     start(&program, &mut state).unwrap();
-    assert_eq!(run(&program, &mut state, &[], &mut []), Ok(Ran { steps: 0, work: 0 }));
+    assert_eq!(
+        run(&program, &mut state, &[], &mut []),
+        Ok(Ran { steps: 0, work: 0, wrapped: None })
+    );
     let ran = run(&program, &mut state, &records, &mut output);
-    assert_eq!(ran, Ok(Ran { steps: 4, work: 26 }));
+    assert_eq!(ran, Ok(Ran { steps: 4, work: 26, wrapped: None }));
     assert_eq!(output.to_vec(), [0, 5, 5, 6].map(int).concat());
 }
 
@@ -158,10 +161,24 @@ fn a_refused_run_keeps_its_steps() {
         start(&program, &mut state).unwrap();
         let records = [record(5, None), second, record(6, None)].concat();
         let refused = run(&program, &mut state, &records, &mut output).unwrap_err();
-        assert_eq!(refused, Refusal { code, place: 1, ran: Ran { steps: 1, work: 13 } });
+        assert_eq!(
+            refused,
+            Refusal { code, place: 1, ran: Ran { steps: 1, work: 13, wrapped: None } }
+        );
         assert_eq!(output.to_vec(), [int(0), [9; 8], [9; 8]].concat());
         assert_eq!(state[..], state_of(&program, 5, int(1)));
     }
+}
+
+#[test]
+fn reading_b_wraps() {
+    let program = counter(i32::MAX, 1);
+    let (mut state, mut output) = ([0; 16], [9; 16]);
+    start(&program, &mut state).unwrap();
+    let records = [record(0, None), record(0, None)].concat();
+    let ran = run(&program, &mut state, &records, &mut output);
+    assert_eq!(ran, Ok(Ran { steps: 2, work: 26, wrapped: Some(0) }));
+    assert_eq!(output[12..], [0, 0, 0, 128]);
 }
 
 #[test]
@@ -290,6 +307,6 @@ fn a_state_knows_its_program() {
     // Equal sums are not told apart.
     assert_eq!(by_ones[508..], by_sixty_twos[508..]);
     let ran = run(&by_sixty_twos, &mut state, &record(200, None), &mut output);
-    assert_eq!((ran, output), (Ok(Ran { steps: 1, work: 13 }), int(26)));
+    assert_eq!((ran, output), (Ok(Ran { steps: 1, work: 13, wrapped: None }), int(26)));
     assert_eq!(state[..], state_of(&by_sixty_twos, 200, int(88)));
 }

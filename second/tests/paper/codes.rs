@@ -4,7 +4,7 @@ use crate::tables::*;
 use second::{check, run, start, Refusal};
 
 fn refusal(code: u32, place: u32) -> Refusal {
-    Refusal { code, place, work: 0 }
+    Refusal::at(code, place as usize)
 }
 
 #[test]
@@ -292,7 +292,7 @@ fn codes_12_and_13_of_a_run_tell_steps_and_work() {
         let mut state = started(&program);
         let mut output = [0xAA; 32];
         let refusal = run(&program, &mut state, &records, &mut output).unwrap_err();
-        assert_eq!(refusal, Refusal { code, place: 2, work: 26 });
+        assert_eq!(refusal, Refusal::after(code, 2, 26, 65535));
         assert_eq!(state, state_of(&program, 7, &[3, 1, 0, 0, 2, 0, 0, 0]));
         assert_eq!((words(&output[..8]), words(&output[8..16])), ("0".into(), "1".into()));
         assert_eq!(output[16..], [0xAA; 16]);

@@ -175,7 +175,10 @@ fn an_empty_run() {
     let program = table(&counter_from(4));
     let mut state = started(&program);
     let before = state.clone();
-    assert_eq!(run(&program, &mut state, &[], &mut []), Ok(Done { steps: 0, work: 0 }));
+    assert_eq!(
+        run(&program, &mut state, &[], &mut []),
+        Ok(Done { steps: 0, work: 0, wrapped: 65535 })
+    );
     assert_eq!(state, before);
 }
 

@@ -31,7 +31,7 @@ fn text(program: &[u8]) -> String {
 /// Code and place of a refused text, with a room that is long enough.
 fn fault(text: &[u8]) -> (u32, u32) {
     let mut room = [7; 12_288];
-    let Refusal { code, place, work } = reader::read(text, &mut room).expect_err("a refusal");
+    let Refusal { code, place, work, .. } = reader::read(text, &mut room).expect_err("a refusal");
     assert_eq!((room, work), ([7; 12_288], 0));
     (code, place)
 }

@@ -1,6 +1,6 @@
 -- `couplerfinch::put_ran` meets its contract: by cases. Assumes nothing.
 use Rattle.couplerfinch.specs.Room.{ranCode, ranDone, ranRoom}
-use Rattle.couplerfinch.proofs.Telling.{told-as, refused-room}
+use Rattle.couplerfinch.proofs.Telling.{told-as, stopped-room}
 use mathlib.Core.Path.{sym, refl}
 use borrow.Author.Needs.{needs}
 use Rattle.couplerfinch.proofs.put_ran.Statement.{statement}
@@ -15,20 +15,20 @@ enum-known-found-2 c = search needs
 code-of-requires : tie.Need-code-of-requires
 code-of-requires c κs = search needs
 
-cast-put-refused : tie.Need-cast-put-refused
-cast-put-refused c = search needs
+cast-put-stopped : tie.Need-cast-put-stopped
+cast-put-stopped c = search needs
 
 place-of-requires : tie.Need-place-of-requires
 place-of-requires c κs = search needs
 
-put-refused-requires : tie.Need-put-refused-requires
-put-refused-requires c κs = search needs
+put-stopped-requires : tie.Need-put-stopped-requires
+put-stopped-requires c κs = search needs
 
 returns : tie.Need-returns
 returns c = told-as ranCode ranRoom (sym (c .before .before .found .given .1)) (refl, refl)
 
 returns-2 : tie.Need-returns-2
-returns-2 c = let known = c .before .before .before .before .before .found2 in told-as ranCode ranRoom (sym (known .given .1)) (refused-room (known .given .0 .0) (known .given .0 .1 .0) ranDone (c .before .before .before .code-of .ensures) (c .before .before .place-of .ensures) (c .put-refused .ensures))
+returns-2 c = let known = c .before .before .before .before .before .found2 in told-as ranCode ranRoom (sym (known .given .1)) (stopped-room (known .given .0 .0) (known .given .0 .1 .0) (known .given .0 .1 .1 .0) ranDone (c .before .before .before .code-of .ensures) (c .before .before .place-of .ensures) (c .put-stopped .ensures))
 
 pub put-ran-spec : {M : Type 1} → statement M
 put-ran-spec =
@@ -37,8 +37,8 @@ put-ran-spec =
     enum-known-found
     enum-known-found-2
     code-of-requires
-    cast-put-refused
+    cast-put-stopped
     place-of-requires
-    put-refused-requires
+    put-stopped-requires
     returns
     returns-2)

@@ -307,7 +307,7 @@ eval-e-operated-requires t c κs =
     let w = c .before .before .before .before .before .before .before .pre .1 .node in
     let small = c .before .before .before .before .before .before .before .pre .1 .small in
     let node = c .before .before .before .before .before .node-by .ensures in
-    (c .before .before .operand5 .ensures .1, pair-work p (c .before .before .before .before .before .node-by .result .a) (c .before .before .before .before .before .node-by .result .b) _ _ (operation-pair p i w small (left (node .kind-is) (c .before .before .before .before .match .rest)) (node .a-is) (node .b-is)) (c .before .before .operand5 .ensures .0) (c .operand6 .ensures .0))
+    pair-work p (c .before .before .before .before .before .node-by .result .a) (c .before .before .before .before .before .node-by .result .b) _ _ (operation-pair p i w small (left (node .kind-is) (c .before .before .before .before .match .rest)) (node .a-is) (node .b-is)) (c .before .before .operand5 .ensures .0) (c .operand6 .ensures .0)
 
 -- src/lib.rt:53:1
 eval-e-returns-4 : (t : ℕ) → eval-e-lts.Need-returns-4 (eval-e-calls t) (eval-e-at t) eval-e.Post

@@ -10,8 +10,8 @@ use Rattle.outcomes.proofs.apart.Lts as lts
 returns : tie.Need-returns
 returns c = parts-stuck (c .before .args .r) (c .if1 .taken)
 
-work-in-requires : tie.Need-work-in-requires
-work-in-requires c κs = search needs
+tally-in-requires : tie.Need-tally-in-requires
+tally-in-requires c κs = search needs
 
 unpack-requires : tie.Need-unpack-requires
 unpack-requires c κs = search needs
@@ -28,8 +28,8 @@ enum-known-t c = search needs
 is-maybe-requires : tie.Need-is-maybe-requires
 is-maybe-requires c κs = search needs
 
-sub-t12 : tie.Need-sub-t12
-sub-t12 c = omega (arith, maybe-least _ (sym (c .before .is-maybe .ensures) ∙ c .if2 .taken))
+sub-t11 : tie.Need-sub-t11
+sub-t11 c = omega (arith, maybe-least _ (sym (c .before .is-maybe .ensures) ∙ c .if2 .taken))
 
 pack-requires : tie.Need-pack-requires
 pack-requires c κs = search needs
@@ -39,39 +39,39 @@ returns-2 c =
     let value = c .before .before .before .before in
     let read = value .before .before in
     let start = read .before in
-    parts-occurs (start .before .before .args .r) (start .before .if1 .left) (read .unpack .ensures) (start .work-in .ensures) (value .t .given .1) (sym (c .before .before .is-maybe .ensures) ∙ c .before .if2 .taken) (c .pack .ensures)
+    parts-occurs (start .before .before .args .r) (start .before .if1 .left) (read .unpack .ensures) (start .tally-in .ensures) (value .t .given .1) (sym (c .before .before .is-maybe .ensures) ∙ c .before .if2 .taken) (c .pack .ensures)
 
 returns-3 : tie.Need-returns-3
 returns-3 c =
     let read = c .before .before in
     let start = read .before in
-    parts-plain (start .before .before .args .r) (start .before .if1 .left) (read .unpack .ensures) (start .work-in .ensures) (c .enum-told .given .1)
+    parts-plain (start .before .before .args .r) (start .before .if1 .left) (read .unpack .ensures) (start .tally-in .ensures) (c .enum-told .given .1)
 
 returns-4 : tie.Need-returns-4
 returns-4 c =
     let read = c .before .before in
     let start = read .before in
-    parts-quiet (start .before .before .args .r) (start .before .if1 .left) (read .unpack .ensures) (start .work-in .ensures) (c .enum-told2 .given .1)
+    parts-quiet (start .before .before .args .r) (start .before .if1 .left) (read .unpack .ensures) (start .tally-in .ensures) (c .enum-told2 .given .1)
 
 returns-5 : tie.Need-returns-5
 returns-5 c =
     let value = c .before .before .before in
     let read = value .before .before in
     let start = read .before in
-    parts-other (start .before .before .args .r) (start .before .if1 .left) (read .unpack .ensures) (start .work-in .ensures) (value .t .given .1) (sym (c .before .is-maybe .ensures) ∙ c .if2 .left)
+    parts-other (start .before .before .args .r) (start .before .if1 .left) (read .unpack .ensures) (start .tally-in .ensures) (value .t .given .1) (sym (c .before .is-maybe .ensures) ∙ c .if2 .left)
 
 pub apart-spec : {M : Type 1} → statement M
 apart-spec =
     tie.close
     (tie.spec
     returns
-    work-in-requires
+    tally-in-requires
     unpack-requires
     enum-told
     enum-told-2
     enum-known-t
     is-maybe-requires
-    sub-t12
+    sub-t11
     pack-requires
     returns-2
     returns-3

@@ -5,7 +5,7 @@ use Rattle.outcomes.proofs.chosen.Tie as tie
 use Rattle.outcomes.proofs.chosen.Reads as reads
 use Rattle.outcomes.proofs.chosen.Lts as lts
 use Rattle.outcomes.proofs.plain_word.Reads as plain-word-reads
-use Rattle.outcomes.proofs.work_in.Reads as work-in-reads
+use Rattle.outcomes.proofs.tally_in.Reads as tally-in-reads
 
 -- src/lib.rt:223:23
 plain-word-requires : tie.Need-plain-word-requires
@@ -26,20 +26,20 @@ returns c =
     arm-neither (from .args .r) (from .args .yes) (from .args .no) (c .before .before .plain-word .ensures) (c .enum-told .given .1)
 
 -- src/lib.rt:227:15
-work-in-requires : tie.Need-work-in-requires
-work-in-requires c κs = search needs
+tally-in-requires : tie.Need-tally-in-requires
+tally-in-requires c κs = search needs
 
 -- src/lib.rt:230:9
 returns-2 : tie.Need-returns-2
 returns-2 c =
     let from = c .before .before .before .before .before .before in
-    arm-first (from .args .r) (from .args .yes) (from .args .no) (c .before .before .before .before .before .plain-word .ensures) (c .before .before .before .w .given .1) (c .if1 .taken) (c .before .work-in .ensures)
+    arm-first (from .args .r) (from .args .yes) (from .args .no) (c .before .before .before .before .before .plain-word .ensures) (c .before .before .before .w .given .1) (c .if1 .taken) (c .before .tally-in .ensures)
 
 -- src/lib.rt:220:1
 returns-3 : tie.Need-returns-3
 returns-3 c =
     let from = c .before .before .before .before .before .before in
-    arm-second (from .args .r) (from .args .yes) (from .args .no) (c .before .before .before .before .before .plain-word .ensures) (c .before .before .before .w .given .1) (c .if1 .left) (c .before .work-in .ensures)
+    arm-second (from .args .r) (from .args .yes) (from .args .no) (c .before .before .before .before .before .plain-word .ensures) (c .before .before .before .w .given .1) (c .if1 .left) (c .before .tally-in .ensures)
 
 pub chosen-spec : {M : Type 1} → statement M
 chosen-spec =
@@ -49,6 +49,6 @@ chosen-spec =
     enum-known-w
     enum-told
     returns
-    work-in-requires
+    tally-in-requires
     returns-2
     returns-3)

@@ -1,3 +1,5 @@
+use Rattle.rules.specs.Bytes.{_or_}
+use Rattle.outcomes.specs.Outcome.{tallyIn}
 use Rattle.rules.specs.Work.{rule, oneRule, nothing, after, give, _plus_}
 use borrow.Author.Needs.{needs}
 use Rattle.outcomes.proofs.given.Statement.{statement}
@@ -12,7 +14,7 @@ outcome-requires c κs = search needs
 
 -- src/lib.rt:111:1
 returns : tie.Need-returns
-unfolding rule after oneRule give nothing _plus_
+unfolding rule after oneRule give nothing _plus_ _or_ tallyIn
 returns c = c .outcome .ensures
 
 pub given-spec : {M : Type 1} → statement M

@@ -21,19 +21,19 @@ add-t6 c =
     let known = plain-known (c .before .before .before .before .args .r) (sym (c .before .before .before .unpack .ensures) ∙ c .before .t .given .1) in
     omega (arith, known .0, plain-most _ (known .2))
 
-work-in-requires : tie.Need-work-in-requires
-work-in-requires c κs = search needs
+counted-in-requires : tie.Need-counted-in-requires
+counted-in-requires c κs = search needs
 
 add-outcome : tie.Need-add-outcome
 add-outcome c =
     let from = c .before .before .before .before .before in
-    omega (arith, from .pre, work-is (from .args .r), c .work-in .ensures)
+    omega (arith, from .pre, work-is (from .args .r), c .counted-in .ensures .0, c .counted-in .ensures .1)
 
 outcome-requires : tie.Need-outcome-requires
 outcome-requires c κs =
     let from = c .before .before .before .before .before in
     let known = plain-known (from .args .r) (sym (c .before .before .before .before .unpack .ensures) ∙ c .before .before .t .given .1) in
-    (lifted-proper _ _ (ap isPlain (known .0) ∙ known .2), omega arith, omega (arith, from .pre, work-is (from .args .r), c .work-in .ensures))
+    (lifted-proper _ _ (ap isPlain (known .0) ∙ known .2), omega arith, omega (arith, from .pre, work-is (from .args .r), c .counted-in .ensures .0, c .counted-in .ensures .1))
 
 enum-told : tie.Need-enum-told
 enum-told c = search needs
@@ -45,7 +45,7 @@ returns : tie.Need-returns
 returns c =
     let from = c .before .before .before .before .before .before in
     let known = plain-known (from .args .r) (sym (c .before .before .before .before .before .unpack .ensures) ∙ c .before .before .before .t .given .1) in
-    lifted-yes (from .args .r) (known .0) (ap isPlain (known .0) ∙ known .2) (known .1) (c .before .work-in .ensures) (c .outcome .ensures)
+    lifted-yes (from .args .r) (known .0) (ap isPlain (known .0) ∙ known .2) (known .1) (c .before .counted-in .ensures .0) (from .pre) (c .outcome .ensures)
 
 returns-2 : tie.Need-returns-2
 returns-2 c =
@@ -64,7 +64,7 @@ lifted-spec =
     unpack-requires
     enum-known-t
     add-t6
-    work-in-requires
+    counted-in-requires
     add-outcome
     outcome-requires
     enum-told

@@ -9,7 +9,7 @@ use Rattle.outcomes.proofs.negated.Reads as reads
 use Rattle.outcomes.proofs.negated.Lts as lts
 use Rattle.outcomes.proofs.outcome.Reads as outcome-reads
 use Rattle.outcomes.proofs.plain_word.Reads as plain-word-reads
-use Rattle.outcomes.proofs.work_in.Reads as work-in-reads
+use Rattle.outcomes.proofs.counted_in.Reads as counted-in-reads
 
 -- src/lib.rt:197:23
 plain-word-requires : tie.Need-plain-word-requires
@@ -30,38 +30,38 @@ returns c =
     negated-none (from .args .r) (c .before .before .plain-word .ensures) (c .enum-told .given .1)
 
 -- src/lib.rt:200:17
-work-in-requires : tie.Need-work-in-requires
-work-in-requires c κs = search needs
+counted-in-requires : tie.Need-counted-in-requires
+counted-in-requires c κs = search needs
 
 -- src/lib.rt:200:17
 add-count : tie.Need-add-count
 add-count c =
     let from = c .before .before .before .before .before in
-    omega (arith, from .pre, work-is (from .args .r), c .work-in .ensures)
+    omega (arith, from .pre, work-is (from .args .r), c .counted-in .ensures .0, c .counted-in .ensures .1)
 
 -- src/lib.rt:202:9
 outcome-requires : tie.Need-outcome-requires
 outcome-requires c κs =
     let from = c .before .before .before .before .before .before in
-    (proper-bool 1, omega arith, omega (arith, from .pre, work-is (from .args .r), c .before .work-in .ensures))
+    (proper-bool 1, omega arith, omega (arith, from .pre, work-is (from .args .r), c .before .counted-in .ensures .0, c .before .counted-in .ensures .1))
 
 -- src/lib.rt:202:9
 returns-2 : tie.Need-returns-2
 returns-2 c =
     let from = c .before .before .before .before .before .before .before in
-    negated-false (from .args .r) (c .before .before .before .before .before .before .plain-word .ensures) (c .before .before .before .before .w .given .1) (c .before .if1 .taken) (c .before .before .work-in .ensures) (c .outcome .ensures)
+    negated-false (from .args .r) (c .before .before .before .before .before .before .plain-word .ensures) (c .before .before .before .before .w .given .1) (c .before .if1 .taken) (c .before .before .counted-in .ensures .0) (from .pre) (c .outcome .ensures)
 
 -- src/lib.rt:204:5
 outcome-requires-2 : tie.Need-outcome-requires-2
 outcome-requires-2 c κs =
     let from = c .before .before .before .before .before .before in
-    (proper-bool 0, omega arith, omega (arith, from .pre, work-is (from .args .r), c .before .work-in .ensures))
+    (proper-bool 0, omega arith, omega (arith, from .pre, work-is (from .args .r), c .before .counted-in .ensures .0, c .before .counted-in .ensures .1))
 
 -- src/lib.rt:193:1
 returns-3 : tie.Need-returns-3
 returns-3 c =
     let from = c .before .before .before .before .before .before .before in
-    negated-true (from .args .r) (c .before .before .before .before .before .before .plain-word .ensures) (c .before .before .before .before .w .given .1) (c .before .if1 .left) (c .before .before .work-in .ensures) (c .outcome2 .ensures)
+    negated-true (from .args .r) (c .before .before .before .before .before .before .plain-word .ensures) (c .before .before .before .before .w .given .1) (c .before .if1 .left) (c .before .before .counted-in .ensures .0) (from .pre) (c .outcome2 .ensures)
 
 pub negated-spec : {M : Type 1} → statement M
 negated-spec =
@@ -71,7 +71,7 @@ negated-spec =
     enum-known-w
     enum-told
     returns
-    work-in-requires
+    counted-in-requires
     add-count
     outcome-requires
     returns-2

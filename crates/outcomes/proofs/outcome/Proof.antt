@@ -21,13 +21,13 @@ mul-result c = search needs
 add-result : tie.Need-add-result
 add-result c =
     let from = c .before in
-    omega (arith, value-fits (packed (from .args .v)) (from .args .work) (proper-value (from .args .v) (from .pre .0)) (from .pre .2) (omega (arith, c .pack .ensures)), c .pack .ensures)
+    omega (arith, value-fits (packed (from .args .v)) (from .args .count) (proper-value (from .args .v) (from .pre .0)) (from .pre .2) (omega (arith, c .pack .ensures)), c .pack .ensures)
 
 -- src/lib.rt:103:1
 returns : tie.Need-returns
 returns c =
     let from = c .before in
-    outcome-gives (from .args .v) (from .args .work) (c .pack .ensures) (from .pre .0) (from .pre .1) (from .pre .2)
+    outcome-gives (from .args .v) (from .args .count) (c .pack .ensures) (from .pre .0) (from .pre .1) (from .pre .2)
 
 pub outcome-spec : {M : Type 1} → statement M
 outcome-spec = tie.close (tie.spec pack-requires mul-result add-result returns)

@@ -1,4 +1,4 @@
-use Rattle.outcomes.proofs.Counted.{more-fits, work-is, rule-stuck, rule-gives}
+use Rattle.outcomes.proofs.Counted.{more-fits, room-for, rule-stuck, rule-gives}
 use native.Mathlib.Omega.{arith}
 use Rattle.outcomes.proofs.ruled.Statement.{statement}
 use Rattle.outcomes.proofs.ruled.Tie as tie
@@ -13,7 +13,7 @@ returns c = rule-stuck (c .before .args .r) (c .if1 .taken)
 add-result : tie.Need-add-result
 add-result c =
     let from = c .before in
-    omega (arith, more-fits (from .args .r) 1 (omega (arith, work-is (from .args .r), from .pre .1)) (omega arith))
+    omega (arith, more-fits (from .args .r) 1 (room-for (from .args .r) (c .if1 .left) 1 (omega (arith, from .pre .1))) (omega arith))
 
 -- src/lib.rt:126:1
 returns-2 : tie.Need-returns-2

@@ -1,4 +1,4 @@
-use Rattle.steps.proofs.StepLaws.{held, held-again, some, update-ready, headed, never-broken, advances, update-small}
+use Rattle.steps.proofs.StepLaws.{held, held-again, some, update-ready, headed, never-broken, advances}
 use Rattle.moves.specs.Outcomes.{movedIn}
 use Rattle.rules.specs.Bytes.{byteAt}
 use mathlib.Core.Path.{refl, sym, _∙_}
@@ -55,19 +55,6 @@ time-of-requires c κs = search needs
 set-time-requires : tie.Need-set-time-requires
 set-time-requires c κs = omega (arith, headed (c .before .before .before .before .before .before .before .before .before .before .before .before .before .before .before .before .pre .0), c .before .before .before .before .before .before .before .before .update-s .kept .1 .1 .1 .0)
 
--- src/lib.rt:99:5
-cast-result : tie.Need-cast-result
-unfolding byteAt
-cast-result c = let p = c .before .before .before .before .before .before .before .before .before .before .before .before .before .before .before .before .before .before .before .shared-slice-known in
-    let st = c .before .before .before .before .before .before .before .before .before .before .before .before .before .before .before .before .before .slice-known in
-    let rec = c .before .before .before .before .before .before .before .before .before .before .before .before .before .before .before .before .before .before .shared-slice-known2 in
-    let r = c .before .before .before .before .before .before .before .before .before .before .before .before .update-s in
-    omega (
-      arith,
-      update-small (c .before .before .before .before .before .before .before .before .before .before .before .before .before .before .before .before .before .before .before .before .pre .0) (record { small = λ i. omega (arith, p .given i) }) (record { small = λ i. omega (arith, st .given i) }) (record { small = λ i. omega (arith, rec .given i) })
-          (movedIn (r .result)) _ (r .ensures .0) (sym (c .before .before .before .before .before .before .before .before .before .settled .ensures) ∙ c .before .before .before .before .before .before .before .w .given .1),
-    )
-
 -- src/lib.rt:83:1
 same-length-2 : tie.Need-same-length-2
 same-length-2 c = search needs
@@ -75,13 +62,13 @@ same-length-2 c = search needs
 -- src/lib.rt:83:1
 returns-2 : tie.Need-returns-2
 unfolding byteAt
-returns-2 c = let p = c .before .before .before .before .before .before .before .before .before .before .before .before .before .before .before .before .before .before .before .shared-slice-known in
-    let st = c .before .before .before .before .before .before .before .before .before .before .before .before .before .before .before .before .before .slice-known in
-    let rec = c .before .before .before .before .before .before .before .before .before .before .before .before .before .before .before .before .before .before .shared-slice-known2 in
-    let r = c .before .before .before .before .before .before .before .before .before .before .before .before .update-s in (
-      advances (c .before .before .before .before .before .before .before .before .before .before .before .before .before .before .before .before .before .before .before .before .pre .0) (record { small = λ i. omega (arith, p .given i) }) (record { small = λ i. omega (arith, st .given i) }) (record { small = λ i. omega (arith, rec .given i) })
-          (movedIn (r .result)) _ (r .ensures .0) (sym (c .before .before .before .before .before .before .before .before .before .settled .ensures) ∙ c .before .before .before .before .before .before .before .w .given .1) (c .before .before .before .set-time .ensures) (c .before .before .before .before .time-of .ensures),
-      held-again (held (c .before .before .before .before .before .before .before .before .before .before .before .before .before .before .before .before .before .before .before .before .pre .0)) (c .before .before .before .set-time .kept .0 ∙ r .kept .1 .1 .1 .0) (r .ensures .1),
+returns-2 c = let p = c .before .before .before .before .before .before .before .before .before .before .before .before .before .before .before .before .before .before .shared-slice-known in
+    let st = c .before .before .before .before .before .before .before .before .before .before .before .before .before .before .before .before .slice-known in
+    let rec = c .before .before .before .before .before .before .before .before .before .before .before .before .before .before .before .before .before .shared-slice-known2 in
+    let r = c .before .before .before .before .before .before .before .before .before .before .before .update-s in (
+      advances (c .before .before .before .before .before .before .before .before .before .before .before .before .before .before .before .before .before .before .before .pre .0) (record { small = λ i. omega (arith, p .given i) }) (record { small = λ i. omega (arith, st .given i) }) (record { small = λ i. omega (arith, rec .given i) })
+          (movedIn (r .result)) _ (r .ensures .0) (sym (c .before .before .before .before .before .before .before .before .settled .ensures) ∙ c .before .before .before .before .before .before .w .given .1) (c .before .before .set-time .ensures) (c .before .before .before .time-of .ensures),
+      held-again (held (c .before .before .before .before .before .before .before .before .before .before .before .before .before .before .before .before .before .before .before .pre .0)) (c .before .before .set-time .kept .0 ∙ r .kept .1 .1 .1 .0) (r .ensures .1),
     )
 
 pub advance-spec : {M : Type 1} → statement M
@@ -97,6 +84,5 @@ advance-spec =
     returns
     time-of-requires
     set-time-requires
-    cast-result
     same-length-2
     returns-2)

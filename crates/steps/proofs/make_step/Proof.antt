@@ -1,3 +1,4 @@
+use mathlib.Core.Path.{sym, _∙_}
 use Rattle.steps.proofs.StepLaws.{held, gone, step-taken}
 use borrow.Author.Needs.{needs}
 use Rattle.steps.proofs.make_step.Statement.{statement}
@@ -7,31 +8,30 @@ use Rattle.steps.proofs.make_step.Lts as lts
 use Rattle.steps.proofs.advance.Reads as advance-reads
 use Rattle.steps.proofs.show.Reads as show-reads
 
--- src/lib.rt:111:9
+-- src/lib.rt:105:9
 show-requires : tie.Need-show-requires
 show-requires c κs = (search (held, needs), search needs)
 
--- src/lib.rt:112:9
+-- src/lib.rt:106:9
 advance-requires : tie.Need-advance-requires
 advance-requires c κs = (search (gone, needs), search needs)
 
--- src/lib.rt:113:5
-add-result : tie.Need-add-result
-add-result c = search needs
+-- src/lib.rt:108:15
+add-t19 : tie.Need-add-t19
+add-t19 c = search needs
 
--- src/lib.rt:98:1
+-- src/lib.rt:92:1
 same-length : tie.Need-same-length
 same-length c = search needs
 
--- src/lib.rt:98:1
+-- src/lib.rt:92:1
 same-length-2 : tie.Need-same-length-2
 same-length-2 c = search needs
 
--- src/lib.rt:98:1
+-- src/lib.rt:92:1
 returns : tie.Need-returns
-returns c = (search step-taken, cc)
+returns c = (step-taken (c .before .before .before .before .before .before .before .before .before .before .before .show .ensures .0) (c .before .before .before .before .before .before .advance .ensures .0), c .before .before .before .before .before .before .advance .ensures .1 .blank ∙ sym (c .before .before .before .before .before .before .before .before .before .before .before .before .before .before .before .before .before .before .before .pre .0 .blank))
 
 pub make-step-spec : {M : Type 1} → statement M
 make-step-spec =
-    tie.close
-    (tie.spec show-requires advance-requires add-result same-length same-length-2 returns)
+    tie.close (tie.spec show-requires advance-requires add-t19 same-length same-length-2 returns)

@@ -36,10 +36,6 @@ enum-known-shown c = search needs
 put64-requires : tie.Need-put64-requires
 put64-requires c κs = search needs
 
--- src/lib.rt:75:13
-cast-result : tie.Need-cast-result
-cast-result c = omega (arith, evaluation-small (c .before .before .before .before .before .before .before .before .before .before .before .before .before .before .before .before .before .pre .0) _ _ (c .before .before .before .before .before .before .before .before .before .evaluated .ensures .0) (shown-value (c .before .before .before .before .before .before .before .before .before .evaluated .result) (sym (c .before .before .before .before .before .before .before .before .show .ensures) ∙ c .before .before .before .before .before .before .shown .given .1)))
-
 -- src/lib.rt:56:1
 returns : tie.Need-returns
 returns c = (shows-none (c .before .before .before .before .before .before .before .before .before .before .before .pre .0) _ _ (c .before .before .before .evaluated .ensures .0) (shown-stuck (c .before .before .before .evaluated .result) (sym (c .before .before .show .ensures) ∙ c .enum-told .given .1)) _ _, c .before .before .before .evaluated .ensures .2)
@@ -50,7 +46,7 @@ same-length c = search needs
 
 -- src/lib.rt:56:1
 returns-2 : tie.Need-returns-2
-returns-2 c = (shows (c .before .before .before .before .before .before .before .before .before .before .before .before .before .before .before .before .before .pre .0) _ _ (c .before .before .before .before .before .before .before .before .before .evaluated .ensures .0) (shown-value (c .before .before .before .before .before .before .before .before .before .evaluated .result) (sym (c .before .before .before .before .before .before .before .before .show .ensures) ∙ c .before .before .before .before .before .before .shown .given .1)) (c .before .before .before .put64 .ensures) (sym (shown-exact (c .before .before .before .before .before .before .before .before .before .evaluated .result) (c .before .before .before .before .before .before .before .before .before .evaluated .ensures .1) (sym (c .before .before .before .before .before .before .before .before .show .ensures) ∙ c .before .before .before .before .before .before .shown .given .1))), c .before .before .before .before .before .before .before .before .before .evaluated .ensures .2)
+returns-2 c = (shows (c .before .before .before .before .before .before .before .before .before .before .before .before .before .before .before .before .pre .0) _ _ (c .before .before .before .before .before .before .before .before .evaluated .ensures .0) (shown-value (c .before .before .before .before .before .before .before .before .evaluated .result) (sym (c .before .before .before .before .before .before .before .show .ensures) ∙ c .before .before .before .before .before .shown .given .1)) (c .before .before .put64 .ensures) (sym (shown-exact (c .before .before .before .before .before .before .before .before .evaluated .result) (c .before .before .before .before .before .before .before .before .evaluated .ensures .1) (sym (c .before .before .before .before .before .before .before .show .ensures) ∙ c .before .before .before .before .before .shown .given .1))), c .before .before .before .before .before .before .before .before .evaluated .ensures .2)
 
 pub show-spec : {M : Type 1} → statement M
 show-spec =
@@ -62,7 +58,6 @@ show-spec =
     enum-told
     enum-known-shown
     put64-requires
-    cast-result
     returns
     same-length
     returns-2)

@@ -5,7 +5,7 @@ use native.Mathlib.Omega.{arith}
 use borrow.Author.Tests.{ltb-true, ltb-false}
 use Rattle.moves.proofs.ReadyLaws.{walk-again}
 use Rattle.update.specs.Passes.{quietWork}
-use Rattle.update.proofs.PassLaws.{Passing, pass-start, pass-next, pass-room, quiet-again, counted-small, Turned, turn-start, turn-next, turn-end, still, still-less, still-end}
+use Rattle.update.proofs.PassLaws.{Passing, pass-start, pass-next, pass-room, quiet-again, counted-once, Turned, turn-start, turn-next, turn-end, still, still-less, still-end}
 use Rattle.update.proofs.pass.Statement.{statement}
 use Rattle.update.proofs.pass.Tie as tie
 
@@ -41,7 +41,7 @@ add-seen c =
     let s = c .before .before .before .before .before .before .before .before in
     let l = c .before .before .before .before .before .before .loop in
     let q = quiet-again (l .inv .0) (c .before .quiet .ensures .0) (l .inv .3) in
-    omega (arith, pass-room (s .pre .node) (l .inv .0) .0, counted-small (s .args .rec .now .now) (s .args .st .now) (record { ready = l .inv .0 .ready; fields = c .before .before .before .node-by .ensures }) q (ltb-true 0 _ (c .if1 .taken)))
+    omega (arith, pass-room (s .pre .node) (l .inv .0) .0, counted-once (s .args .rec .now .now) (s .args .st .now) (record { ready = l .inv .0 .ready; fields = c .before .before .before .node-by .ensures }) q (ltb-true 0 _ (c .if1 .taken)))
 
 -- src/lib.rt:163:13
 add-kept : tie.Need-add-kept Inv-loop μ-loop
@@ -52,7 +52,7 @@ loop-less : tie.Need-loop-less Inv-loop μ-loop
 loop-less c =
     let l = c .before .before .before .before .before .before .loop in
     let q = quiet-again (l .inv .0) (c .before .quiet .ensures .0) (l .inv .3) in
-    still-less (c .before .before .before .before .before .loop-test .taken) (c .if1 .taken) (pass-next (l .inv .0) (c .before .before .before .node-by .ensures) q (ltb-true 0 _ (c .if1 .taken)) .0)
+    still-less (c .before .before .before .before .before .loop-test .taken) (c .if1 .taken) (pass-next (c .before .before .before .before .before .before .before .before .pre .node) (l .inv .0) (c .before .before .before .node-by .ensures) q (ltb-true 0 _ (c .if1 .taken)) .0)
 
 -- src/lib.rt:156:5
 loop-again : tie.Need-loop-again Inv-loop μ-loop
@@ -61,7 +61,7 @@ loop-again c =
     let l = c .before .before .before .before .before .before .loop in
     let q = quiet-again (l .inv .0) (c .before .quiet .ensures .0) (l .inv .3) in
     let o = ltb-true 0 _ (c .if1 .taken) in (
-      pass-next (l .inv .0) (c .before .before .before .node-by .ensures) q o .1,
+      pass-next (s .pre .node) (l .inv .0) (c .before .before .before .node-by .ensures) q o .1,
       turn-next (s .pre .node) (l .inv .0) (l .inv .1) (c .before .before .before .node-by .ensures) q o,
       (λ h. absurd (omega (arith, ltb-true 0 (c .before .quiet .result) (c .if1 .taken), ltb-false 0 (c .before .quiet .result) h))),
       c .before .quiet .ensures .1 ∙ l .inv .3,

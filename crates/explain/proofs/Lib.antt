@@ -1,3 +1,2 @@
-pub mod EnterLaws
 pub mod TraceLaws
 pub mod FillLaws

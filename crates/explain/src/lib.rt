@@ -15,40 +15,16 @@ ghost use Rattle.chains.specs.Explain.{letOf, filled, explainLet, explainAt, ex
 ghost use Rattle.chains.specs.Explains.{IsLet};
 ghost use Rattle.explain.specs.Tracing.{onward};
 use chains::Explained;
+use fields::enters_a;
+use fields::enters_b;
+use fields::enters_c;
 use kinds::both;
-use kinds::either;
 use rules::Node;
 use rules::Place;
 use rules::Refusal;
 use rules::Verdict;
 use table::node;
 use verdict::judge;
-
-// The fields by which a node of kind k is left for a child: a,
-fn enters_a(k: u8) -> bool
-    ensures { λ r. ⌜ r ≡ enters k a-field ⌝ }
-{
-    either(
-        either(k == 3, both(5 <= k, k <= 10)),
-        both(18 <= k, k <= 29),
-    )
-}
-
-// b,
-fn enters_b(k: u8) -> bool
-    ensures { λ r. ⌜ r ≡ enters k b-field ⌝ }
-{
-    let signals = either(either(k == 5, k == 7), both(9 <= k, k <= 10));
-    let operations = either(both(18 <= k, k <= 23), both(25 <= k, k <= 27));
-    either(either(signals, operations), k == 29)
-}
-
-// and c.
-fn enters_c(k: u8) -> bool
-    ensures { λ r. ⌜ r ≡ enters k c-field ⌝ }
-{
-    either(either(k == 6, k == 27), k == 29)
-}
 
 // The chain that goes on by a field of node i that holds m, if the field is entered: stored from a place on, and how many entries it has.
 fn part(p: &&[u8], room: &mut [u16], x: usize, i: usize, at: usize, yes: bool, m: usize) -> usize

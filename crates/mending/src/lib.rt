@@ -22,6 +22,7 @@ use state::first_value;
 use state::reset_b;
 use state::resets;
 use state::set_own;
+use table::LAST;
 use well::content_fits;
 use well::middle_in;
 
@@ -34,7 +35,7 @@ fn names_branch(p: &&[u8], index: &[u16; 2016], size: usize, m: u64, j: usize) -
     if j == middle_in(m) {
         return content_fits(n.ty, j, m);
     }
-    if n.b == 65535 {
+    if n.b == LAST {
         return false;
     }
     names_branch(p, index, size, m, n.b)
@@ -121,12 +122,12 @@ fn mend_b(p: &&[u8], index: &[u16; 2016], st: &mut [u8], m: u64, j: usize)
     let n = node_by(*p, index, j);
     if j == middle_in(m) {
         mend_s(p, index, st, n.a);
-        if n.b != 65535 {
+        if n.b != LAST {
             reset_b(p, index, st, n.b);
         }
     } else {
         resets(p, index, st, n.a);
-        if n.b != 65535 {
+        if n.b != LAST {
             mend_b(p, index, st, m, n.b);
         }
     }
@@ -139,7 +140,7 @@ fn mend_c(p: &&[u8], index: &[u16; 2016], st: &mut [u8], j: usize)
 {
     let n = node_by(*p, index, j);
     mend_s(p, index, st, n.a);
-    if n.b != 65535 {
+    if n.b != LAST {
         mend_c(p, index, st, n.b);
     }
 }

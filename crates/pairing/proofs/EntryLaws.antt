@@ -11,7 +11,7 @@ use lib.ListN.{length, getD}
 use borrow.Author.Tests.{eq-eqb, ne-eqb, lt-ltb, le-ltb}
 use Rattle.rules.specs.Bytes.{Bytes, _and_, _or_}
 use Rattle.rules.specs.Layout.{blocks, records, nodes, kindAt}
-use Rattle.rules.specs.Kinds.{fieldsOf, row}
+use Rattle.rules.specs.Kinds.{fieldsOf}
 use Rattle.rules.specs.Node.{IsNode}
 use Rattle.rules.specs.Shape.{isChild, mayStop}
 use Rattle.rules.specs.Shaped.{Shaped}
@@ -19,7 +19,6 @@ use Rattle.rules.specs.Accepted.{Accepted}
 use Rattle.rules.specs.declared.Field.{Field}
 use Rattle.rules.specs.declared.Field.the-variants.{Unused, Channel, PresentByte, Signal, Expression, FirstBranch, NextBranch, FirstCase, NextCase, Binder, Target}
 use Rattle.rules.specs.declared.Fields.{Fields}
-use Rattle.rules.specs.declared.TypeField.{TypeField}
 use Rattle.rules.specs.declared.Node.{Node}
 use Rattle.rules.proofs.Static.{not-both}
 use Rattle.rules.proofs.Kids.{Kid, kids}
@@ -27,7 +26,8 @@ use Rattle.rules.proofs.Rooted.{some-node, shaped-of}
 use Rattle.dropped.specs.Pairing.{Pairing, oldOf, reaches, entryWrong}
 use Rattle.dropped.specs.Clauses.{unless, earlier, fieldBroken, fieldsBroken, nodeBroken, entryBroken}
 use Rattle.dropped.proofs.ClauseLaws.{entry-broken}
-use Rattle.pairing.specs.Leads.{InField, InFields}
+use Rattle.reaching.specs.Leads.{InField, InFields}
+use Rattle.pairing.proofs.AskedLaws.{Alike}
 
 in-field : (p : Bytes) (n : ℕ) (f : Field) (x : ℕ) → Kid f p n x → InField p f x
 unfolding isChild mayStop
@@ -56,27 +56,13 @@ in-child p y e c s h = h (ap isChild e ∙ c) (λ t. absurd (not-both (sym s ∙
 pub in-next : (p : Bytes) {f g : Field} (y : ℕ) → f ≡ g → isChild g ≡ true → InField p f y → (y ≡ 65535 → ⊥) → y < nodes p
 in-next p y e c h d = h (ap isChild e ∙ c) (λ t. d)
 
--- A row of the table of kinds.
-pub of-row : {x y z : Field} (k : ℕ) (t : TypeField) (a b c : Field) → fieldsOf k ≡ row t a b c → (x ≡ a) × (y ≡ b) × (z ≡ c)
-    → (x ≡ fieldsOf k .a) × (y ≡ fieldsOf k .b) × (z ≡ fieldsOf k .c)
-unfolding row
-of-row k t a b c e w = rw e (w .0, w .1, w .2)
-
--- An entry in the list; any value stands for no entry.
-pub entry-in : (l : List ℕ) (i d e : ℕ) → i < length l → getD l i d ≡ getD l i e
-entry-in [] i d e h = absurd (not-suc-le-zero h)
-entry-in (x ∷ l) zero d e h = refl
-entry-in (x ∷ l) (suc i) d e h = entry-in l i d e (omega arith)
-
-pub in-is : (p : Bytes) {f g : Field} (y : ℕ) → f ≡ g → InField p g y → InField p f y
-in-is p y e h = subst (λ (k : Field). InField p k y) (sym e) h
-
 -- The three fields.
-pub fields-are : (p : Bytes) (count : ℕ) (π : ℕ → ℕ) (f : Fields) (a b c a′ b′ c′ : ℕ) {r x y z w : ℕ} {fa fb fc : Field} → fa ≡ f .a → fb ≡ f .b → fc ≡ f .c
-    → x ≡ fieldBroken p count π 4 fa a a′ → y ≡ fieldBroken p count π 5 fb b b′ → z ≡ fieldBroken p count π 6 fc c c′
+pub fields-are : (p : Bytes) (count : ℕ) (π : ℕ → ℕ) (f : Fields) (a b c a′ b′ c′ : ℕ) {r x y z w : ℕ} {fa fb fc : Field} → Alike fa (f .a) → Alike fb (f .b)
+    → Alike fc (f .c) → x ≡ fieldBroken p count π 4 fa a a′ → y ≡ fieldBroken p count π 5 fb b b′ → z ≡ fieldBroken p count π 6 fc c c′
     → w ≡ earlier y z → r ≡ earlier x w → r ≡ fieldsBroken p count π f a b c a′ b′ c′
 unfolding fieldsBroken
-fields-are p count π f a b c a′ b′ c′ ea eb ec ex ey ez ew er = er ∙ rw (ew, ex, ey, ez, ea, eb, ec)
+fields-are p count π f a b c a′ b′ c′ ka kb kc ex ey ez ew er =
+    er ∙ rw (ew, ex ∙ ka .broken p count π 4 a a′, ey ∙ kb .broken p count π 5 b b′, ez ∙ kc .broken p count π 6 c c′)
 
 -- The last entry, and any other.
 pub last-is : (i count : ℕ) {r : ℕ} {v s : Bool} → i + 1 ≡ count → v ≡ s → r ≡ unless v 8 → r ≡ unless (not (eqb (suc i) count) or s) 8

@@ -1,3 +1,2 @@
-pub mod ReachLaws
+pub mod AskedLaws
 pub mod EntryLaws
-pub mod NoneLaws

@@ -1,1 +1,1 @@
-pub mod Leads
+pub mod Asked

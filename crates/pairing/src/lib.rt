@@ -14,9 +14,21 @@ ghost use Rattle.rules.specs.declared.Verdict.the-variants.{Fine};
 ghost use Rattle.dropped.specs.Pairing.{oldOf, reaches, pairingFault};
 ghost use Rattle.dropped.specs.PairedCall.{editionsDiffer, entriesAnswer, pairingAnswer, newAnswer, pairedCall};
 ghost use Rattle.dropped.specs.Clauses.{unless as unlessOf, earlier as earlierOf, nextBroken, fieldBroken, fieldsBroken, entryBroken, clauseOf, clauseCall};
-ghost use Rattle.pairing.specs.Leads.{LeadsTo, Leads, InField, InFields};
+ghost use Rattle.reaching.specs.Leads.{LeadsTo, Leads, InField, InFields};
+ghost use Rattle.pairing.specs.Asked.{aOf, cOf};
 use dropped::Paired;
+use kinds::a_in;
+use kinds::b_in;
 use kinds::both;
+use kinds::c_in;
+use kinds::row_of;
+use reaching::child_broken;
+use reaching::earlier;
+use reaching::named_broken;
+use reaching::next_broken;
+use reaching::old_of;
+use reaching::reached;
+use reaching::unless;
 use rules::Field;
 use rules::Node;
 use rules::Place;
@@ -24,74 +36,23 @@ use rules::Verdict;
 use table::node;
 use verdict::judge;
 
-// What the three fields of a kind hold.
-struct Trio {
-    a: Field,
-    b: Field,
-    c: Field,
-}
-
-fn row(a: Field, b: Field, c: Field) -> Trio
-    ensures { λ r. ⌜ (r .a ≡ a) × (r .b ≡ b) × (r .c ≡ c) ⌝ }
+// What field a holds, and field c, by the row of the kind: a row has the children, and a variable's binder and a case's target are none.
+fn a_of(k: u8, row: u32) -> Field
+    ensures { λ r. ⌜ r ≡ aOf k row ⌝ }
 {
-    Trio { a: a, b: b, c: c }
-}
-
-// The paper's table of kinds.
-fn fields_of(k: u8) -> Trio
-    ensures { λ r. ⌜ (r .a ≡ fieldsOf k .a) × (r .b ≡ fieldsOf k .b) × (r .c ≡ fieldsOf k .c) ⌝ }
-{
-    match k {
-        1 => row(Field::Channel, Field::Unused, Field::Unused),
-        3 => row(Field::Expression, Field::Unused, Field::Unused),
-        4 => row(Field::Signal, Field::PresentByte, Field::Unused),
-        5 => row(Field::Signal, Field::Signal, Field::Unused),
-        6 => row(Field::Signal, Field::Signal, Field::Signal),
-        7 => row(Field::Signal, Field::FirstBranch, Field::Unused),
-        8 => row(Field::Signal, Field::FirstCase, Field::Unused),
-        9 => row(Field::Signal, Field::NextBranch, Field::Unused),
-        10 => row(Field::Signal, Field::NextCase, Field::Target),
-        16 => row(Field::Binder, Field::Unused, Field::Unused),
-        17 => row(Field::Unused, Field::PresentByte, Field::Unused),
-        18..=23 => row(Field::Expression, Field::Expression, Field::Unused),
-        24 => row(Field::Expression, Field::Unused, Field::Unused),
-        25..=26 => row(Field::Expression, Field::Expression, Field::Unused),
-        27 => row(Field::Expression, Field::Expression, Field::Expression),
-        28 => row(Field::Expression, Field::Unused, Field::Unused),
-        29 => row(Field::Expression, Field::Expression, Field::Expression),
-        _ => row(Field::Unused, Field::Unused, Field::Unused),
+    if k == 16 {
+        return Field::Binder;
     }
+    a_in(row)
 }
 
-// A clause that is broken unless a test holds: its number, or 0.
-fn unless(right: bool, clause: u8) -> u8
-    ensures { λ r. ⌜ r ≡ unlessOf right clause ⌝ }
+fn c_of(k: u8, row: u32) -> Field
+    ensures { λ r. ⌜ r ≡ cOf k row ⌝ }
 {
-    if right { 0 } else { clause }
-}
-
-// The first of two clauses; 0 is none.
-fn earlier(a: u8, b: u8) -> u8
-    ensures { λ r. ⌜ r ≡ earlierOf a b ⌝ }
-{
-    if a == 0 {
-        return b;
+    if k == 10 {
+        return Field::Target;
     }
-    if b == 0 {
-        return a;
-    }
-    if b < a { b } else { a }
-}
-
-// The entry of new node i; 65535 where there is none.
-fn old_of(pairing: &[u16], i: usize) -> usize
-    ensures { λ r. ⌜ r ≡ oldOf (now (pairing .entry)) i ⌝ }
-{
-    if i < pairing.len() {
-        pairing[i] as usize
-    } else {
-        65535
-    }
+    c_in(row)
 }
 
 // Where node m leads through the bodies of lets, given this for smaller nodes.
@@ -118,46 +79,6 @@ fn lead_all(p: &[u8], ends: &mut [u16], count: usize)
         lead(p, ends, m);
         m += 1;
     }
-}
-
-// Old node y is reached from old node x through the bodies of zero or more lets: it is no larger and leads to the same node. (Each node is
-// named once, so that of two nodes that lead to the same one the smaller is on the way of the larger.)
-fn reached(p: &[u8], ends: &[u16], x: usize, y: usize) -> bool
-    requires { ⌜ Leads (now p) (now ends) × (x < nodes (now p)) ⌝ }
-    ensures { λ r. ⌜ r ≡ reaches (now (p .entry)) x y ⌝ }
-{
-    if y <= x { ends[x] == ends[y] } else { false }
-}
-
-// A field x of a new node that names a child, beside the same field y of its old one.
-fn child_broken(p: &[u8], ends: &[u16], pairing: &[u16], child: u8, x: usize, y: usize) -> u8
-    requires { ⌜ Leads (now p) (now ends) × (y < nodes (now p)) ⌝ }
-    ensures { λ r. ⌜ r ≡ unlessOf (reaches (now (p .entry)) y (oldOf (now (pairing .entry)) x)) child ⌝ }
-{
-    let z = old_of(pairing, x);
-    unless(reached(p, ends, y, z), child)
-}
-
-// The same for a field that may name none: there is a next exactly where the old node has one.
-fn next_broken(p: &[u8], ends: &[u16], pairing: &[u16], child: u8, x: usize, y: usize) -> u8
-    requires { ⌜ Leads (now p) (now ends) × ((y ≡ 65535 → ⊥) → y < nodes (now p)) ⌝ }
-    ensures { λ r. ⌜ r ≡ nextBroken (now (p .entry)) (oldOf (now (pairing .entry))) child x y ⌝ }
-{
-    if x == 65535 {
-        return unless(y == 65535, 3);
-    }
-    if y == 65535 {
-        return 3;
-    }
-    child_broken(p, ends, pairing, child, x, y)
-}
-
-// A binder or target x of a new node, beside the old one, y.
-fn named_broken(pairing: &[u16], count: usize, x: usize, y: usize) -> u8
-    ensures { λ r. ⌜ r ≡ unlessOf (ltb x count and eqb (oldOf (now (pairing .entry)) x) y) 7 ⌝ }
-{
-    let z = old_of(pairing, x);
-    unless(both(x < count, z == y), 7)
 }
 
 // A field x of a new node beside the same field y of its old one.
@@ -194,10 +115,11 @@ fn fields_broken(p: &[u8], ends: &[u16], pairing: &[u16], count: usize, n: Node,
     requires { ⌜ Leads (now p) (now ends) × InFields (now p) (fieldsOf (n .kind)) (o .a) (o .b) (o .c) ⌝ }
     ensures { λ r. ⌜ r ≡ fieldsBroken (now (p .entry)) count (oldOf (now (pairing .entry))) (fieldsOf (n .kind)) (n .a) (n .b) (n .c) (o .a) (o .b) (o .c) ⌝ }
 {
-    let f = fields_of(n.kind);
-    let fa = f.a;
-    let fb = f.b;
-    let fc = f.c;
+    let k = n.kind;
+    let row = row_of(k);
+    let fa = a_of(k, row);
+    let fb = b_in(row);
+    let fc = c_of(k, row);
     let a = field_broken(p, ends, pairing, count, 4, fa, n.a, o.a);
     let b = field_broken(p, ends, pairing, count, 5, fb, n.b, o.b);
     let c = field_broken(p, ends, pairing, count, 6, fc, n.c, o.c);

@@ -24,8 +24,9 @@ use Rattle.rules.specs.declared.Checked.{Checked}
 use Rattle.rules.specs.declared.Checked.the-variants.{Accepted}
 use Rattle.rules.proofs.Static.{and-both}
 use Rattle.lines.specs.Print.{firstLine, stepLine, refusedLine}
-use Rattle.printing.specs.Printed.{blocksTaken, programOf, recordsOf, mostRecords, lastLine, stepLines, linesOf, printed}
-use Rattle.printing.specs.Turns.{blocksLeft, openingLine, wanted, isRecord, TurnOutcome, stepTurn, recordTurn, turnOf, turnsFrom, playedOn, programRead, unread, played}
+use Rattle.turns.specs.Decided.{blocksTaken, mostRecords, blocksLeft, wanted, isRecord}
+use Rattle.printing.specs.Printed.{programOf, recordsOf, lastLine, stepLines, linesOf, printed}
+use Rattle.printing.specs.Turns.{openingLine, TurnOutcome, stepTurn, recordTurn, turnOf, turnsFrom, playedOn, programRead, unread, played}
 
 -- one byte tells whether anything is left
 one-tells : (rest : Bytes) (steps total : ℕ) → lastLine (length (take 1 rest)) steps total ≡ lastLine (length rest) steps total

@@ -6,10 +6,10 @@ use Prim.Native.Nat.{ℕ, zero, suc, _+_, _*_, _/_, _≤_, _<_}
 use native.Mathlib.Omega.{arith}
 use lib.ListN.{length, take}
 use lib.Seq.{take-all, length-take-le}
-use borrow.Author.Tests.{le-leb, lt-leb, ltb-true, leb-true}
+use borrow.Author.Tests.{ltb-true, leb-true}
 use Rattle.rules.specs.Bytes.{Bytes, byteAt, u16At, u32At, u64At, bytesOf, writeAt, if_then_else_, _and_}
 use Rattle.rules.specs.Values.{packed, unpacked, valueBytes}
-use Rattle.rules.specs.Layout.{blockAt, edition, editionIn, countIn, inputLength, inputAt, timeIn}
+use Rattle.rules.specs.Layout.{inputLength, inputAt, timeIn}
 use Rattle.rules.specs.Accepted.{Accepted}
 use Rattle.rules.specs.WellFormed.{wellFormed, lastMoment}
 use Rattle.rules.specs.Update.{Stepped, Made, NotMade, stepOf}
@@ -37,8 +37,9 @@ use Rattle.promises.proofs.ValidLaws.{packed-small}
 use Rattle.promises.proofs.Runs.{in-time}
 use Rattle.promises.proofs.Steps.{step-goes-on}
 use Rattle.steps.specs.Going.{Leaves, mostWork}
-use Rattle.printing.specs.Printed.{blocksTaken, mostRecords, lastLine}
-use Rattle.printing.specs.Turns.{TurnOutcome, stepTurn, recordTurn, isRecord, turnOf, placedAt, Turned}
+use Rattle.turns.specs.Decided.{mostRecords, isRecord, placedAt}
+use Rattle.printing.specs.Printed.{lastLine}
+use Rattle.printing.specs.Turns.{TurnOutcome, stepTurn, recordTurn, turnOf, Turned}
 
 -- a valid value is read back from the 8 bytes that it was written to
 eight-bytes : (m : ℕ) → m < 18446744073709551616 → u64At (bytesOf 8 m) 0 ≡ m
@@ -189,24 +190,6 @@ turned e a b c d f = rw e (record { line-is = a; more-is = b; steps-is = c; tota
 pub turned-as : {o q : TurnOutcome} {line st : Bytes} {size steps total : ℕ} {more : Bool} → o ≡ q → Turned q line size more steps total st
     → Turned o line size more steps total st
 turned-as e t = rw e t
-
--- how many blocks are taken: one if block 0 is of no edition, or says none or too many, else so many
-pub no-edition : (p : Bytes) {e : ℕ} → e ≡ byteAt p 3 → 1 < e → 1 ≡ blocksTaken p
-unfolding blocksTaken edition editionIn blockAt _and_
-no-edition p {e} f h = rw (← f, lt-leb e 1 h)
-
-module _ (p : Bytes) {e n : ℕ} (f : e ≡ byteAt p 3) (g : n ≡ byteAt p 2) (k : e ≤ 1) where
-  pub few : n < 1 → 1 ≡ blocksTaken p
-  unfolding blocksTaken edition editionIn countIn blockAt _and_
-  few h = rw (← f, ← g, le-leb e 1 k, lt-leb 1 n h)
-
-  pub many : 24 < n → 1 ≡ blocksTaken p
-  unfolding blocksTaken edition editionIn countIn blockAt _and_
-  many h = rw (← f, ← g, le-leb e 1 k, le-leb 1 n (omega arith), lt-leb n 24 h)
-
-  pub said : 1 ≤ n → n ≤ 24 → n ≡ blocksTaken p
-  unfolding blocksTaken edition editionIn countIn blockAt _and_
-  said h l = rw (← f, ← g, le-leb e 1 k, le-leb 1 n h, le-leb n 24 l)
 
 -- a record to take is no 4,097th, and is whole
 pub record-early : (got : ℕ) {steps : ℕ} → isRecord got steps ≡ true → (steps < mostRecords) × (inputLength ≤ got)

@@ -3,9 +3,9 @@
 use Prim.Native.Nat.{ℕ, zero, suc, _+_, _*_}
 use mathlib.Core.List.{_++_}
 use lib.ListN.{length, take, drop}
-use lib.Dec.{eqb, leb, ltb}
-use Rattle.rules.specs.Bytes.{Bytes, if_then_else_, _and_}
-use Rattle.rules.specs.Layout.{edition, countIn, inputLength, timeIn}
+use lib.Dec.{eqb, ltb}
+use Rattle.rules.specs.Bytes.{Bytes, if_then_else_}
+use Rattle.rules.specs.Layout.{inputLength, timeIn}
 use Rattle.rules.specs.Reset.{startState}
 use Rattle.rules.specs.Update.{Made, NotMade, stepOf}
 use Rattle.rules.specs.Calls.{checkCall, recordVerdict}
@@ -13,25 +13,17 @@ use Rattle.rules.specs.declared.Refusal.the-variants.{RecordsLength, StateFault
 use Rattle.rules.specs.declared.Verdict.the-variants.{Fine, Refuse}
 use Rattle.rules.specs.declared.Checked.{Checked}
 use Rattle.rules.specs.declared.Checked.the-variants.{Accepted}
+use Rattle.turns.specs.Decided.{blocksTaken, mostRecords}
 use Rattle.lines.specs.Print.{firstLine, stepLine, endLine, refusedLine}
 
--- Standard input: the blocks (as many as block 0 says, if 1 to 24, else just one), .. The count is byte 2; with a byte 3 above 1, which is no
--- edition, bytes 2-3 say more than 24.
-unfoldable pub blocksTaken : Bytes → ℕ
-blocksTaken input =
-    if leb (edition input) 1 and (leb 1 (countIn input 0) and leb (countIn input 0) 24) then countIn input 0 else 1
-
--- The program is what it got of these blocks: less, or nothing, where the input ends.
+-- Standard input: the blocks (as many as block 0 says, if 1 to 24, else just one: `blocksTaken`), .. The program is what it got of these blocks:
+-- less, or nothing, where the input ends.
 unfoldable pub programOf : Bytes → Bytes
 programOf input = take (512 * blocksTaken input) input
 
 -- .. then records.
 unfoldable pub recordsOf : Bytes → Bytes
 recordsOf input = drop (512 * blocksTaken input) input
-
--- A run has at most 4,096 records.
-abbrev pub mostRecords : ℕ
-mostRecords = 4096
 
 -- Where no record is taken any more, the last line: steps and total work if nothing is left; a part record at the end, or a 4,097th record,
 -- prints `REFUSED 10 0`.

@@ -1,41 +1,31 @@
 -- The parts of which watchrun makes what it prints: what it reads of the blocks, its opening line, and its turns, one for each record and the last.
--- Each is what a function of this crate answers; `played` puts them together as the program does.
+-- Each is what a function of this crate or of crate turns answers; `played` puts them together as the program does.
 -- Assumes nothing: these are definitions.
 use mathlib.Core.Path.{_≡_}
 use mathlib.Core.Bool.{Bool, true, false}
 use mathlib.Core.List.{List, [], _++_}
-use Prim.Native.Nat.{ℕ, zero, suc, _+_, _-_, _*_, _≤_}
+use Prim.Native.Nat.{ℕ, zero, suc, _+_, _*_, _≤_}
 use lib.ListN.{length, take, drop}
-use lib.Dec.{eqb, leb, ltb}
-use Rattle.rules.specs.Bytes.{Bytes, if_then_else_, _and_}
+use Rattle.rules.specs.Bytes.{Bytes, if_then_else_}
 use Rattle.rules.specs.Layout.{inputLength, timeIn}
 use Rattle.rules.specs.Evaluate.{Env}
 use Rattle.rules.specs.Reset.{startState}
 use Rattle.rules.specs.Update.{Stepped, Made, NotMade, stepOf}
 use Rattle.rules.specs.Calls.{checkCall, recordVerdict}
-use Rattle.rules.specs.Answers.{codeOf}
-use Rattle.rules.specs.declared.Refusal.{Refusal}
-use Rattle.rules.specs.declared.Refusal.the-variants.{StateFault, InputFault, TimeBack}
+use Rattle.rules.specs.declared.Refusal.the-variants.{StateFault}
 use Rattle.rules.specs.declared.Verdict.{Verdict}
 use Rattle.rules.specs.declared.Verdict.the-variants.{Fine, Refuse}
 use Rattle.rules.specs.declared.Checked.{Checked}
 use Rattle.rules.specs.declared.Checked.the-variants.{Accepted}
 use Rattle.lines.specs.Print.{firstLine, stepLine, refusedLine}
 use Rattle.steps.specs.Going.{Going, mostWork}
-use Rattle.printing.specs.Printed.{blocksTaken, mostRecords, lastLine}
-
--- How many bytes are still to be read of the blocks, when so many bytes were got of block 0: none after a part of it.
-unfoldable pub blocksLeft : Bytes → ℕ → ℕ
-blocksLeft head got = if ltb got 512 then 0 else 512 * (blocksTaken head - 1)
+use Rattle.turns.specs.Decided.{mostRecords, blocksLeft, wanted, isRecord}
+use Rattle.printing.specs.Printed.{lastLine}
 
 -- The first line of what was found of the program, or its only one.
 unfoldable pub openingLine : Checked → Bytes
 openingLine (Accepted count cells most type) = firstLine count cells most type
 openingLine (Checked.Refused r) = refusedLine r
-
--- How many bytes are read after so many steps: a record; behind 4,096 one byte tells whether there is more.
-unfoldable pub wanted : ℕ → ℕ
-wanted steps = if ltb steps mostRecords then inputLength else 1
 
 -- A line, whether there is more to come, and what that goes on from.
 pub record TurnOutcome : Type 0 where
@@ -54,10 +44,6 @@ stepTurn rec steps total st Fine NotMade = record { line = refusedLine StateFaul
 
 unfoldable pub recordTurn : Bytes → Bytes → ℕ → ℕ → Bytes → TurnOutcome
 recordTurn p rec steps total st = stepTurn rec steps total st (recordVerdict steps st rec) (stepOf p rec st)
-
--- So many bytes after so many steps are a record to take: it is whole, and no 4,097th.
-unfoldable pub isRecord : ℕ → ℕ → Bool
-isRecord got steps = ltb steps mostRecords and leb inputLength got
 
 -- The turn after so many steps and so much work, from a state, on the bytes that were read for it.
 unfoldable pub turnOf : Bytes → Bytes → ℕ → ℕ → Bytes → TurnOutcome
@@ -91,10 +77,6 @@ unread input = drop (blocksLeft (take 512 input) (length (take 512 input))) (dro
 
 unfoldable pub played : Bytes → Bytes
 played input = playedOn (programRead input) (unread input) (checkCall (programRead input))
-
--- A refusal of a run of one record has the steps printed before it for its place, where its code is 12 or 13.
-unfoldable pub placedAt : ℕ → Refusal → Refusal
-placedAt steps r = if eqb (codeOf r) 12 then InputFault steps else if eqb (codeOf r) 13 then TimeBack steps else r
 
 -- A turn's answer: so many bytes of the lent line are the line, and the rest as the outcome has it.
 pub record Turned (o : TurnOutcome) (line : Bytes) (size : ℕ) (more : Bool) (steps total : ℕ) (st : Bytes) : Type 0 where

@@ -9,18 +9,16 @@ ghost use Rattle.rules.specs.Layout.{timeIn};
 ghost use Rattle.rules.specs.Values.{unpacked};
 ghost use Rattle.lines.specs.Print.{stepLine, refusedLine};
 ghost use Rattle.steps.specs.Going.{Going, mostWork};
-ghost use Rattle.printing.specs.Printed.{blocksTaken, mostRecords, lastLine};
-ghost use Rattle.printing.specs.Turns.{blocksLeft, openingLine, wanted as wantedAfter, isRecord, recordTurn, turnOf, placedAt, Turned, Under};
+ghost use Rattle.turns.specs.Decided.{mostRecords};
+ghost use Rattle.printing.specs.Printed.{lastLine};
+ghost use Rattle.printing.specs.Turns.{openingLine, recordTurn, turnOf, Turned, Under};
 use rules::Checked;
 use rules::Ran;
 use rules::Refusal;
 use steps::run_records;
-
-const BLOCK: usize = 512;
-
-const RECORD: usize = 40;
-
-const MOST_RECORDS: u32 = 4096;
+use turns::in_all;
+use turns::is_record;
+use turns::placed;
 
 // After a turn: the length of its line, whether there is more to come, and the steps done and their work.
 pub struct After {
@@ -28,35 +26,6 @@ pub struct After {
     pub more: bool,
     pub steps: u32,
     pub total: u32,
-}
-
-// How many blocks block 0 says, if 1 to 24, else just one: byte 2, where byte 3 is an edition, 0 or 1.
-fn blocks_taken(block: &[u8]) -> usize
-    requires { ⌜ 512 ≤ length (now block) ⌝ }
-    ensures { λ r. ⌜ (r ≡ blocksTaken (now (block .entry))) × (1 ≤ r) × (r ≤ 24) ⌝ }
-{
-    if block[3] > 1 {
-        return 1;
-    }
-    let n = block[2] as usize;
-    if n < 1 {
-        return 1;
-    }
-    if n > 24 {
-        return 1;
-    }
-    n
-}
-
-// How many bytes of the blocks are still to be read after so many of block 0.
-pub fn blocks_left(program: &[u8], got: usize) -> usize
-    requires { ⌜ 512 ≤ length (now program) ⌝ }
-    ensures { λ r. ⌜ (r ≡ blocksLeft (now (program .entry)) got) × (r ≤ 11776) ⌝ }
-{
-    if got < BLOCK {
-        return 0;
-    }
-    BLOCK * (blocks_taken(program) - 1)
 }
 
 // The first line of what check found, or the only one.
@@ -68,30 +37,6 @@ pub fn opening(found: Checked, line: &mut [u8; 64]) -> usize
         Checked::Accepted(n, cells, bound, ty) => lines::first_line(n, cells, bound, ty, line),
         Checked::Refused(r) => lines::refused_line(r, line),
     }
-}
-
-// How many bytes to read after so many steps.
-pub fn wanted(steps: u32) -> usize
-    ensures { λ r. ⌜ (r ≡ wantedAfter steps) × (r ≤ 40) ⌝ }
-{
-    if steps < MOST_RECORDS {
-        return RECORD;
-    }
-    1
-}
-
-// The place of a refused record is the number of steps printed.
-fn placed(steps: u32, r: Refusal) -> Refusal
-    ensures { λ q. ⌜ q ≡ placedAt steps r ⌝ }
-{
-    let code = rules::code_of(r);
-    if code == 12 {
-        return Refusal::InputFault(steps);
-    }
-    if code == 13 {
-        return Refusal::TimeBack(steps);
-    }
-    r
 }
 
 // The last line where no record is taken any more and so many bytes were read.
@@ -139,7 +84,7 @@ fn taken(
             length: stepped(rec, &value, work, line),
             more: true,
             steps: steps + 1,
-            total: total + work,
+            total: in_all(total, work),
         },
         Ran::Refused(r, _, _) => After {
             length: lines::refused_line(placed(steps, r), line),
@@ -148,16 +93,6 @@ fn taken(
             total: total,
         },
     }
-}
-
-// Whether so many bytes after so many steps are a record to take: it is whole, and no 4,097th.
-fn is_record(got: usize, steps: u32) -> bool
-    ensures { λ r. ⌜ r ≡ isRecord got steps ⌝ }
-{
-    if steps < MOST_RECORDS {
-        return got >= RECORD;
-    }
-    false
 }
 
 // A turn on the first `got` bytes of rec: its step, or the last line.

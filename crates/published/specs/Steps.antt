@@ -18,50 +18,50 @@ pub data Steps (p rec st : Bytes) : Value → Bytes → ℕ → Type 0 where
 
 -- Document 000, section 5: the size of a derivation is the number of times a transition or evaluation rule is used in it. One for each rule,
 -- with those of its premises; lists count nothing.
-unfoldable pub sizeE : {env : Env} {e : Expr} {v : Value} {n : ℕ} → Evaluates env e v n → ℕ
-sizeE (ev-variable g) = 1
-sizeE ev-constant = 1
-sizeE (ev-operation d f g h) = 1 + (sizeE d + sizeE f)
-sizeE (ev-not d g) = 1 + sizeE d
-sizeE (ev-if-true d g h f) = 1 + (sizeE d + sizeE f)
-sizeE (ev-if-false d g h f) = 1 + (sizeE d + sizeE f)
-sizeE (ev-just t d g h) = 1 + sizeE d
-sizeE (ev-take-absent d g f) = 1 + (sizeE d + sizeE f)
-sizeE (ev-take-present d g f) = 1 + (sizeE d + sizeE f)
+unfoldable pub usedE : {env : Env} {e : Expr} {v : Value} {n : ℕ} → Evaluates env e v n → ℕ
+usedE (ev-variable g) = 1
+usedE ev-constant = 1
+usedE (ev-operation d f g h) = 1 + (usedE d + usedE f)
+usedE (ev-not d g) = 1 + usedE d
+usedE (ev-if-true d g h f) = 1 + (usedE d + usedE f)
+usedE (ev-if-false d g h f) = 1 + (usedE d + usedE f)
+usedE (ev-just t d g h) = 1 + usedE d
+usedE (ev-take-absent d g f) = 1 + (usedE d + usedE f)
+usedE (ev-take-present d g f) = 1 + (usedE d + usedE f)
 
-unfoldable pub sizeS : {rec st : Bytes} {env : Env} {s : Signal} {v : Value} {n : ℕ} → EvaluatesS rec st env s v n → ℕ
-sizeS ev-input = 1
-sizeS ev-time = 1
-sizeS (ev-ext d) = 1 + sizeE d
-sizeS ev-delay = 1
-sizeS (ev-signal d b) = 1 + (sizeS d + sizeS b)
-sizeS (ev-switch c d) = 1 + sizeS d
-sizeS (ev-continue c d) = 1 + sizeS d
-sizeS (ev-until d) = 1 + sizeS d
+unfoldable pub usedS : {rec st : Bytes} {env : Env} {s : Signal} {v : Value} {n : ℕ} → EvaluatesS rec st env s v n → ℕ
+usedS ev-input = 1
+usedS ev-time = 1
+usedS (ev-ext d) = 1 + usedE d
+usedS ev-delay = 1
+usedS (ev-signal d b) = 1 + (usedS d + usedS b)
+usedS (ev-switch c d) = 1 + usedS d
+usedS (ev-continue c d) = 1 + usedS d
+usedS (ev-until d) = 1 + usedS d
 
-unfoldable pub sizeNone : {rec st : Bytes} {env : Env} {cs : Cases} {n : ℕ} → NoneOccurs rec st env cs n → ℕ
-sizeNone none-of-none = 0
-sizeNone (none-of-case d g c) = sizeS d + sizeNone c
+unfoldable pub usedNone : {rec st : Bytes} {env : Env} {cs : Cases} {n : ℕ} → NoneOccurs rec st env cs n → ℕ
+usedNone none-of-none = 0
+usedNone (none-of-case d g c) = usedS d + usedNone c
 
-unfoldable pub sizeFirst : {rec st : Bytes} {env : Env} {cs : Cases} {aim : ℕ} {v : Value} {n : ℕ} → FirstOccurs rec st env cs aim v n → ℕ
-sizeFirst (occurs-here d g) = sizeS d
-sizeFirst (occurs-later d g c) = sizeS d + sizeFirst c
+unfoldable pub usedFirst : {rec st : Bytes} {env : Env} {cs : Cases} {aim : ℕ} {v : Value} {n : ℕ} → FirstOccurs rec st env cs aim v n → ℕ
+usedFirst (occurs-here d g) = usedS d
+usedFirst (occurs-later d g c) = usedS d + usedFirst c
 
-unfoldable pub sizeT : {rec : Bytes} {env : Env} {st : Bytes} {x : Part} {r : Result} {n : ℕ} → Transition rec env st x r n → ℕ
-sizeT tr-input = 1
-sizeT tr-time = 1
-sizeT tr-ext = 1
-sizeT (tr-delay d u) = 1 + (sizeS d + sizeT u)
-sizeT (tr-signal′ d u b) = 1 + (sizeS d + (sizeT u + sizeT b))
-sizeT (tr-switch-occ d u o) = 1 + (sizeS d + sizeT u)
-sizeT (tr-switch-noc d u o c p) = 1 + (sizeS d + (sizeT u + sizeT p))
-sizeT (tr-continue c u) = 1 + sizeT u
-sizeT (tr-continue-taken c u h) = 1 + sizeT u
-sizeT (tr-continue-left c u h) = 1 + sizeT u
-sizeT (tr-until-noc a c u) = 1 + (sizeNone a + (sizeT c + sizeT u))
-sizeT (tr-until-occ a) = 1 + sizeFirst a
-sizeT tr-no-case = 0
-sizeT (tr-case c u) = sizeT c + sizeT u
+unfoldable pub usedT : {rec : Bytes} {env : Env} {st : Bytes} {x : Part} {r : Result} {n : ℕ} → Transition rec env st x r n → ℕ
+usedT tr-input = 1
+usedT tr-time = 1
+usedT tr-ext = 1
+usedT (tr-delay d u) = 1 + (usedS d + usedT u)
+usedT (tr-signal′ d u b) = 1 + (usedS d + (usedT u + usedT b))
+usedT (tr-switch-occ d u o) = 1 + (usedS d + usedT u)
+usedT (tr-switch-noc d u o c p) = 1 + (usedS d + (usedT u + usedT p))
+usedT (tr-continue c u) = 1 + usedT u
+usedT (tr-continue-taken c u h) = 1 + usedT u
+usedT (tr-continue-left c u h) = 1 + usedT u
+usedT (tr-until-noc a c u) = 1 + (usedNone a + (usedT c + usedT u))
+usedT (tr-until-occ a) = 1 + usedFirst a
+usedT tr-no-case = 0
+usedT (tr-case c u) = usedT c + usedT u
 
 unfoldable pub sizeOf : {p rec st : Bytes} {v : Value} {st₁ : Bytes} {n : ℕ} → Steps p rec st v st₁ n → ℕ
-sizeOf (step d u) = sizeS d + sizeT u
+sizeOf (step d u) = usedS d + usedT u

@@ -17,7 +17,7 @@ use Rattle.rules.specs.declared.Place.the-variants.{Nowhere}
 use Rattle.rules.proofs.Static.{not-both}
 use Rattle.promises.specs.Small.{Small}
 use Rattle.dropped.specs.Less.{LessS}
-use Rattle.dropped.specs.Rule.{Rule, none}
+use Rattle.dropped.specs.Rule.{NamedS, Rule, none}
 use Rattle.dropped.specs.Tidy.{tidyS}
 use Rattle.dropped.specs.Pairing.{oldOf, pairingFault}
 use Rattle.dropped.specs.Answers.{AnswersAlike}
@@ -64,16 +64,15 @@ module _ (p : Bytes) (small : Small p) (a : Accepted p) where
   pub once : (x : ℕ) → sumS (tidyS (root p)) (is x) ≤ 1
   once x = omega (arith, tidy-sum (is x) (root p), root-once p a x)
 
-  -- The rule holds, by the pairing in which it was written.
-  pub tidied-rule : Rule p (tidied p) (oldOf (tidying p))
+  -- The new tree is the tidied one but for its numbers; so the rule holds, by the pairing in which it was written.
+  pub tidied-named : NamedS (oldOf (tidying p)) (tidyS (root p)) (root (tidied p))
   unfolding tidied tidying
-  tidied-rule = record {
-    between = tidyS (root p);
-    drops = tidy-drops (root p);
-    named =
-        written-paired (typeAt p) (tidyS (root p)) tidied-sound (edition p) (oldOf (orderS (tidyS (root p))))
-        (λ i h. old-entry (orderS (tidyS (root p))) i (omega (arith, orderS-length (tidyS (root p)))));
-  }
+  tidied-named =
+      written-paired (typeAt p) (tidyS (root p)) tidied-sound (edition p) (oldOf (orderS (tidyS (root p))))
+      (λ i h. old-entry (orderS (tidyS (root p))) i (omega (arith, orderS-length (tidyS (root p)))))
+
+  pub tidied-rule : Rule p (tidied p) (oldOf (tidying p))
+  tidied-rule = record { between = tidyS (root p); drops = tidy-drops (root p); named = tidied-named }
 
   rule-entry : Rule p (tidied p) (entry (tidying p))
   unfolding tidied tidying

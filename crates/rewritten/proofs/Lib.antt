@@ -4,4 +4,5 @@ pub mod Renumbered
 pub mod StillSound
 pub mod AsTidied
 pub mod TidyAgain
+pub mod AsAsked
 pub mod RowsHold

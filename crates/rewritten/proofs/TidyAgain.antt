@@ -181,12 +181,21 @@ module _ (p : Bytes) (small : Small p) (a : Accepted p) where
       written-injective (typeAt p) (tidyS (root p)) s (once p small a) _ i (n .0) (omega (arith, orderS-length (tidyS (root p)))) (n .1)
       ∙ (let z : i ≡ 0 + i = omega arith in z)
 
+  -- Its tree tidied again is that tree.
+  pub tidied-tree : tidyS (root (tidied p)) ≡ root (tidied p)
+  unfolding tidied renamed
+  tidied-tree =
+      let s = tidied-sound p small a in
+      let t = tidyS (root p) in
+      ap tidyS (sound-root (typeAt p) t s (edition p))
+      ∙ placed-tidy (cellsBefore (written (edition p) t)) (newNumber t) t 0 (tidy-kept (root p)) new-place
+      ∙ sym (sound-root (typeAt p) t s (edition p))
+
   pub tidied-again : tidied (tidied p) ≡ tidied p
   unfolding tidied renamed
   tidied-again =
       let s = tidied-sound p small a in
       let t = tidyS (root p) in
       ap (λ (e : ℕ). written e (tidyS (root (written (edition p) t)))) (tidied-edition p small a)
-      ∙ ap (λ r. written (edition p) (tidyS r)) (sound-root (typeAt p) t s (edition p))
-      ∙ ap (written (edition p)) (placed-tidy (cellsBefore (written (edition p) t)) (newNumber t) t 0 (tidy-kept (root p)) new-place)
+      ∙ ap (written (edition p)) (tidied-tree ∙ sound-root (typeAt p) t s (edition p))
       ∙ renamed-written (typeAt p) t s (edition p)

@@ -9,13 +9,13 @@ use Rattle.rules.specs.Bytes.{Bytes, writeAt, bytesOf}
 use Rattle.rules.specs.Format.{checkOf}
 use Rattle.rules.specs.declared.Node.{Node}
 use Rattle.written.specs.Table.{rowBytes, rowsBytes, blockOf, blocksFrom, blocksFor}
-use Rattle.written.proofs.ListLaws.{app-length, app-assoc, two, four, drops, drop-none, zeros-length, take-most}
-use Rattle.written.proofs.Rows.{row-length, bytes-length}
+use Rattle.written.proofs.ListLaws.{app-length, app-assoc, two, drops, drop-app, drop-none, take-most}
+use Rattle.written.proofs.Rows.{row-length}
 use Rattle.written.proofs.Blocks.{block-length}
 use Rattle.tidy.specs.Record.{zeroRow, rowFrom, rowsFrom}
 use Rattle.tidy.proofs.RowLaws.{write-more}
 
-none-after : (l : Bytes) → l ++ [] ≡ l
+pub none-after : (l : Bytes) → l ++ [] ≡ l
 none-after [] = refl
 none-after (x ∷ l) = ap (λ (m : Bytes). x ∷ m) (none-after l)
 
@@ -141,13 +141,9 @@ unfolding rowsBytes
 drop-rows [] k = ap rowsBytes (drop-nothing k) ∙ sym (drop-none (12 * k))
 drop-rows (n ∷ ns) zero = refl
 drop-rows (n ∷ ns) (suc k) =
-    drop-rows ns k ∙ sym (ap (drop (12 * k)) (drop-front (rowBytes n) (rowsBytes ns)))
+    drop-rows ns k ∙ sym (ap (drop (12 * k)) (drop-app (rowBytes n) (rowsBytes ns)))
     ∙ drops (12 * k) (length (rowBytes n)) (rowBytes n ++ rowsBytes ns)
     ∙ ap (λ (j : ℕ). drop j (rowBytes n ++ rowsBytes ns)) (let z : length (rowBytes n) + 12 * k ≡ 12 * suc k = omega (arith, row-length n) in z)
-  where
-    drop-front : (s t : Bytes) → drop (length s) (s ++ t) ≡ t
-    drop-front [] t = refl
-    drop-front (x ∷ s) t = drop-front s t
 
 -- A block's records by their number are those that `blocksFrom` takes.
 block-taken : (e₀ count j : ℕ) (ns : List Node) → blockOf e₀ count j (rowsFrom 42 ns (42 * j)) ≡ blockOf e₀ count j (take 504 (drop (504 * j) (rowsBytes ns)))

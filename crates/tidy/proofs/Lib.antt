@@ -1,6 +1,5 @@
 pub mod TwigLaws
 pub mod SweepLaws
-pub mod ChildLaws
 pub mod SettleLaws
 pub mod RowLaws
 pub mod BlockLaws

@@ -15,6 +15,8 @@ use Rattle.rules.specs.Shape.{isChild}
 use Rattle.rules.specs.Node.{IsNode}
 use Rattle.rules.specs.declared.Node.{Node}
 use Rattle.written.specs.Table.{rowBytes}
+use Rattle.written.proofs.ListLaws.{app-length, app-assoc, two}
+use Rattle.written.proofs.Rows.{row-length}
 use Rattle.tidy.specs.Record.{newField, movesA, movesB, movesC, newRow, newRows, zeroRow, rowFrom, rowsFrom, Inside}
 
 -- A field.
@@ -67,24 +69,11 @@ pub row-behind : (p : Bytes) (new order : List ℕ) (count k : ℕ) → count �
 unfolding zeroRow
 row-behind p new order count k h = row-none (newRows p new (take count order)) k (omega (arith, rows-long p new order count))
 
-pub app-long : (xs ys : List ℕ) → length (xs ++ ys) ≡ length xs + length ys
-app-long [] ys = omega arith
-app-long (x ∷ xs) ys = omega (arith, app-long xs ys)
-
-pub joined : (xs ys zs : List ℕ) → (xs ++ ys) ++ zs ≡ xs ++ (ys ++ zs)
-joined [] ys zs = refl
-joined (x ∷ xs) ys zs = ap (λ (l : List ℕ). x ∷ l) (joined xs ys zs)
-
 -- A list written behind another.
 pub write-more : (xs ys r : List ℕ) (k j : ℕ) → j ≡ k + length xs → writeAt (writeAt r k xs) j ys ≡ writeAt r k (xs ++ ys)
 unfolding writeAt
 write-more [] ys r k j e = ap (λ (m : ℕ). writeAt r m ys) (let z : j ≡ k = omega arith in z)
 write-more (x ∷ xs) ys r k j e = write-more xs ys (set r k x) (suc k) j (omega arith)
-
-pub bytes-long : (k x : ℕ) → length (bytesOf k x) ≡ k
-unfolding bytesOf
-bytes-long zero x = refl
-bytes-long (suc k) x = ap suc (bytes-long k _)
 
 pub sets-long : (r : List ℕ) (i j x y : ℕ) → length (set (set r i x) j y) ≡ length r
 sets-long r i j x y = length-set (set r i x) j y ∙ length-set r i x
@@ -104,23 +93,14 @@ row-written room r₁ r₂ r₃ r₄ at n e₁ e₂ e₃ e₄ =
     let s : List ℕ = set (set room at (n .kind)) (suc at) (n .ty) in
     let q₁ : r₁ ≡ writeAt s (suc (suc at)) A = e₁ ∙ (λ i. writeAt (set (set room at (n .kind)) (z₁ i) (n .ty)) (z₂ i) A) in
     let q₂ : r₂ ≡ writeAt s (suc (suc at)) (A ++ B)
-    = e₂ ∙ ap (λ (r : List ℕ). writeAt r (at + 4) B) q₁ ∙ write-more A B s (suc (suc at)) (at + 4) (omega (arith, bytes-long 2 (n .a))) in
+    = e₂ ∙ ap (λ (r : List ℕ). writeAt r (at + 4) B) q₁ ∙ write-more A B s (suc (suc at)) (at + 4) (omega (arith, two (n .a))) in
     let q₃ : r₃ ≡ writeAt s (suc (suc at)) (A ++ B ++ C)
-    = e₃ ∙ ap (λ (r : List ℕ). writeAt r (at + 6) C) q₂ ∙ write-more (A ++ B) C s (suc (suc at)) (at + 6) (omega (arith, app-long A B, bytes-long 2 (n .a), bytes-long 2 (n .b))) in
+    = e₃ ∙ ap (λ (r : List ℕ). writeAt r (at + 6) C) q₂ ∙ write-more (A ++ B) C s (suc (suc at)) (at + 6) (omega (arith, app-length A B, two (n .a), two (n .b))) in
     e₄ ∙ ap (λ (r : List ℕ). writeAt r (at + 8) W) q₃
-    ∙ write-more (A ++ B ++ C) W s (suc (suc at)) (at + 8) (omega (arith, app-long (A ++ B) C, app-long A B, bytes-long 2 (n .a), bytes-long 2 (n .b), bytes-long 2 (n .c)))
-    ∙ ap (writeAt s (suc (suc at))) (joined (A ++ B) C W ∙ joined A B (C ++ W))
+    ∙ write-more (A ++ B ++ C) W s (suc (suc at)) (at + 8) (omega (arith, app-length (A ++ B) C, app-length A B, two (n .a), two (n .b), two (n .c)))
+    ∙ ap (writeAt s (suc (suc at))) (app-assoc (A ++ B) C W ∙ app-assoc A B (C ++ W))
 
 -- The records of a block, one after the other.
-row-long : (n : Node) → length (rowBytes n) ≡ 12
-unfolding rowBytes
-row-long n =
-    let A : Bytes = bytesOf 2 (n .a) in
-    let B : Bytes = bytesOf 2 (n .b) in
-    let C : Bytes = bytesOf 2 (n .c) in
-    let W : Bytes = bytesOf 4 (n .word) in
-    omega (arith, app-long A (B ++ (C ++ W)), app-long B (C ++ W), app-long C W, bytes-long 2 (n .a), bytes-long 2 (n .b), bytes-long 2 (n .c), bytes-long 4 (n .word))
-
 rows-suc : (left : ℕ) (ns : List Node) (k : ℕ) → rowsFrom (suc left) ns k ≡ rowBytes (rowFrom ns k) ++ rowsFrom left ns (suc k)
 unfolding rowsFrom
 rows-suc left ns k = refl
@@ -133,7 +113,7 @@ rows-step ns room room₁ n at first r h e f =
     let y : suc (first + r) ≡ first + (r + 1) = omega arith in
     let rest : Bytes = rowsFrom (42 - (r + 1)) ns (first + (r + 1)) in
     ap (λ (l : List ℕ). writeAt l (at + 12 * (r + 1)) rest) e
-    ∙ write-more (rowBytes n) rest room (at + 12 * r) (at + 12 * (r + 1)) (omega (arith, row-long n))
+    ∙ write-more (rowBytes n) rest room (at + 12 * r) (at + 12 * (r + 1)) (omega (arith, row-length n))
     ∙ (λ i. writeAt room (at + 12 * r) (rowBytes (f i) ++ rowsFrom (42 - (r + 1)) ns (sym y i)))
     ∙ sym (ap (λ (m : ℕ). writeAt room (at + 12 * r) (rowsFrom m ns (first + r))) z ∙ ap (writeAt room (at + 12 * r)) (rows-suc (42 - (r + 1)) ns (first + r)))
 

@@ -21,13 +21,10 @@ use Rattle.tidy.specs.Twig.{Twig, twig, Limb, holds, child, heldIn}
 use Rattle.tidy.specs.Sweep.{goneLet}
 use Rattle.tidy.specs.Settle.{staying}
 use Rattle.tidy.specs.Record.{newField, movesA, movesB, movesC, newRow, newRows}
+use Rattle.tidy.proofs.BlockLaws.{none-after}
 use Rattle.tidy.proofs.Pruned.{topT, usesL, goesBy, overT, pruneT, pruneL, orderT, orderL, namesT, namesL, slotBy, partT, slotL, Flagged, IsChild, Here, From, FromL}
 use Rattle.tidy.proofs.SweptRight.{held-prune, stays-prune, stays-names, goes-names}
 use Rattle.tidy.proofs.Numbered.{afterOne, given, Right, right-left, right-right, staying-app}
-
-none-after : (l : List ℕ) → l ++ [] ≡ l
-none-after [] = refl
-none-after (x ∷ l) = ap (λ (m : List ℕ). x ∷ m) (none-after l)
 
 -- Only a let goes.
 let-kind : (n k : ℕ) (b : Limb) → goesBy n k b ≡ true → k ≡ 5

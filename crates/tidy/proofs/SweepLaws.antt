@@ -21,6 +21,7 @@ use Rattle.rules.specs.declared.Fields.{Fields}
 use Rattle.rules.specs.declared.Node.{Node}
 use Rattle.rules.specs.Node.{IsNode}
 use Rattle.rules.proofs.Nodes.{below-lt, below-ge}
+use Rattle.written.proofs.ListLaws.{app-length}
 use Rattle.tidy.specs.Twig.{Twig, twig, Limb, holds, child, heldIn, plainIn, limbOf, twigAs, twigAt}
 use Rattle.tidy.specs.Sweep.{Roomy, Stored, Swept, nothing, unmark, goneLet, sweptVariable, sweptLet, sweptNode, sweptAs, sweepT, sweepL, sweep, sweepBy}
 use Rattle.tidy.proofs.TwigLaws.{twig-law}
@@ -84,11 +85,6 @@ unfolding writeAt
 end-set [] r k j x e = ap (λ (m : ℕ). set r m x) (let z : j ≡ k = omega arith in z)
 end-set (y ∷ xs) r k j x e = end-set xs (set r k y) (suc k) j x (omega arith)
 
-pub written-length : (c room : List ℕ) (at : ℕ) → length (writeAt room at c) ≡ length room
-unfolding writeAt
-written-length [] room at = refl
-written-length (n ∷ ns) room at = written-length ns (set room at n) (suc at) ∙ length-set room at n
-
 -- A field that is not walked; and one that is.
 pub not-walked : (p : Bytes) (i m at : ℕ) (b : Bool) (u names : List ℕ) → b ≡ false → Stored (sweepBy p i b m u) at at u names names
 unfolding sweepBy nothing writeAt
@@ -105,10 +101,6 @@ walked p i m b u e h = rw e (below-lt i (nothing u) (λ j. sweep p j u) m h)
 pub through : (p : Bytes) (i m : ℕ) (b : Bool) (u : List ℕ) → b ≡ true → m < i → (at : ℕ) (names : List ℕ) → Roomy (sweepBy p i b m u) at u names
     → Roomy (sweep p m u) at u names
 through p i m b u e h at names r = rw (sym (walked p i m b u e h)) r
-
-app-length : (xs ys : List ℕ) → length (xs ++ ys) ≡ length xs + length ys
-app-length [] ys = omega arith
-app-length (x ∷ xs) ys = omega (arith, app-length xs ys)
 
 -- A variable.
 pub variable-stored : (p : Bytes) (i at : ℕ) (n : Node) (u names : List ℕ) → IsNode p i n → n .kind ≡ 16 → 1 ≤ at

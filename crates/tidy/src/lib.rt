@@ -7,10 +7,8 @@ ghost use lib.ListN.{length, take, drop};
 ghost use Rattle.rules.specs.Bytes.{writeAt};
 ghost use Rattle.rules.specs.Layout.{nodes, edition};
 ghost use Rattle.rules.specs.Accepted.{Accepted};
-ghost use Rattle.rules.specs.Kinds.{fieldsOf};
 ghost use Rattle.rules.specs.Node.{IsNode};
 ghost use Rattle.rules.specs.Scope.{mark as marked};
-ghost use Rattle.rules.specs.Shape.{isChild};
 ghost use Rattle.rules.specs.Shaped.{Shaped};
 ghost use Rattle.written.specs.Table.{rowBytes, rowsBytes, blockOf, blocksFrom, blocksFor};
 ghost use Rattle.rewritten.specs.Rewritten.{tidied, tidying};
@@ -21,36 +19,16 @@ ghost use Rattle.tidy.specs.Record.{newField, newRow, newRows, rowFrom, 
 ghost use Rattle.tidy.specs.Numbering.{Numbering};
 use cells::put;
 use cells::put32;
+use fields::child_a;
+use fields::child_b;
+use fields::child_c;
 use format::check_sum;
-use kinds::both;
 use kinds::either;
 use rewritten::Tidied;
 use rules::Node;
 use rules::Verdict;
 use table::node;
 use verdict::judge;
-
-// The fields of a kind that are for a child: a,
-fn child_a(k: u8) -> bool
-    ensures { λ r. ⌜ r ≡ isChild (fieldsOf k .a) ⌝ }
-{
-    either(both(3 <= k, k <= 10), both(18 <= k, k <= 29))
-}
-
-// b,
-fn child_b(k: u8) -> bool
-    ensures { λ r. ⌜ r ≡ isChild (fieldsOf k .b) ⌝ }
-{
-    let operations = either(both(18 <= k, k <= 23), both(25 <= k, k <= 27));
-    either(either(both(5 <= k, k <= 10), operations), k == 29)
-}
-
-// and c.
-fn child_c(k: u8) -> bool
-    ensures { λ r. ⌜ r ≡ isChild (fieldsOf k .c) ⌝ }
-{
-    either(either(k == 6, k == 27), k == 29)
-}
 
 // A variable names its binder.
 fn mark(used: &mut [u8], binder: usize)

@@ -9,7 +9,7 @@ use Rattle.rules.specs.Layout.{nodes, cells, cellAt}
 use Rattle.rules.specs.Accepted.{Accepted}
 use Rattle.rules.proofs.Rooted.{shaped-of}
 use Rattle.cells.proofs.Numbered.{cells-most}
-use Rattle.printing.specs.Printed.{mostRecords}
+use Rattle.turns.specs.Decided.{mostRecords}
 use Rattle.printing.specs.Turns.{turnOf, Turned}
 use Rattle.printing.proofs.TurnLaws.{counts}
 

@@ -1,5 +1,5 @@
 // Standard input: blocks, then records. The program is checked and started once, and each record costs its step. Here is reading, writing and
-// calling; how much is read, and what each line is, crate printing answers.
+// calling; how much is read, and what each line is, crates turns and printing answer.
 mod say;
 
 ghost use mathlib.Core.Bool.{true, false};
@@ -36,7 +36,7 @@ fn take_program(input: &mut [u8], program: &mut [u8]) -> Got
     if after.failed {
         return head;
     }
-    let left = printing::blocks_left(program, head.count);
+    let left = turns::blocks_left(program, head.count);
     let tail = feed::gather(after, input, program, BLOCK, left);
     let last = tail.place;
     Got {
@@ -83,7 +83,7 @@ fn step(
     ensures { λ r. ⌜ (r .more ≡ true → Under (now (program .entry)) (now (index .entry)) (now (state .exit)) (now (env .exit)) count (r .steps) (r .total)) × (r .more ≡ true → r .steps ≡ steps + 1) ⌝ }
 {
     let mut rec = [0u8; 40];
-    let got = feed::gather(place, input, &mut rec, 0, printing::wanted(steps));
+    let got = feed::gather(place, input, &mut rec, 0, turns::wanted(steps));
     let after = got.place;
     if after.failed {
         say::unread();

@@ -18,9 +18,9 @@ use Rattle.explain.proofs.+part+parts+trace.Lts-parts as parts-lts
 use Rattle.explain.proofs.trace.Reads as trace
 use Rattle.explain.proofs.trace.Kinds as trace-kinds
 use Rattle.explain.proofs.+part+parts+trace.Lts-trace as trace-lts
-use Rattle.explain.proofs.enters_a.Reads as enters-a-reads
-use Rattle.explain.proofs.enters_b.Reads as enters-b-reads
-use Rattle.explain.proofs.enters_c.Reads as enters-c-reads
+use Rattle.fields.proofs.enters_a.Reads as enters-a-reads
+use Rattle.fields.proofs.enters_b.Reads as enters-b-reads
+use Rattle.fields.proofs.enters_c.Reads as enters-c-reads
 use Rattle.kinds.proofs.both.Reads as both-reads
 use Rattle.table.proofs.node.Reads as node-reads
 use Rattle.explain.proofs.+part+parts+trace.{statement}

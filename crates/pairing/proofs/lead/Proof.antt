@@ -1,7 +1,7 @@
 use mathlib.Core.Path.{refl, sym, ap, _∙_}
 use Prim.Native.Nat.{ℕ}
 use lib.ListN.{getD}
-use Rattle.pairing.proofs.ReachLaws.{body-less, lead-step}
+use Rattle.reaching.proofs.ReachLaws.{body-less, lead-step}
 use borrow.Author.Needs.{needs}
 use native.Mathlib.Omega.{arith}
 use Rattle.pairing.proofs.lead.Statement.{statement}

@@ -3,8 +3,8 @@ use mathlib.Core.Path.{_≡_, refl, _∙_}
 use Prim.Native.Nat.{_≤_, _-_}
 use lib.ListN.{length}
 use Rattle.rules.proofs.Rooted.{shaped-of}
-use Rattle.pairing.specs.Leads.{LeadsTo}
-use Rattle.pairing.proofs.ReachLaws.{lead-none, lead-done}
+use Rattle.reaching.specs.Leads.{LeadsTo}
+use Rattle.reaching.proofs.ReachLaws.{lead-none, lead-done}
 use native.Mathlib.Omega.{arith}
 use Rattle.pairing.proofs.lead_all.Statement.{statement}
 use Rattle.pairing.proofs.lead_all.Tie as tie

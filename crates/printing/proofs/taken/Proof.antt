@@ -11,7 +11,8 @@ use Rattle.printing.proofs.taken.Tie as tie
 use Rattle.printing.proofs.taken.Reads as reads
 use Rattle.printing.proofs.taken.Lts as lts
 use Rattle.lines.proofs.refused_line.Reads as refused-line-reads
-use Rattle.printing.proofs.placed.Reads as placed-reads
+use Rattle.turns.proofs.in_all.Reads as in-all-reads
+use Rattle.turns.proofs.placed.Reads as placed-reads
 use Rattle.printing.proofs.stepped.Reads as stepped-reads
 use Rattle.steps.proofs.run_records.Reads as run-records-reads
 
@@ -30,8 +31,8 @@ stepped-requires c κs = c .before .before .before .before .before .before .befo
 add-t23 : tie.Need-add-t23
 add-t23 c = omega (arith, c .before .before .before .before .before .before .before .before .before .before .before .before .before .before .before .before .pre .1)
 
-add-t24 : tie.Need-add-t24
-add-t24 c = let pre = c .before .before .before .before .before .before .before .before .before .before .before .before .before .before .before .before .pre in omega (arith, pre .0 .fits, pre .1, spent (c .before .before .before .before .work .given .1) (c .before .before .before .before .before .before .before .before .before .run-records .ensures .2) (pre .2))
+in-all-requires : tie.Need-in-all-requires
+in-all-requires c κs = let pre = c .before .before .before .before .before .before .before .before .before .before .before .before .before .before .before .before .pre in omega (arith, pre .0 .fits, pre .1, spent (c .before .before .before .before .work .given .1) (c .before .before .before .before .before .before .before .before .before .run-records .ensures .2) (pre .2))
 
 enum-known-r : tie.Need-enum-known-r
 enum-known-r c = search needs
@@ -48,13 +49,13 @@ same-length c = search needs
 returns : tie.Need-returns
 unfolding byteAt
 returns c =
-    let pre = c .before .before .before .before .before .before .before .before .before .before .before .before .before .before .before .before .pre in
-    let ran = c .before .before .before .before .before .before .before .before .before .run-records .ensures in
-    let e = finishes (replicate 8 0) (c .before .before .before .before .before .before .before .before .before .before .before .before .before .before .before .before .args .steps) (c .before .before .before .before .before .before .before .before .before .before .before .before .before .before .before .before .args .total) (pre .2) refl (record { small = λ i. omega (arith, c .before .before .before .before .before .before .before .before .before .before .before .before .before .before .before .shared-slice-known .given i) }) (record { small = λ i. omega (arith, c .before .before .before .before .before .before .before .before .before .before .before .before .before .slice-known .given i) }) (record { small = λ i. omega (arith, c .before .before .before .before .before .before .before .before .before .before .before .before .before .before .shared-slice-known2 .given i) }) (pre .0 .going .accepted) (pre .0 .going .well) (ran .0) (c .before .before .before .before .work .given .1) in (
-      c .stepped .ensures .0,
+    let pre = c .before .before .before .before .before .before .before .before .before .before .before .before .before .before .before .before .before .pre in
+    let ran = c .before .before .before .before .before .before .before .before .before .before .run-records .ensures in
+    let e = finishes (replicate 8 0) (c .before .before .before .before .before .before .before .before .before .before .before .before .before .before .before .before .before .args .steps) (c .before .before .before .before .before .before .before .before .before .before .before .before .before .before .before .before .before .args .total) (pre .2) refl (record { small = λ i. omega (arith, c .before .before .before .before .before .before .before .before .before .before .before .before .before .before .before .before .shared-slice-known .given i) }) (record { small = λ i. omega (arith, c .before .before .before .before .before .before .before .before .before .before .before .before .before .before .slice-known .given i) }) (record { small = λ i. omega (arith, c .before .before .before .before .before .before .before .before .before .before .before .before .before .before .before .shared-slice-known2 .given i) }) (pre .0 .going .accepted) (pre .0 .going .well) (ran .0) (c .before .before .before .before .before .work .given .1) in (
+      c .before .stepped .ensures .0,
       (
-        turned e (c .stepped .ensures .1) refl (omega arith) refl refl,
-        record { going = ran .1; few = omega (arith, pre .1); fits = omega (arith, pre .0 .fits, spent (c .before .before .before .before .work .given .1) (ran .2) (pre .2)) },
+        turned e (c .before .stepped .ensures .1) refl (omega arith) (c .in-all .ensures) refl,
+        record { going = ran .1; few = omega (arith, pre .1); fits = omega (arith, pre .0 .fits, c .in-all .ensures, spent (c .before .before .before .before .before .work .given .1) (ran .2) (pre .2)) },
       ),
     )
 
@@ -83,7 +84,7 @@ taken-spec =
     enum-known-work
     stepped-requires
     add-t23
-    add-t24
+    in-all-requires
     enum-known-r
     placed-requires
     refused-line-requires

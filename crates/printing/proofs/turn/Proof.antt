@@ -6,7 +6,7 @@ use Rattle.printing.proofs.turn.Statement.{statement}
 use Rattle.printing.proofs.turn.Tie as tie
 use Rattle.printing.proofs.turn.Reads as reads
 use Rattle.printing.proofs.turn.Lts as lts
-use Rattle.printing.proofs.is_record.Reads as is-record-reads
+use Rattle.turns.proofs.is_record.Reads as is-record-reads
 use Rattle.printing.proofs.last.Reads as last-reads
 use Rattle.printing.proofs.taken.Reads as taken-reads
 

@@ -19,9 +19,9 @@ use Rattle.tidy.proofs.sweep_let.Reads as sweep-let
 use Rattle.tidy.proofs.sweep_let.Kinds as sweep-let-kinds
 use Rattle.tidy.proofs.+limb+sweep+sweep_let.Lts-sweep_let as sweep-let-lts
 use Rattle.table.proofs.node.Reads as node-reads
-use Rattle.tidy.proofs.child_a.Reads as child-a-reads
-use Rattle.tidy.proofs.child_b.Reads as child-b-reads
-use Rattle.tidy.proofs.child_c.Reads as child-c-reads
+use Rattle.fields.proofs.child_a.Reads as child-a-reads
+use Rattle.fields.proofs.child_b.Reads as child-b-reads
+use Rattle.fields.proofs.child_c.Reads as child-c-reads
 use Rattle.tidy.proofs.mark.Reads as mark-reads
 use Rattle.tidy.proofs.+limb+sweep+sweep_let.{statement}
 use Rattle.tidy.proofs.+limb+sweep+sweep_let.Tie.{close}

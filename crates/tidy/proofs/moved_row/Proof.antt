@@ -11,9 +11,9 @@ use Rattle.tidy.proofs.moved_row.Reads as reads
 use Rattle.tidy.proofs.moved_row.Lts as lts
 use Rattle.kinds.proofs.either.Reads as either-reads
 use Rattle.table.proofs.node.Reads as node-reads
-use Rattle.tidy.proofs.child_a.Reads as child-a-reads
-use Rattle.tidy.proofs.child_b.Reads as child-b-reads
-use Rattle.tidy.proofs.child_c.Reads as child-c-reads
+use Rattle.fields.proofs.child_a.Reads as child-a-reads
+use Rattle.fields.proofs.child_b.Reads as child-b-reads
+use Rattle.fields.proofs.child_c.Reads as child-c-reads
 use Rattle.tidy.proofs.moved.Reads as moved-reads
 
 -- src/lib.rt:157:9

@@ -7,7 +7,7 @@ use Rattle.watchrun.proofs.step.Reads as reads
 use Rattle.watchrun.proofs.step.Lts as lts
 use Rattle.feed.proofs.gather.Reads as gather-reads
 use Rattle.printing.proofs.turn.Reads as turn-reads
-use Rattle.printing.proofs.wanted.Reads as wanted-reads
+use Rattle.turns.proofs.wanted.Reads as wanted-reads
 use Rattle.watchrun.proofs.say.put.Reads as put-reads
 use Rattle.watchrun.proofs.say.unread.Reads as unread-reads
 use Rattle.watchrun.proofs.stop.Reads as stop-reads

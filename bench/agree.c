@@ -1,4 +1,4 @@
-/* Answers the requests of second/README.md ("calls serve") by one of the libraries: agree library|straight|fast. The answers go to standard
+/* Answers the requests of second/README.md ("calls serve") by one of the libraries: agree library|straight|fast|strong. The answers go to standard
  * output in the same form, so that they can be compared byte for byte with those of `calls serve`. */
 #include "baselines.h"
 
@@ -19,6 +19,7 @@ static const struct side sides[] = {
 #endif
     {"straight", straight_check, straight_start, straight_run},
     {"fast", fast_check, fast_start, fast_run},
+    {"strong", strong_check, strong_start, strong_run},
 };
 
 /* So many bytes of standard input, in memory of exactly that length. */
@@ -86,7 +87,7 @@ int main(int count, char **words)
         if (count == 2 && !strcmp(words[1], sides[k].name))
             s = &sides[k];
     if (!s) {
-        fprintf(stderr, "usage: agree library|straight|fast\n");
+        fprintf(stderr, "usage: agree library|straight|fast|strong\n");
         return 2;
     }
     char line[200], name[8];

@@ -1,4 +1,4 @@
-/* The two baselines: the calls of couplerfinch.h under other names. */
+/* The three baselines: the calls of couplerfinch.h under other names. */
 #ifndef BENCH_BASELINES_H
 #define BENCH_BASELINES_H
 
@@ -14,5 +14,6 @@
 
 BASELINE(straight);
 BASELINE(fast);
+BASELINE(strong);
 
 #endif

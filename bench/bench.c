@@ -1,4 +1,4 @@
-/* Times of the library beside the two baselines, on the same input in one run: bench FOLDER check:NAME rule:NAME .. Before anything is
+/* Times of the library beside the baselines, on the same input in one run: bench FOLDER check:NAME rule:NAME step:NAME .. Before anything is
  * measured, the answers and the memory of all sides are compared. Each side is repeated for some milliseconds, the sides take turns, and
  * the least of several rounds counts. */
 #include "baselines.h"
@@ -8,7 +8,7 @@
 #include <string.h>
 #include <time.h>
 
-enum { SIDES = 3, ROUNDS = 9 };
+enum { SIDES = 4, ROUNDS = 9 };
 #define ROUND_NS 20000000.0
 
 struct side {
@@ -22,6 +22,7 @@ static const struct side sides[SIDES] = {
     {"library", couplerfinch_check, couplerfinch_start, couplerfinch_run},
     {"straight", straight_check, straight_start, straight_run},
     {"fast", fast_check, fast_start, fast_run},
+    {"strong", strong_check, strong_start, strong_run},
 };
 
 /* A table with its records, and the rooms of one call. */
@@ -89,15 +90,18 @@ static void compare(struct job *j, void (*call)(const struct side *, struct job 
 /* Nanoseconds of one call for each side: the least of the rounds. */
 static void measure(struct job *j, void (*call)(const struct side *, struct job *), double least[SIDES])
 {
-    double from = now_ns();
-    call(&sides[0], j);
-    int times = (int)(ROUND_NS / (now_ns() - from + 1)) + 1;
+    int times[SIDES];
+    for (int s = 0; s < SIDES; s++) {
+        double from = now_ns();
+        call(&sides[s], j);
+        times[s] = (int)(ROUND_NS / (now_ns() - from + 1)) + 1;
+    }
     for (int round = 0; round < ROUNDS; round++)
         for (int s = 0; s < SIDES; s++) {
             double begin = now_ns();
-            for (int k = 0; k < times; k++)
+            for (int k = 0; k < times[s]; k++)
                 call(&sides[s], j);
-            double each = (now_ns() - begin) / times;
+            double each = (now_ns() - begin) / times[s];
             if (round == 0 || each < least[s])
                 least[s] = each;
         }
@@ -105,8 +109,12 @@ static void measure(struct job *j, void (*call)(const struct side *, struct job 
 
 static void print_row(const char *what, const char *name, const double least[SIDES], double unit)
 {
-    printf("%-6s %-12s %12.2f %12.2f %12.2f %9.2f %9.2f\n", what, name, least[0] / unit, least[1] / unit, least[2] / unit,
-           least[0] / least[1], least[0] / least[2]);
+    printf("%-6s %-13s", what, name);
+    for (int s = 0; s < SIDES; s++)
+        printf(" %10.2f", least[s] / unit);
+    for (int s = 1; s < SIDES; s++)
+        printf(" %9.2f", least[0] / least[s]);
+    putchar('\n');
     fflush(stdout);
 }
 
@@ -128,22 +136,25 @@ static void load(struct job *j, const char *folder, const char *name)
     }
 }
 
-/* One row: check:NAME or rule:NAME. */
+/* One row: check:NAME in microseconds, rule:NAME in nanoseconds a rule, step:NAME in microseconds a step. */
 static void row(const char *folder, const char *word)
 {
     static struct job j;
+    char what[6] = "";
     const char *name = strchr(word, ':');
     double least[SIDES], unit = 1000;
-    if (!name || (strncmp(word, "check:", 6) && strncmp(word, "rule:", 5)))
+    if (name && name - word < 6)
+        memcpy(what, word, (size_t)(name - word));
+    int is_check = !strcmp(what, "check"), is_rule = !strcmp(what, "rule");
+    if (!is_check && !is_rule && strcmp(what, "step"))
         fail("no such measurement", word);
-    int is_rule = word[0] == 'r';
-    void (*call)(const struct side *, struct job *) = is_rule ? call_run : call_check;
+    void (*call)(const struct side *, struct job *) = is_check ? call_check : call_run;
     load(&j, folder, ++name);
     compare(&j, call, name);
-    if (is_rule)
-        unit = j.answer.work;
+    if (!is_check)
+        unit = is_rule ? j.answer.work : 1000.0 * j.answer.steps;
     measure(&j, call, least);
-    print_row(is_rule ? "rule" : "check", name, least, unit);
+    print_row(what, name, least, unit);
     free(j.program);
     free(j.records);
 }
@@ -151,10 +162,10 @@ static void row(const char *folder, const char *word)
 int main(int count, char **words)
 {
     if (count < 3) {
-        fprintf(stderr, "usage: bench FOLDER check:NAME rule:NAME ..\n");
+        fprintf(stderr, "usage: bench FOLDER check:NAME rule:NAME step:NAME ..\n");
         return 2;
     }
-    printf("%-6s %-12s %12s %12s %12s %9s %9s\n", "of", "table", "library", "straight", "fast", "/straight", "/fast");
+    printf("%-6s %-13s %10s %10s %10s %10s %9s %9s %9s\n", "of", "table", "library", "straight", "fast", "strong", "/straight", "/fast", "/strong");
     for (int k = 2; k < count; k++)
         row(words[1], words[k]);
     return 0;

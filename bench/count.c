@@ -17,6 +17,7 @@ static const struct side sides[] = {
     {"library", couplerfinch_check, couplerfinch_start, couplerfinch_run},
     {"straight", straight_check, straight_start, straight_run},
     {"fast", fast_check, fast_start, fast_run},
+    {"strong", strong_check, strong_start, strong_run},
 };
 
 static uint8_t program[COUPLERFINCH_BLOCKS * COUPLERFINCH_BLOCK], records[COUPLERFINCH_RECORDS * COUPLERFINCH_RECORD];
@@ -43,7 +44,7 @@ int main(int count, char **words)
         if (count == 6 && !strcmp(words[1], sides[k].name))
             s = &sides[k];
     if (!s) {
-        fprintf(stderr, "usage: count library|straight|fast FOLDER NAME CHECKS RECORDS\n");
+        fprintf(stderr, "usage: count library|straight|fast|strong FOLDER NAME CHECKS RECORDS\n");
         return 2;
     }
     couplerfinch_answer a = {0};

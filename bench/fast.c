@@ -267,8 +267,8 @@ uint32_t fast_start(const uint8_t *program, size_t program_length, uint8_t *stat
 }
 
 /* Codes 9, 15, 10 and 11; it reads the cells too. */
-static uint32_t lent_fault(const struct program *p, uint32_t checks, uint64_t *cells, const uint8_t *state, size_t state_length,
-                           size_t records_length, size_t output_length)
+uint32_t fast_fault(const struct program *p, uint32_t checks, uint64_t *cells, const uint8_t *state, size_t state_length,
+                    size_t records_length, size_t output_length)
 {
     if (state_length != COUPLERFINCH_STATE(p->cells))
         return 9;
@@ -304,7 +304,7 @@ static uint32_t records_run(struct run *r, const struct program *p, uint32_t *ti
 }
 
 /* A run that is refused before its first step. */
-static uint32_t refuse_run(couplerfinch_answer *answer, uint32_t code, uint32_t place)
+uint32_t fast_refuse_run(couplerfinch_answer *answer, uint32_t code, uint32_t place)
 {
     *answer = (couplerfinch_answer){.code = code, .place = place, .wrapped = COUPLERFINCH_NO_STEP};
     return code;
@@ -317,10 +317,10 @@ uint32_t fast_run(const uint8_t *program, size_t program_length, uint8_t *state,
     struct run r;
     uint64_t cells[COUPLERFINCH_NODES];
     if (fast_decode(&p, program, program_length, answer))
-        return refuse_run(answer, answer->code, answer->place);
-    uint32_t code = lent_fault(&p, checks_of(program, program_length), cells, state, state_length, records_length, output_length);
+        return fast_refuse_run(answer, answer->code, answer->place);
+    uint32_t code = fast_fault(&p, checks_of(program, program_length), cells, state, state_length, records_length, output_length);
     if (code)
-        return refuse_run(answer, code, 0);
+        return fast_refuse_run(answer, code, 0);
     r.code = p.code;
     r.held = p.held;
     r.cells = cells;

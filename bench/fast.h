@@ -1,4 +1,4 @@
-/* The decoded program that the check of the optimised baseline hands to its runs. */
+/* The decoded program that the check of the optimised baseline hands to its runs and to those of the strongest one. */
 #ifndef BENCH_FAST_H
 #define BENCH_FAST_H
 
@@ -27,6 +27,9 @@ struct program {
 };
 
 uint32_t fast_refuse(couplerfinch_answer *answer, uint32_t code, uint32_t place);
+uint32_t fast_refuse_run(couplerfinch_answer *answer, uint32_t code, uint32_t place);
+uint32_t fast_fault(const struct program *p, uint32_t checks, uint64_t *cells, const uint8_t *state, size_t state_length,
+                    size_t records_length, size_t output_length);
 uint32_t fast_decode(struct program *p, const uint8_t *bytes, size_t length, couplerfinch_answer *answer);
 
 #endif

@@ -16,14 +16,14 @@ use Rattle.rules.proofs.Within.{Withinᵘ, Withinᵒ, evalS-within, occurs-with
 use Rattle.current.specs.Current.{soonest, leaves, goS, goB, goC}
 
 -- The events of an until.
-soonest-within : (rec st : Bytes) (env : Env) (cs : Cases) → Withinᵒ (soonest rec st env cs) (boundSC cs)
+pub soonest-within : (rec st : Bytes) (env : Env) (cs : Cases) → Withinᵒ (soonest rec st env cs) (boundSC cs)
 unfolding soonest boundSC nothing
 soonest-within rec st env noCase = record { most = le-refl 0 }
 soonest-within rec st env (case n event target t next) =
     occurs-within _ _ _ (evalS-within rec st env event) (soonest-within rec st env next)
 
 -- A group that is left by a jump.
-leaves-within : (k : ℕ) (part : Signal) (brs : Branches) (r : Updated) {b : ℕ} → Withinᵘ r b → Withinᵘ (leaves k part brs r) b
+pub leaves-within : (k : ℕ) (part : Signal) (brs : Branches) (r : Updated) {b : ℕ} → Withinᵘ r b → Withinᵘ (leaves k part brs r) b
 unfolding leaves
 leaves-within k part brs (Next st w) h = h
 leaves-within k part brs (Jump target v st w) h = eitherᵘ (hasBranch target brs) _ _ (record { most = h .most }) h

@@ -18,7 +18,7 @@ use Rattle.rules.specs.declared.Evaluated.the-variants.{Stuck}
 use Rattle.rules.proofs.Nodes.{expr-variable, expr-constant}
 use Rattle.rules.proofs.Expressions.{IsOperation, negation-kid, negation-tree, just-kid, just-tree, choice-kids, choice-tree, taking-kids, taking-tree, operation-kids, operation-tree}
 use Rattle.rules.proofs.Within.{evalE-within}
-use Rattle.outcomes.specs.Combine.{workOf, armOf, partsOf}
+use Rattle.outcomes.specs.Combine.{workOf, armIn, partsOf}
 use Rattle.outcomes.specs.declared.Arm.the-variants.{Go, Neither}
 use Rattle.outcomes.specs.declared.Event.{Event}
 use Rattle.outcomes.specs.declared.Event.the-variants.{Occurs, Quiet}
@@ -96,7 +96,7 @@ module _ (p : Bytes) (n : ℕ) (w : NodeOf isExpression p n) (s : boundE (exprAt
   unfolding boundE
   operation-pair o ea eb = rw (ea, eb) (omega (arith, ap boundE (operation-tree p n w o), s))
 
-  pub choice-pair : kindAt p n ≡ 27 → {a b c m : ℕ} {u : Tally} (r : Evaluated) → a ≡ aAt p n → b ≡ bAt p n → c ≡ cAt p n → armOf r b c ≡ Go m u → PairE p a m
+  pub choice-pair : kindAt p n ≡ 27 → {a b c m : ℕ} {u : Tally} (r : Evaluated) → a ≡ aAt p n → b ≡ bAt p n → c ≡ cAt p n → armIn r b c ≡ Go m u → PairE p a m
   unfolding boundE
   choice-pair e {a} {b} {c} r ea eb ec g =
       let t = ap boundE (choice-tree p n w e) in
@@ -107,7 +107,7 @@ module _ (p : Bytes) (n : ℕ) (w : NodeOf isExpression p n) (s : boundE (exprAt
   taking-pairs e ea eb ec = let t = ap boundE (taking-tree p n w e) in (rw (ea, eb) (omega (arith, t, s)), rw (ea, ec) (omega (arith, t, s)))
 
   -- the arm that is chosen
-  pub chosen-part : kindAt p n ≡ 27 → {b c m : ℕ} {u : Tally} (r : Evaluated) → b ≡ bAt p n → c ≡ cAt p n → armOf r b c ≡ Go m u → PartE p n m
+  pub chosen-part : kindAt p n ≡ 27 → {b c m : ℕ} {u : Tally} (r : Evaluated) → b ≡ bAt p n → c ≡ cAt p n → armIn r b c ≡ Go m u → PartE p n m
   chosen-part e {b} {c} r eb ec g = let k = choice-parts e in arm-one b c (PartE p n) r g (read eb (k .1)) (read ec (k .2))
 
 module _ (p : Bytes) (n : ℕ) (w : NodeOf isExpression p n) (env : Env) where
@@ -139,11 +139,11 @@ module _ (p : Bytes) (n : ℕ) (w : NodeOf isExpression p n) (env : Env) where
 
   -- If, by the arm that its test chooses, and by none.
   pub choice-goes : kindAt p n ≡ 27 → {a b c m : ℕ} {u : Tally} {r : Evaluated} → a ≡ aAt p n → b ≡ bAt p n → c ≡ cAt p n
-      → r ≡ evalE env (exprAt p a) → armOf r b c ≡ Go m u → evalE env (exprAt p n) ≡ rule (after u (evalE env (exprAt p m)))
+      → r ≡ evalE env (exprAt p a) → armIn r b c ≡ Go m u → evalE env (exprAt p n) ≡ rule (after u (evalE env (exprAt p m)))
   choice-goes e {a} {b} {c} {m} {u} {r} ea eb ec er g =
       choice-eval e ∙ rw (← ea, ← eb, ← ec, ← er) (ap rule (arm-goes b c r (λ x. evalE env (exprAt p x)) g))
 
-  pub choice-stuck : kindAt p n ≡ 27 → {a : ℕ} {r : Evaluated} (b c : ℕ) → a ≡ aAt p n → r ≡ evalE env (exprAt p a) → armOf r b c ≡ Neither
+  pub choice-stuck : kindAt p n ≡ 27 → {a : ℕ} {r : Evaluated} (b c : ℕ) → a ≡ aAt p n → r ≡ evalE env (exprAt p a) → armIn r b c ≡ Neither
       → evalE env (exprAt p n) ≡ Stuck
   unfolding rule after
   choice-stuck e {a} {r} b c ea er g = choice-eval e ∙ rw (← ea, ← er) (ap rule (arm-none b c r _ _ g))

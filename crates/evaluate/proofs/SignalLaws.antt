@@ -6,7 +6,7 @@ use mathlib.Core.List.{List}
 use Prim.Native.Nat.{ℕ, _+_, _≤_, _<_}
 use native.Mathlib.Omega.{arith}
 use lib.ListN.{length, getD}
-use borrow.Author.Tests.{eq-eqb, ne-eqb}
+use borrow.Author.Tests.{eq-eqb, ne-eqb, leb-true}
 use Rattle.rules.specs.Bytes.{Bytes, _or_}
 use Rattle.rules.specs.Layout.{kindAt, aAt, bAt, cAt, hasCell, cellsBefore, cellAt, stateLength, cell, held, isClear, branchIn, channelValue, timeIn}
 use Rattle.rules.specs.Values.{intT, unpacked, middleIn}
@@ -22,6 +22,7 @@ use Rattle.rules.specs.declared.Value.the-variants.{Plain}
 use Rattle.rules.specs.declared.Tally.{Tally}
 use Rattle.rules.specs.declared.Evaluated.{Evaluated}
 use Rattle.rules.specs.declared.Evaluated.the-variants.{Done, Stuck}
+use Rattle.rules.proofs.Static.{and-both}
 use Rattle.rules.proofs.Nodes.{signal-input, signal-time}
 use Rattle.rules.proofs.Signals.{ext-kid, ext-tree, delay-tree, let-kids, let-tree, switch-kids, switch-tree, group-kids, group-tree, until-kids, until-tree, branch-kid}
 use Rattle.rules.proofs.Within.{evalS-within}
@@ -125,6 +126,15 @@ module _ (p : Bytes) (n : ℕ) (w : NodeOf isSignal p n) (s : boundS (signalAt p
   until-part e =
       let k = until-kids p n w e in
       record { less = k .0 .less; node = k .0 .node; small = omega (arith, ap boundS (until-tree p n w e)) }
+
+-- Of input, time and ext no kind but time is left.
+pub time-alone : (p : Bytes) (n : ℕ) (w : NodeOf isSignal p n) {m : ℕ} → m ≡ kindAt p n → kindAt p n ≤ 3 → (m ≡ 1 → ⊥) → (m ≡ 3 → ⊥) → kindAt p n ≡ 2
+unfolding isSignal
+time-alone p n w e low no-input no-ext =
+    let l = leb-true 1 (kindAt p n) (and-both _ _ (w .sorted) .0) in
+    let a : kindAt p n ≡ 1 → ⊥ = λ h. no-input (e ∙ h) in
+    let b : kindAt p n ≡ 3 → ⊥ = λ h. no-ext (e ∙ h) in
+    omega (arith, a, b)
 
 -- The cell of a node of kind 4, 6 or 7 is in the state.
 module _ (p : Bytes) (n : ℕ) (w : NodeOf isSignal p n) (index : List ℕ) (x : Indexed p index) (st : Bytes) (h : stateLength p ≤ length st) where

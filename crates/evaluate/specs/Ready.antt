@@ -4,7 +4,7 @@ use Prim.Native.Nat.{ℕ, _≤_, _<_}
 use mathlib.Core.List.{List}
 use lib.ListN.{length}
 use Rattle.rules.specs.Bytes.{Bytes}
-use Rattle.rules.specs.Layout.{stateLength}
+use Rattle.rules.specs.Layout.{kindAt, stateLength}
 use Rattle.rules.specs.Kinds.{isExpression, isSignal}
 use Rattle.rules.specs.Tree.{exprAt, signalAt}
 use Rattle.rules.specs.Bound.{boundE, boundS}
@@ -18,6 +18,14 @@ pub record ReadyE (p : Bytes) (index : List ℕ) (env : Env) (i : ℕ) : Type 0 
   pub indexed : Indexed p index
   pub slots : Slots env
   pub small : boundE (exprAt p i) < 32767
+
+-- For an input, time or ext.
+pub record ReadyO (p : Bytes) (index : List ℕ) (env : Env) (i : ℕ) : Type 0 where
+  pub node : NodeOf isSignal p i
+  pub indexed : Indexed p index
+  pub slots : Slots env
+  pub small : boundS (signalAt p i) < 32767
+  pub low : kindAt p i ≤ 3
 
 -- For a signal also a state with room for the cells.
 pub record ReadyS (p : Bytes) (index : List ℕ) (st : Bytes) (env : Env) (i : ℕ) : Type 0 where

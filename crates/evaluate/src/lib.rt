@@ -1,19 +1,20 @@
 // Evaluation of expressions and of signals, with the values of variables in lent slots, set and put back. An outcome is one number.
+// The outcome of each let's definition is noted in the slot of the let's number: the update that follows takes it from there.
 ghost use mathlib.Core.Path.{_≡_};
-ghost use Prim.Native.Nat.{_+_, _≤_, _<_};
-ghost use lib.ListN.{length, getD};
-ghost use Rattle.rules.specs.Layout.{cellAt, cell as cellIn};
+ghost use Prim.Native.Nat.{_<_};
+ghost use Rattle.rules.specs.Bytes.{Bytes};
 ghost use Rattle.rules.specs.Values.{unpacked, middleIn};
 ghost use Rattle.rules.specs.Tree.{exprAt, signalAt};
 ghost use Rattle.rules.specs.Work.{rule};
 ghost use Rattle.rules.specs.Evaluate.{bind, evalE, evalS};
 ghost use Rattle.outcomes.specs.Outcome.{outcomeIn, IsOutcome, IsValue};
-ghost use Rattle.evaluate.specs.Ready.{ReadyE, ReadyS};
+ghost use Rattle.recalled.specs.Recall.{fillS};
+ghost use Rattle.noted.specs.Noted.{Noted, Notes};
+ghost use Rattle.evaluate.specs.Ready.{ReadyE, ReadyO, ReadyS};
 use branches::has_branch;
-use cells::cell;
 use cells::kind_by;
 use cells::node_by;
-use cells::number_of;
+use cells::own_cell;
 use inputs::channel_value;
 use inputs::time_in;
 use outcomes::Arm;
@@ -102,15 +103,6 @@ fn inside_e(p: &&[u8], ix: &[u16; 2016], env: &mut [u64; 1008], i: usize, v: u64
     r
 }
 
-// The content of node i's cell.
-pub fn content(ix: &[u16], st: &[u8], i: usize) -> u64
-    requires { ⌜ (i < length (now ix)) × (cellAt (getD (now ix) i 0) + 8 ≤ length (now st)) ⌝ }
-    ensures { λ m. ⌜ m ≡ cellIn (now (st .entry)) (getD (now (ix .entry)) i 0) ⌝ }
-{
-    let k = number_of(ix, i);
-    cell(st, k)
-}
-
 // The branch's node number in a group's cell.
 pub fn branch_in(m: u64) -> usize
     ensures { λ r. ⌜ r ≡ middleIn m ⌝ }
@@ -126,43 +118,45 @@ fn eval_s(
     st: &&[u8],
     env: &mut [u64; 1008],
     i: usize,
+    memo: &mut [u64; 1008],
 ) -> u64
-    requires { ⌜ ReadyS (now (now p)) (now ix) (now (now st)) (now env) i ⌝ }
-    ensures { λ r. ⌜ (outcomeIn r ≡ evalS (now (now (rec .entry))) (now (now (st .entry))) (now (env .entry)) (signalAt (now (now (p .entry))) i)) × IsOutcome r × (now (env .exit) ≡ now (env .entry)) ⌝ }
+    requires { ⌜ ReadyS (now (now p)) (now ix) (now (now st)) (now env) i × Noted (now (now p)) (now memo) ⌝ }
+    ensures { λ r. ⌜ (outcomeIn r ≡ evalS (now (now (rec .entry))) (now (now (st .entry))) (now (env .entry)) (signalAt (now (now (p .entry))) i)) × IsOutcome r × (now (env .exit) ≡ now (env .entry)) × Notes (now (now (p .entry))) (now (memo .entry)) (now (memo .exit)) (fillS (now (now (rec .entry))) (now (now (st .entry))) (now (env .entry)) (signalAt (now (now (p .entry))) i)) ⌝ }
 {
     let n = node_by(*p, ix, i);
     let k = n.kind;
     match k {
         1 => given(channel_value(*rec, n.a)),
         3 => ruled(operand(p, ix, env, n.a)),
-        4 => held(content(ix, *st, i)),
+        4 => held(own_cell(ix, *st, i)),
         5 => {
-            let d = eval_s(p, ix, rec, st, env, n.a);
+            let d = eval_s(p, ix, rec, st, env, n.a, memo);
+            memo[i] = d;
             let Shown::Value(v, count) = show(d) else {
                 return 0;
             };
-            later(count, inside_s(p, ix, rec, st, env, i, v, n.b))
+            later(count, inside_s(p, ix, rec, st, env, i, v, n.b, memo))
         }
         6 => {
-            let m = content(ix, *st, i);
+            let m = own_cell(ix, *st, i);
             if m == 0 {
-                return ruled(eval_s(p, ix, rec, st, env, n.a));
+                return ruled(eval_s(p, ix, rec, st, env, n.a, memo));
             }
-            ruled(inside_s(p, ix, rec, st, env, i, exactly(m), n.c))
+            ruled(inside_s(p, ix, rec, st, env, i, exactly(m), n.c, memo))
         }
         7 => {
-            let m = content(ix, *st, i);
+            let m = own_cell(ix, *st, i);
             if m == 0 {
-                return ruled(eval_s(p, ix, rec, st, env, n.a));
+                return ruled(eval_s(p, ix, rec, st, env, n.a, memo));
             }
             let which = branch_in(m);
             if has_branch(*p, ix, n.b, which) {
                 let branch = node_by(*p, ix, which);
-                return ruled(inside_s(p, ix, rec, st, env, which, exactly(m), branch.a));
+                return ruled(inside_s(p, ix, rec, st, env, which, exactly(m), branch.a, memo));
             }
             0
         }
-        8 => through(p, ix, rec, st, env, n.a),
+        8 => through(p, ix, rec, st, env, n.a, memo),
         _ => given(Value::Plain(INT, time_in(*rec))),
     }
 }
@@ -175,14 +169,15 @@ fn through(
     st: &&[u8],
     env: &mut [u64; 1008],
     i: usize,
+    memo: &mut [u64; 1008],
 ) -> u64
-    requires { ⌜ ReadyS (now (now p)) (now ix) (now (now st)) (now env) i ⌝ }
-    ensures { λ r. ⌜ (outcomeIn r ≡ rule (evalS (now (now (rec .entry))) (now (now (st .entry))) (now (env .entry)) (signalAt (now (now (p .entry))) i))) × IsOutcome r × (now (env .exit) ≡ now (env .entry)) ⌝ }
+    requires { ⌜ ReadyS (now (now p)) (now ix) (now (now st)) (now env) i × Noted (now (now p)) (now memo) ⌝ }
+    ensures { λ r. ⌜ (outcomeIn r ≡ rule (evalS (now (now (rec .entry))) (now (now (st .entry))) (now (env .entry)) (signalAt (now (now (p .entry))) i))) × IsOutcome r × (now (env .exit) ≡ now (env .entry)) × Notes (now (now (p .entry))) (now (memo .entry)) (now (memo .exit)) (fillS (now (now (rec .entry))) (now (now (st .entry))) (now (env .entry)) (signalAt (now (now (p .entry))) i)) ⌝ }
 {
     if kind_by(*p, ix, i) == 4 {
-        return ruled(held(content(ix, *st, i)));
+        return ruled(held(own_cell(ix, *st, i)));
     }
-    let r = eval_s(p, ix, rec, st, env, i);
+    let r = eval_s(p, ix, rec, st, env, i, memo);
     ruled(r)
 }
 
@@ -196,15 +191,30 @@ fn inside_s(
     i: usize,
     v: u64,
     k: usize,
+    memo: &mut [u64; 1008],
 ) -> u64
-    requires { ⌜ ReadyS (now (now p)) (now ix) (now (now st)) (now env) k × (i < 1008) × IsValue v ⌝ }
-    ensures { λ r. ⌜ (outcomeIn r ≡ evalS (now (now (rec .entry))) (now (now (st .entry))) (bind (now (env .entry)) i (unpacked v)) (signalAt (now (now (p .entry))) k)) × IsOutcome r × (now (env .exit) ≡ now (env .entry)) ⌝ }
+    requires { ⌜ ReadyS (now (now p)) (now ix) (now (now st)) (now env) k × (i < 1008) × IsValue v × Noted (now (now p)) (now memo) ⌝ }
+    ensures { λ r. ⌜ (outcomeIn r ≡ evalS (now (now (rec .entry))) (now (now (st .entry))) (bind (now (env .entry)) i (unpacked v)) (signalAt (now (now (p .entry))) k)) × IsOutcome r × (now (env .exit) ≡ now (env .entry)) × Notes (now (now (p .entry))) (now (memo .entry)) (now (memo .exit)) (fillS (now (now (rec .entry))) (now (now (st .entry))) (bind (now (env .entry)) i (unpacked v)) (signalAt (now (now (p .entry))) k)) ⌝ }
 {
     let outer = env[i];
     env[i] = v;
-    let r = eval_s(p, ix, rec, st, env, k);
+    let r = eval_s(p, ix, rec, st, env, k, memo);
     env[i] = outer;
     r
+}
+
+// Signal i, an input, time or ext: it reads no cell, and nothing is noted.
+pub fn outright(p: &&[u8], ix: &[u16; 2016], rec: &&[u8], env: &mut [u64; 1008], i: usize) -> u64
+    requires { ⌜ ReadyO (now (now p)) (now ix) (now env) i ⌝ }
+    ensures { λ r. ⌜ ((st : Bytes) → outcomeIn r ≡ evalS (now (now (rec .entry))) st (now (env .entry)) (signalAt (now (now (p .entry))) i)) × IsOutcome r × (now (env .exit) ≡ now (env .entry)) ⌝ }
+{
+    let n = node_by(*p, ix, i);
+    let k = n.kind;
+    match k {
+        1 => given(channel_value(*rec, n.a)),
+        3 => ruled(operand(p, ix, env, n.a)),
+        _ => given(Value::Plain(INT, time_in(*rec))),
+    }
 }
 
 // Signal i in a state that is lent as a slice: what a step and an update call.
@@ -215,9 +225,10 @@ pub fn evaluated(
     st: &[u8],
     env: &mut [u64; 1008],
     i: usize,
+    memo: &mut [u64; 1008],
 ) -> u64
-    requires { ⌜ ReadyS (now (now p)) (now ix) (now st) (now env) i ⌝ }
-    ensures { λ r. ⌜ (outcomeIn r ≡ evalS (now (now (rec .entry))) (now (st .entry)) (now (env .entry)) (signalAt (now (now (p .entry))) i)) × IsOutcome r × (now (env .exit) ≡ now (env .entry)) ⌝ }
+    requires { ⌜ ReadyS (now (now p)) (now ix) (now st) (now env) i × Noted (now (now p)) (now memo) ⌝ }
+    ensures { λ r. ⌜ (outcomeIn r ≡ evalS (now (now (rec .entry))) (now (st .entry)) (now (env .entry)) (signalAt (now (now (p .entry))) i)) × IsOutcome r × (now (env .exit) ≡ now (env .entry)) × Notes (now (now (p .entry))) (now (memo .entry)) (now (memo .exit)) (fillS (now (now (rec .entry))) (now (st .entry)) (now (env .entry)) (signalAt (now (now (p .entry))) i)) ⌝ }
 {
-    eval_s(p, ix, rec, &st, env, i)
+    eval_s(p, ix, rec, &st, env, i, memo)
 }

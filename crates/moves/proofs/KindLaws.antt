@@ -15,10 +15,10 @@ use Rattle.rules.specs.Node.{IsNode}
 use Rattle.rules.specs.Shaped.{NodeOf}
 use Rattle.rules.specs.Tree.{Signal, signalAt, branchesAt}
 use Rattle.rules.specs.Scope.{hasBranch}
-use Rattle.rules.specs.Work.{nothing, oneRule, _plus_, Updated, Next, Jump, Halted, moved, stays, leave, afterᵘ, ruleᵘ, _with_, _thenᵘ_}
+use Rattle.rules.specs.Work.{nothing, oneRule, _plus_, Updated, Next, Halted, moved, stays, leave, afterᵘ, ruleᵘ}
 use Rattle.rules.specs.Evaluate.{Env, bind, opened, evalS}
-use Rattle.rules.specs.Update.{onEvent}
-use Rattle.current.specs.Current.{leaves, goS, goB}
+use Rattle.current.specs.Current.{leaves}
+use Rattle.recalled.specs.Recall.{Memory, Recalled, fillS, leaving, onOutcome, withᵐ, thenᵐ, eventᵐ, onEventᵐ, recallS, recallB}
 use Rattle.rules.specs.declared.Node.{Node}
 use Rattle.rules.specs.declared.Tally.{Tally}
 use Rattle.rules.specs.declared.Value.{Value}
@@ -28,12 +28,14 @@ use Rattle.rules.specs.declared.Moved.{Moved}
 use Rattle.rules.specs.declared.Evaluated.{Evaluated}
 use Rattle.rules.specs.declared.Evaluated.the-variants.{Done, Stuck}
 use Rattle.rules.proofs.Nodes.{signal-input, signal-time}
+use Rattle.rules.proofs.ByKind.{SignalKind, is-input, is-time, is-ext, is-delay, is-let, is-switch, is-group, is-until, signal-kind}
 use Rattle.rules.proofs.Signals.{less, ext-tree, delay-tree, let-tree, switch-tree, group-tree, group-kids}
 use Rattle.outcomes.specs.Combine.{partsBy, partsOf}
 use Rattle.outcomes.specs.declared.Event.{Event}
 use Rattle.outcomes.specs.declared.Event.the-variants.{Occurs, Quiet}
 use Rattle.outcomes.specs.declared.Parts.the-variants.{Maybe, Wrong}
 use Rattle.outcomes.proofs.Outcomes.{parts-here}
+use Rattle.noted.proofs.FillLaws.{input-fills, time-fills, ext-fills}
 use Rattle.moves.specs.Outcomes.{countIn, tallyIn, movedIn, calmOf}
 use Rattle.moves.specs.Parts.{inSwitch, switched, inGroup}
 use Rattle.moves.specs.declared.Calm.the-variants.{Still, Broken}
@@ -42,19 +44,21 @@ use Rattle.moves.proofs.BranchLaws.{branch-goes, missing-goes}
 
 -- An evaluation, then an update with its value, then what goes on from there: where the first is stuck, where the second does not stay, and
 -- where both go on.
-module _ {r E : Evaluated} (q : r ≡ E) where
-  pub first-stuck : (f : Value → Updated) → r ≡ Stuck → Halted ≡ ruleᵘ (E with f)
-  unfolding _with_ ruleᵘ afterᵘ
+module _ {r E : Evaluated} (q : r ≡ E) (mem : Memory) where
+  pub first-stuck : (f : Value → Recalled) → r ≡ Stuck → leaving Halted mem ≡ onOutcome ruleᵘ (withᵐ E mem f)
+  unfolding withᵐ onOutcome ruleᵘ afterᵘ
   first-stuck f d = rw (← q, d)
 
-  module _ {v : Value} {u : Tally} (d : r ≡ Done v u) (X : Value → Updated) (f : Value → Bytes → Updated) (m : Moved) (st : Bytes) (x : moved m st ≡ X v) where
-    pub second-broken : calmOf m ≡ Broken → Halted ≡ ruleᵘ (E with λ a. X a thenᵘ f a)
-    unfolding _with_ ruleᵘ afterᵘ
-    second-broken c = rw (← q, d, ← x, then-broken m st (f v) c)
+  module _ {v : Value} {u : Tally} (d : r ≡ Done v u) (X : Value → Recalled) (f : Value → Bytes → Memory → Recalled) (m : Moved) (st : Bytes)
+      {mem₁ : Memory} (x : leaving (moved m st) mem₁ ≡ X v) where
+    pub second-broken : calmOf m ≡ Broken → leaving Halted mem₁ ≡ onOutcome ruleᵘ (withᵐ E mem λ a. thenᵐ (X a) (f a))
+    unfolding withᵐ onOutcome ruleᵘ afterᵘ
+    second-broken c = rw (← q, d, ← x, then-broken m st mem₁ (f v) c)
 
-    pub both-go : {w : Tally} → calmOf m ≡ Still w → ruleᵘ (afterᵘ u (afterᵘ w (f v st))) ≡ ruleᵘ (E with λ a. X a thenᵘ f a)
-    unfolding _with_
-    both-go c = rw (← q, d, ← x, then-still m st (f v) c)
+    pub both-go : {w : Tally} → calmOf m ≡ Still w
+        → onOutcome ruleᵘ (onOutcome (afterᵘ u) (onOutcome (afterᵘ w) (f v st mem₁))) ≡ onOutcome ruleᵘ (withᵐ E mem λ a. thenᵐ (X a) (f a))
+    unfolding withᵐ
+    both-go c = rw (← q, d, ← x, then-still m st mem₁ (f v) c)
 
 -- No constructor is another.
 pub wrong-maybe : {e : Event} {w : Tally} → Wrong ≡ Maybe e w → ⊥
@@ -67,49 +71,54 @@ pub occurs-quiet : {v : ℕ} {w u : Tally} → Maybe (Occurs v) u ≡ Maybe Quie
 occurs-quiet e = let z : _≡_ {A = ℕ} 0 1 = cc in omega arith
 
 -- A switch's event: no maybe, present, or absent.
-module _ (X : Updated) (C : Bytes → Value → Updated) (Q : Bytes → Updated) where
-  on : Opened → Bytes → Updated
-  on o st = onEvent o (λ v. C st v) (Q st)
+module _ (mem : Memory) (X : Recalled) (C : Bytes → Value → Updated) (Q : Bytes → Memory → Recalled) where
+  on : Opened → Recalled
+  on o = eventᵐ o mem (thenᵐ X λ st m. onEventᵐ o m (λ v. C st v) (Q st m))
 
-  halts : (u : Tally) (Y : Updated) → afterᵘ u (Y thenᵘ λ st. Halted) ≡ Halted
-  unfolding afterᵘ _thenᵘ_
-  halts u (Next st w) = refl
-  halts u (Jump target v st w) = refl
-  halts u Halted = refl
-
-  wrong-by : (o : Opened) (u : Tally) → partsBy o u ≡ Wrong → afterᵘ u (X thenᵘ on o) ≡ Halted
-  unfolding partsBy on onEvent
+  wrong-by : (o : Opened) (u : Tally) → partsBy o u ≡ Wrong → onOutcome (afterᵘ u) (on o) ≡ leaving Halted mem
+  unfolding partsBy on eventᵐ onOutcome afterᵘ
   wrong-by (Here v) u e = absurd (maybe-wrong e)
   wrong-by Gone u e = absurd (maybe-wrong e)
-  wrong-by Amiss u e = halts u X
+  wrong-by Amiss u e = refl
 
-  event-wrong : (r : Evaluated) → partsOf r ≡ Wrong → (r with λ a. X thenᵘ on (opened a)) ≡ Halted
-  unfolding partsOf _with_
+  event-wrong : (r : Evaluated) → partsOf r ≡ Wrong → withᵐ r mem (λ a. on (opened a)) ≡ leaving Halted mem
+  unfolding partsOf withᵐ
   event-wrong (Done v u) e = wrong-by (opened v) u e
   event-wrong Stuck e = refl
 
   event-here : (r : Evaluated) {v : ℕ} {u : Tally} → partsOf r ≡ Maybe (Occurs v) u
-      → (r with λ a. X thenᵘ on (opened a)) ≡ afterᵘ u (X thenᵘ λ st. C st (unpacked v))
-  unfolding partsOf _with_ on onEvent
+      → withᵐ r mem (λ a. on (opened a)) ≡ onOutcome (afterᵘ u) (thenᵐ X λ st m. leaving (C st (unpacked v)) m)
+  unfolding partsOf withᵐ on eventᵐ onEventᵐ
   event-here (Done a u₀) e = let k = parts-here a u₀ e in rw (k .0, k .1)
   event-here Stuck e = absurd (wrong-maybe e)
 
-  gone-by : (o : Opened) (u₀ : Tally) {u : Tally} → partsBy o u₀ ≡ Maybe Quiet u → afterᵘ u₀ (X thenᵘ on o) ≡ afterᵘ u (X thenᵘ λ st. Q st)
-  unfolding partsBy on onEvent
+  gone-by : (o : Opened) (u₀ : Tally) {u : Tally} → partsBy o u₀ ≡ Maybe Quiet u → onOutcome (afterᵘ u₀) (on o) ≡ onOutcome (afterᵘ u) (thenᵐ X λ st m. Q st m)
+  unfolding partsBy on eventᵐ onEventᵐ
   gone-by (Here v) u₀ e = absurd (occurs-quiet e)
-  gone-by Gone u₀ {u} e = let b : u₀ ≡ u = cc in λ i. afterᵘ (b i) (X thenᵘ λ st. Q st)
+  gone-by Gone u₀ {u} e = let b : u₀ ≡ u = cc in λ i. onOutcome (afterᵘ (b i)) (thenᵐ X λ st m. Q st m)
   gone-by Amiss u₀ e = absurd (wrong-maybe e)
 
-  event-gone : (r : Evaluated) {u : Tally} → partsOf r ≡ Maybe Quiet u → (r with λ a. X thenᵘ on (opened a)) ≡ afterᵘ u (X thenᵘ λ st. Q st)
-  unfolding partsOf _with_
+  event-gone : (r : Evaluated) {u : Tally} → partsOf r ≡ Maybe Quiet u → withᵐ r mem (λ a. on (opened a)) ≡ onOutcome (afterᵘ u) (thenᵐ X λ st m. Q st m)
+  unfolding partsOf withᵐ
   event-gone (Done v u) e = gone-by (opened v) u e
   event-gone Stuck e = absurd (wrong-maybe e)
 
--- Where an update does not stay, nothing goes on.
-with-broken : (r : Evaluated) (m : Moved) (st : Bytes) {X : Updated} (F : Value → Bytes → Updated) → moved m st ≡ X → calmOf m ≡ Broken → (r with λ a. X thenᵘ F a) ≡ Halted
-unfolding _with_ afterᵘ
-with-broken (Done v u) m st F x c = rw (← x, then-broken m st (F v) c)
-with-broken Stuck m st F x c = refl
+  -- Where the event's update does not stay, nothing goes on.
+  module _ (m : Moved) (st : Bytes) {mem₁ : Memory} (x : leaving (moved m st) mem₁ ≡ X) (c : calmOf m ≡ Broken) where
+    breaks : (u : Tally) (f : Bytes → Memory → Recalled) → onOutcome (afterᵘ u) (thenᵐ X f) ≡ leaving Halted mem₁
+    unfolding onOutcome afterᵘ
+    breaks u f = ap (λ (y : Recalled). onOutcome (afterᵘ u) (thenᵐ y f)) (sym x) ∙ ap (onOutcome (afterᵘ u)) (then-broken m st mem₁ f c)
+
+    broken-by : (o : Opened) (u₀ : Tally) {e : Event} {u : Tally} → partsBy o u₀ ≡ Maybe e u → onOutcome (afterᵘ u₀) (on o) ≡ leaving Halted mem₁
+    unfolding partsBy on eventᵐ
+    broken-by (Here v) u₀ e = breaks u₀ _
+    broken-by Gone u₀ e = breaks u₀ _
+    broken-by Amiss u₀ e = absurd (wrong-maybe e)
+
+    event-broken : (r : Evaluated) {e : Event} {u : Tally} → partsOf r ≡ Maybe e u → withᵐ r mem (λ a. on (opened a)) ≡ leaving Halted mem₁
+    unfolding partsOf withᵐ
+    event-broken (Done v u) e = broken-by (opened v) u e
+    event-broken Stuck e = absurd (wrong-maybe e)
 
 -- By the content m of a cell: zeros, or not.
 module _ {A : Type 0} (st : Bytes) {k k′ m : ℕ} (c : m ≡ cell st k′) (q : k′ ≡ k) {x : A} (a b : A) where
@@ -133,129 +142,155 @@ one-rule : (st : Bytes) → Next st (record { work = 1; wrapped = false }) ≡ r
 unfolding ruleᵘ afterᵘ oneRule _plus_ _or_ leave nothing
 one-rule st = refl
 
-module _ (p : Bytes) (i : ℕ) (w : NodeOf isSignal p i) {n : Node} (f : IsNode p i n) (rec : Bytes) (env : Env) (st : Bytes) where
+module _ (p : Bytes) (i : ℕ) (w : NodeOf isSignal p i) {n : Node} (f : IsNode p i n) (rec : Bytes) (env : Env) (st : Bytes) (mem : Memory) where
+  abbrev fillOf : ℕ → Memory
+  fillOf x = fillS rec st env (signalAt p x) mem
+
   delay-law : kindAt p i ≡ 4
-      → goS rec env (signalAt p i) st
-      ≡ ruleᵘ (evalS rec st env (signalAt p (n .a)) with λ v. goS rec env (signalAt p (n .a)) st thenᵘ λ st₁. leave (hold st₁ (cellsBefore p i) v))
-  unfolding goS
-  delay-law e = rw (f .a-is) (ap (λ (s : Signal). goS rec env s st) (delay-tree p i w e))
+      → recallS rec env (signalAt p i) st mem
+      ≡ onOutcome ruleᵘ (withᵐ (evalS rec st env (signalAt p (n .a))) (fillOf (n .a)) λ v.
+      thenᵐ (recallS rec env (signalAt p (n .a)) st (fillOf (n .a))) λ st₁ m. leaving (leave (hold st₁ (cellsBefore p i) v)) m)
+  unfolding recallS
+  delay-law e = rw (f .a-is) (ap (λ (s : Signal). recallS rec env s st mem) (delay-tree p i w e))
 
   let-law : kindAt p i ≡ 5
-      → goS rec env (signalAt p i) st
-      ≡ ruleᵘ (evalS rec st env (signalAt p (n .a)) with λ v. goS rec (bind env i v) (signalAt p (n .a)) st thenᵘ λ st₁. goS rec (bind env i v) (signalAt p (n .b)) st₁)
-  unfolding goS
-  let-law e = rw (f .a-is, f .b-is) (ap (λ (s : Signal). goS rec env s st) (let-tree p i w e))
+      → recallS rec env (signalAt p i) st mem
+      ≡ onOutcome ruleᵘ (withᵐ (mem i) mem λ v.
+      thenᵐ (recallS rec (bind env i v) (signalAt p (n .a)) st mem) λ st₁ m. recallS rec (bind env i v) (signalAt p (n .b)) st₁ m)
+  unfolding recallS
+  let-law e = rw (f .a-is, f .b-is) (ap (λ (s : Signal). recallS rec env s st mem) (let-tree p i w e))
 
-  group-law : kindAt p i ≡ 7 → goS rec env (signalAt p i) st ≡ ruleᵘ (inGroup p i rec env st)
-  unfolding goS
-  group-law e = ap (λ (s : Signal). goS rec env s st) (group-tree p i w e)
+  group-law : kindAt p i ≡ 7 → recallS rec env (signalAt p i) st mem ≡ onOutcome ruleᵘ (inGroup p i rec env st mem)
+  unfolding recallS
+  group-law e = ap (λ (s : Signal). recallS rec env s st mem) (group-tree p i w e)
+
+  C : Bytes → Value → Updated
+  C s v = leave (switched p i s v)
+
+  Q : Bytes → Memory → Recalled
+  Q s m = onOutcome stays (inSwitch p i rec env s m)
 
   switch-law : kindAt p i ≡ 6
-      → goS rec env (signalAt p i) st
-      ≡ ruleᵘ (evalS rec st env (signalAt p (n .b)) with λ a. goS rec env (signalAt p (n .b)) st
-      thenᵘ on (goS rec env (signalAt p (n .b)) st) (λ s v. leave (switched p i s v)) (λ s. stays (inSwitch p i rec env s)) (opened a))
-  unfolding goS on
-  switch-law e = rw (f .b-is) (ap (λ (s : Signal). goS rec env s st) (switch-tree p i w e))
+      → recallS rec env (signalAt p i) st mem
+      ≡ onOutcome ruleᵘ (withᵐ (evalS rec st env (signalAt p (n .b))) (fillOf (n .b)) λ a.
+      on (fillOf (n .b)) (recallS rec env (signalAt p (n .b)) st (fillOf (n .b))) C Q (opened a))
+  unfolding recallS on C Q
+  switch-law e = rw (f .b-is) (ap (λ (s : Signal). recallS rec env s st mem) (switch-tree p i w e))
 
   -- Delay.
-  module _ (k : kindAt p i ≡ 4) {r : Evaluated} (q : r ≡ evalS rec st env (signalAt p (n .a))) where
-    pub delay-stuck : r ≡ Stuck → Halted ≡ goS rec env (signalAt p i) st
-    delay-stuck d = first-stuck q _ d ∙ sym (delay-law k)
+  module _ (k : kindAt p i ≡ 4) {r : Evaluated} (q : r ≡ evalS rec st env (signalAt p (n .a))) {mem₁ : Memory} (g : mem₁ ≡ fillOf (n .a)) where
+    pub delay-stuck : r ≡ Stuck → leaving Halted mem₁ ≡ recallS rec env (signalAt p i) st mem
+    delay-stuck d = ap (leaving Halted) g ∙ first-stuck q _ _ d ∙ sym (delay-law k)
 
-    module _ {v : Value} {u : Tally} (d : r ≡ Done v u) {env₁ : Env} (h : env₁ ≡ env) (m : Moved) (st₁ : Bytes) (x : moved m st₁ ≡ goS rec env₁ (signalAt p (n .a)) st) where
-      pub delay-broken : calmOf m ≡ Broken → Halted ≡ goS rec env (signalAt p i) st
+    module _ {v : Value} {u : Tally} (d : r ≡ Done v u) {env₁ : Env} (h : env₁ ≡ env) (m : Moved) (st₁ : Bytes) {mem₂ : Memory}
+        (x : leaving (moved m st₁) mem₂ ≡ recallS rec env₁ (signalAt p (n .a)) st mem₁) where
+      delayed : leaving (moved m st₁) mem₂ ≡ recallS rec env (signalAt p (n .a)) st (fillOf (n .a))
+      delayed = x ∙ λ j. recallS rec (h j) (signalAt p (n .a)) st (g j)
+
+      pub delay-broken : calmOf m ≡ Broken → leaving Halted mem₂ ≡ recallS rec env (signalAt p i) st mem
       delay-broken c =
-          second-broken q d (λ a. goS rec env (signalAt p (n .a)) st) (λ a s. leave (hold s (cellsBefore p i) a)) m st₁ (rw h at x) c ∙ sym (delay-law k)
-
-      pub delay-done : {w : Tally} → calmOf m ≡ Still w → {c : ℕ} {st₂ : Bytes} → st₂ ≡ hold st₁ c v → c ≡ cellsBefore p i
-          → {t : Updated} → t ≡ ruleᵘ (afterᵘ u (afterᵘ w (leave st₂))) → t ≡ goS rec env (signalAt p i) st
-      delay-done {w} c s e z =
-          z ∙ ap (λ (b : Bytes). ruleᵘ (afterᵘ u (afterᵘ w (leave b)))) (s ∙ ap (λ (y : ℕ). hold st₁ y v) e)
-          ∙ both-go q d (λ a. goS rec env (signalAt p (n .a)) st) (λ a b. leave (hold b (cellsBefore p i) a)) m st₁ (rw h at x) c
+          second-broken q (fillOf (n .a)) d (λ a. recallS rec env (signalAt p (n .a)) st (fillOf (n .a)))
+          (λ a s y. leaving (leave (hold s (cellsBefore p i) a)) y) m st₁ delayed c
           ∙ sym (delay-law k)
 
-  -- Let.
-  module _ (k : kindAt p i ≡ 5) {r : Evaluated} (q : r ≡ evalS rec st env (signalAt p (n .a))) where
-    pub let-stuck : r ≡ Stuck → Halted ≡ goS rec env (signalAt p i) st
-    let-stuck d = first-stuck q _ d ∙ sym (let-law k)
+      pub delay-done : {w : Tally} → calmOf m ≡ Still w → {c : ℕ} {st₂ : Bytes} → st₂ ≡ hold st₁ c v → c ≡ cellsBefore p i
+          → {t : Updated} → t ≡ ruleᵘ (afterᵘ u (afterᵘ w (leave st₂))) → leaving t mem₂ ≡ recallS rec env (signalAt p i) st mem
+      unfolding onOutcome
+      delay-done {w} c s e z =
+          ap (λ (o : Updated). leaving o mem₂) (z ∙ ap (λ (b : Bytes). ruleᵘ (afterᵘ u (afterᵘ w (leave b)))) (s ∙ ap (λ (y : ℕ). hold st₁ y v) e))
+          ∙ both-go q (fillOf (n .a)) d (λ a. recallS rec env (signalAt p (n .a)) st (fillOf (n .a)))
+          (λ a b y. leaving (leave (hold b (cellsBefore p i) a)) y) m st₁ delayed c
+          ∙ sym (delay-law k)
 
-    module _ {v : Value} {u : Tally} (d : r ≡ Done v u) {env₁ : Env} (h : env₁ ≡ env) (m : Moved) (st₁ : Bytes) (x : moved m st₁ ≡ goS rec (bind env₁ i v) (signalAt p (n .a)) st) where
-      defined : moved m st₁ ≡ goS rec (bind env i v) (signalAt p (n .a)) st
-      defined = x ∙ ap (λ (y : Env). goS rec (bind y i v) (signalAt p (n .a)) st) h
+  -- Let: its definition's outcome is the one in the memory.
+  module _ (k : kindAt p i ≡ 5) where
+    pub let-stuck : mem i ≡ Stuck → leaving Halted mem ≡ recallS rec env (signalAt p i) st mem
+    let-stuck d = first-stuck refl mem _ d ∙ sym (let-law k)
 
-      pub let-broken : calmOf m ≡ Broken → Halted ≡ goS rec env (signalAt p i) st
+    module _ {v : Value} {u : Tally} (d : mem i ≡ Done v u) (m : Moved) (st₁ : Bytes) {mem₁ : Memory}
+        (x : leaving (moved m st₁) mem₁ ≡ recallS rec (bind env i v) (signalAt p (n .a)) st mem) where
+      pub let-broken : calmOf m ≡ Broken → leaving Halted mem₁ ≡ recallS rec env (signalAt p i) st mem
       let-broken c =
-          second-broken q d (λ a. goS rec (bind env i a) (signalAt p (n .a)) st) (λ a s. goS rec (bind env i a) (signalAt p (n .b)) s) m st₁ defined c
+          second-broken refl mem d (λ a. recallS rec (bind env i a) (signalAt p (n .a)) st mem)
+          (λ a s y. recallS rec (bind env i a) (signalAt p (n .b)) s y) m st₁ x c
           ∙ sym (let-law k)
 
-      pub let-done : {w : Tally} → calmOf m ≡ Still w → {env₂ : Env} → env₂ ≡ env → {y : Updated} → y ≡ goS rec (bind env₂ i v) (signalAt p (n .b)) st₁
-          → {t : Updated} → t ≡ ruleᵘ (afterᵘ u (afterᵘ w y)) → t ≡ goS rec env (signalAt p i) st
-      let-done {w} c g e z =
-          z ∙ ap (λ (o : Updated). ruleᵘ (afterᵘ u (afterᵘ w o))) (e ∙ ap (λ (y : Env). goS rec (bind y i v) (signalAt p (n .b)) st₁) g)
-          ∙ both-go q d (λ a. goS rec (bind env i a) (signalAt p (n .a)) st) (λ a s. goS rec (bind env i a) (signalAt p (n .b)) s) m st₁ defined c
+      pub let-done : {w : Tally} → calmOf m ≡ Still w → {env₁ : Env} → env₁ ≡ env → {y : Updated} {mem₂ : Memory}
+          → leaving y mem₂ ≡ recallS rec (bind env₁ i v) (signalAt p (n .b)) st₁ mem₁
+          → {t : Updated} → t ≡ ruleᵘ (afterᵘ u (afterᵘ w y)) → leaving t mem₂ ≡ recallS rec env (signalAt p i) st mem
+      unfolding onOutcome
+      let-done {w} c g {mem₂ = mem₂} e z =
+          ap (λ (o : Updated). leaving o mem₂) z
+          ∙ ap (λ (o : Recalled). onOutcome ruleᵘ (onOutcome (afterᵘ u) (onOutcome (afterᵘ w) o)))
+          (e ∙ ap (λ (y : Env). recallS rec (bind y i v) (signalAt p (n .b)) st₁ mem₁) g)
+          ∙ both-go refl mem d (λ a. recallS rec (bind env i a) (signalAt p (n .a)) st mem)
+          (λ a s y. recallS rec (bind env i a) (signalAt p (n .b)) s y) m st₁ x c
           ∙ sym (let-law k)
 
   -- Switch.
-  module _ (k : kindAt p i ≡ 6) {r : Evaluated} (q : r ≡ evalS rec st env (signalAt p (n .b))) where
-    E : Updated
-    E = goS rec env (signalAt p (n .b)) st
+  module _ (k : kindAt p i ≡ 6) {r : Evaluated} (q : r ≡ evalS rec st env (signalAt p (n .b))) {mem₁ : Memory} (g : mem₁ ≡ fillOf (n .b)) where
+    E : Recalled
+    E = recallS rec env (signalAt p (n .b)) st mem₁
 
-    C : Bytes → Value → Updated
-    C s v = leave (switched p i s v)
+    by-event : recallS rec env (signalAt p i) st mem ≡ onOutcome ruleᵘ (withᵐ r mem₁ λ a. on mem₁ E C Q (opened a))
+    unfolding E
+    by-event =
+        switch-law k
+        ∙ λ j. onOutcome ruleᵘ (withᵐ (sym q j) (sym g j) λ a. on (sym g j) (recallS rec env (signalAt p (n .b)) st (sym g j)) C Q (opened a))
 
-    Q : Bytes → Updated
-    Q s = stays (inSwitch p i rec env s)
+    pub switch-wrong : partsOf r ≡ Wrong → leaving Halted mem₁ ≡ recallS rec env (signalAt p i) st mem
+    unfolding onOutcome ruleᵘ afterᵘ
+    switch-wrong d = sym (by-event ∙ ap (onOutcome ruleᵘ) (event-wrong mem₁ E C Q r d))
 
-    by-event : goS rec env (signalAt p i) st ≡ ruleᵘ (r with λ a. E thenᵘ on E C Q (opened a))
-    unfolding E C Q
-    by-event = switch-law k ∙ ap (λ (x : Evaluated). ruleᵘ (x with λ a. E thenᵘ on E C Q (opened a))) (sym q)
-
-    pub switch-wrong : partsOf r ≡ Wrong → Halted ≡ goS rec env (signalAt p i) st
-    unfolding ruleᵘ afterᵘ
-    switch-wrong d = sym (by-event ∙ ap ruleᵘ (event-wrong E C Q r d))
-
-    module _ {env₁ : Env} (h : env₁ ≡ env) (m : Moved) (st₁ : Bytes) (x : moved m st₁ ≡ goS rec env₁ (signalAt p (n .b)) st) where
-      event-is : moved m st₁ ≡ E
+    module _ {env₁ : Env} (h : env₁ ≡ env) (m : Moved) (st₁ : Bytes) {mem₂ : Memory}
+        (x : leaving (moved m st₁) mem₂ ≡ recallS rec env₁ (signalAt p (n .b)) st mem₁) where
+      event-is : leaving (moved m st₁) mem₂ ≡ E
       unfolding E
-      event-is = rw h at x
+      event-is = x ∙ ap (λ (y : Env). recallS rec y (signalAt p (n .b)) st mem₁) h
 
-      pub switch-broken : calmOf m ≡ Broken → Halted ≡ goS rec env (signalAt p i) st
-      unfolding ruleᵘ afterᵘ
-      switch-broken c = sym (by-event ∙ ap ruleᵘ (with-broken r m st₁ (λ a. on E C Q (opened a)) event-is c))
+      pub switch-broken : {e : Event} {u : Tally} → partsOf r ≡ Maybe e u → calmOf m ≡ Broken → leaving Halted mem₂ ≡ recallS rec env (signalAt p i) st mem
+      unfolding onOutcome ruleᵘ afterᵘ
+      switch-broken d c = sym (by-event ∙ ap (onOutcome ruleᵘ) (event-broken mem₁ E C Q m st₁ event-is c r d))
 
-      after-event : {w : Tally} → calmOf m ≡ Still w → (g : Bytes → Updated) → (E thenᵘ g) ≡ afterᵘ w (g st₁)
-      after-event c g = ap (λ (y : Updated). y thenᵘ g) (sym event-is) ∙ then-still m st₁ g c
+      after-event : {w : Tally} → calmOf m ≡ Still w → (f : Bytes → Memory → Recalled) → thenᵐ E f ≡ onOutcome (afterᵘ w) (f st₁ mem₂)
+      after-event c f = ap (λ (y : Recalled). thenᵐ y f) (sym event-is) ∙ then-still m st₁ mem₂ f c
 
       pub switch-caught : {v : ℕ} {u : Tally} → partsOf r ≡ Maybe (Occurs v) u → {w : Tally} → calmOf m ≡ Still w → {st₂ : Bytes} → st₂ ≡ switched p i st₁ (unpacked v)
-          → {t : Updated} → t ≡ ruleᵘ (afterᵘ u (afterᵘ w (leave st₂))) → t ≡ goS rec env (signalAt p i) st
-      unfolding C
+          → {t : Updated} → t ≡ ruleᵘ (afterᵘ u (afterᵘ w (leave st₂))) → leaving t mem₂ ≡ recallS rec env (signalAt p i) st mem
+      unfolding C onOutcome
       switch-caught {v} {u} d {w} c s z =
-          z ∙ ap (λ (b : Bytes). ruleᵘ (afterᵘ u (afterᵘ w (leave b)))) s
-          ∙ sym (by-event ∙ ap ruleᵘ (event-here E C Q r d ∙ ap (afterᵘ u) (after-event c λ b. C b (unpacked v))))
+          ap (λ (o : Updated). leaving o mem₂) (z ∙ ap (λ (b : Bytes). ruleᵘ (afterᵘ u (afterᵘ w (leave b)))) s)
+          ∙ sym (by-event ∙ ap (onOutcome ruleᵘ) (event-here mem₁ E C Q r d ∙ ap (onOutcome (afterᵘ u)) (after-event c λ b y. leaving (C b (unpacked v)) y)))
 
       pub switch-quiet : {u : Tally} → partsOf r ≡ Maybe Quiet u → {w : Tally} → calmOf m ≡ Still w → {env₂ : Env} → env₂ ≡ env
-          → {o : Updated} → o ≡ inSwitch p i rec env₂ st₁ → {y : Updated} → y ≡ stays o → {t : Updated} → t ≡ ruleᵘ (afterᵘ u (afterᵘ w y))
-          → t ≡ goS rec env (signalAt p i) st
-      unfolding Q
-      switch-quiet {u} d {w} c g e y z =
-          z ∙ ap (λ (b : Updated). ruleᵘ (afterᵘ u (afterᵘ w b))) (y ∙ ap stays (e ∙ ap (λ (a : Env). inSwitch p i rec a st₁) g))
-          ∙ sym (by-event ∙ ap ruleᵘ (event-gone E C Q r d ∙ ap (afterᵘ u) (after-event c λ b. Q b)))
+          → {o : Updated} {mem₃ : Memory} → leaving o mem₃ ≡ inSwitch p i rec env₂ st₁ mem₂ → {y : Updated} → y ≡ stays o
+          → {t : Updated} → t ≡ ruleᵘ (afterᵘ u (afterᵘ w y)) → leaving t mem₃ ≡ recallS rec env (signalAt p i) st mem
+      unfolding Q onOutcome
+      switch-quiet {u} d {w} c g {mem₃ = mem₃} e y z =
+          ap (λ (o : Updated). leaving o mem₃) (z ∙ ap (λ (b : Updated). ruleᵘ (afterᵘ u (afterᵘ w b))) y)
+          ∙ ap (λ (o : Recalled). onOutcome ruleᵘ (onOutcome (afterᵘ u) (onOutcome (afterᵘ w) (onOutcome stays o)))) (e ∙ ap (λ (a : Env). inSwitch p i rec a st₁ mem₂) g)
+          ∙ sym (by-event ∙ ap (onOutcome ruleᵘ) (event-gone mem₁ E C Q r d ∙ ap (onOutcome (afterᵘ u)) (after-event c λ b y. Q b y)))
 
   -- The part of a switch or a group by the content of its cell.
   module _ {c m : ℕ} (a : m ≡ cell st c) (b : c ≡ cellsBefore p i) where
-    pub switch-first : m ≡ 0 → {o : Updated} → o ≡ goS rec env (signalAt p (n .a)) st → o ≡ inSwitch p i rec env st
-    switch-first z e = pick-clear st a b _ _ z (rw (f .a-is) at e)
+    pub switch-first : m ≡ 0 → {o : Recalled} → o ≡ recallS rec env (signalAt p (n .a)) st mem → o ≡ inSwitch p i rec env st mem
+    switch-first z e = pick-clear st a b _ _ z (e ∙ ap (λ (x : ℕ). recallS rec env (signalAt p x) st mem) (f .a-is))
 
-    pub switch-second : (m ≡ 0 → ⊥) → {v : Value} → v ≡ unpacked m → {o : Updated} → o ≡ goS rec (bind env i v) (signalAt p (n .c)) st → o ≡ inSwitch p i rec env st
+    pub switch-second : (m ≡ 0 → ⊥) → {v : Value} → v ≡ unpacked m → {o : Recalled} → o ≡ recallS rec (bind env i v) (signalAt p (n .c)) st mem
+        → o ≡ inSwitch p i rec env st mem
     switch-second z g e =
-        pick-held st a b _ _ z (e ∙ λ j. goS rec (bind env i ((g ∙ held-is st a b) j)) (signalAt p (f .c-is j)) st)
+        pick-held st a b _ _ z (e ∙ λ j. recallS rec (bind env i ((g ∙ held-is st a b) j)) (signalAt p (f .c-is j)) st mem)
 
     -- Group: of its part's outcome a jump to one of its branches is caught.
     module _ (k : kindAt p i ≡ 7) where
-      pub group-first : m ≡ 0 → {o : Updated} → o ≡ goS rec env (signalAt p (n .a)) st
-          → {t : Updated} → t ≡ ruleᵘ (leaves (cellsBefore p i) (signalAt p (n .a)) (branchesAt p (bAt p i)) o) → t ≡ goS rec env (signalAt p i) st
-      group-first z e y =
-          y ∙ ap ruleᵘ (pick-clear st a b _ _ z (λ j. leaves (cellsBefore p i) (signalAt p (f .a-is j)) (branchesAt p (bAt p i)) ((e ∙ ap (λ (x : ℕ). goS rec env (signalAt p x) st) (f .a-is)) j)))
+      pub group-first : m ≡ 0 → {o : Updated} {mem₁ : Memory} → leaving o mem₁ ≡ recallS rec env (signalAt p (n .a)) st mem
+          → {t : Updated} → t ≡ ruleᵘ (leaves (cellsBefore p i) (signalAt p (n .a)) (branchesAt p (bAt p i)) o)
+          → leaving t mem₁ ≡ recallS rec env (signalAt p i) st mem
+      unfolding onOutcome
+      group-first z {mem₁ = mem₁} e y =
+          ap (λ (x : Updated). leaving x mem₁) y
+          ∙ ap (onOutcome ruleᵘ) (pick-clear st a b _ _ z
+          (λ j. onOutcome (leaves (cellsBefore p i) (signalAt p (f .a-is j)) (branchesAt p (bAt p i))) ((e ∙ ap (λ (x : ℕ). recallS rec env (signalAt p x) st mem) (f .a-is)) j)))
           ∙ sym (group-law k)
 
       module _ (z : m ≡ 0 → ⊥) {which : ℕ} {t : Bool} (g : which ≡ middleIn m) (e : t ≡ hasBranch which (branchesAt p (n .b))) where
@@ -263,53 +298,71 @@ module _ (p : Bytes) (i : ℕ) (w : NodeOf isSignal p i) {n : Node} (f : IsNode 
         in-list s y = ap (λ (l : ℕ). hasBranch which (branchesAt p l)) (sym (f .b-is)) ∙ sym e ∙ y
 
         whole : (v : Value) → v ≡ unpacked m
-            → ruleᵘ (goB rec env (cellsBefore p i) which v (branchesAt p (bAt p i)) (branchesAt p (bAt p i)) st) ≡ goS rec env (signalAt p i) st
+            → onOutcome ruleᵘ (recallB rec env (cellsBefore p i) which v (branchesAt p (bAt p i)) (branchesAt p (bAt p i)) st mem) ≡ recallS rec env (signalAt p i) st mem
         whole v y =
-            ap ruleᵘ (pick-held st a b _ _ z
-            (λ j. goB rec env (cellsBefore p i) ((g ∙ branch-is st a b) j) ((y ∙ held-is st a b) j) (branchesAt p (bAt p i)) (branchesAt p (bAt p i)) st))
+            ap (onOutcome ruleᵘ) (pick-held st a b _ _ z
+            (λ j. recallB rec env (cellsBefore p i) ((g ∙ branch-is st a b) j) ((y ∙ held-is st a b) j) (branchesAt p (bAt p i)) (branchesAt p (bAt p i)) st mem))
             ∙ sym (group-law k)
 
         pub group-branch : t ≡ true → {v : Value} → v ≡ unpacked m → {x : Node} → IsNode p which x
-            → {o : Updated} → o ≡ goS rec (bind env which v) (signalAt p (x .a)) st
-            → {u : Updated} → u ≡ ruleᵘ (leaves (cellsBefore p i) (signalAt p (x .a)) (branchesAt p (bAt p i)) o) → u ≡ goS rec env (signalAt p i) st
-        group-branch y {v} l {x} nx q r =
-            r ∙ ap (λ (o : Updated). ruleᵘ (leaves (cellsBefore p i) (signalAt p (x .a)) (branchesAt p (bAt p i)) o)) q
-            ∙ ap (λ (s : ℕ). ruleᵘ (leaves (cellsBefore p i) (signalAt p s) (branchesAt p (bAt p i)) (goS rec (bind env which v) (signalAt p s) st))) (nx .a-is)
-            ∙ ap ruleᵘ (sym (branch-goes rec env (cellsBefore p i) v (branchesAt p (bAt p i)) st p (bAt p i) which (group-kids p i w k .1 .node) (in-list true y)))
+            → {o : Updated} {mem₁ : Memory} → leaving o mem₁ ≡ recallS rec (bind env which v) (signalAt p (x .a)) st mem
+            → {u : Updated} → u ≡ ruleᵘ (leaves (cellsBefore p i) (signalAt p (x .a)) (branchesAt p (bAt p i)) o)
+            → leaving u mem₁ ≡ recallS rec env (signalAt p i) st mem
+        unfolding onOutcome
+        group-branch y {v} l {x} nx {mem₁ = mem₁} q r =
+            ap (λ (o : Updated). leaving o mem₁) r
+            ∙ ap (λ (o : Recalled). onOutcome ruleᵘ (onOutcome (leaves (cellsBefore p i) (signalAt p (x .a)) (branchesAt p (bAt p i))) o)) q
+            ∙ ap (λ (s : ℕ). onOutcome ruleᵘ (onOutcome (leaves (cellsBefore p i) (signalAt p s) (branchesAt p (bAt p i))) (recallS rec (bind env which v) (signalAt p s) st mem)))
+            (nx .a-is)
+            ∙ ap (onOutcome ruleᵘ) (sym (branch-goes rec env (cellsBefore p i) v (branchesAt p (bAt p i)) st mem p (bAt p i) which (group-kids p i w k .1 .node) (in-list true y)))
             ∙ whole v l
 
-        pub group-missing : t ≡ false → Halted ≡ goS rec env (signalAt p i) st
-        unfolding ruleᵘ afterᵘ
+        pub group-missing : t ≡ false → leaving Halted mem ≡ recallS rec env (signalAt p i) st mem
+        unfolding onOutcome ruleᵘ afterᵘ
         group-missing y =
-            ap ruleᵘ (sym (missing-goes rec env (cellsBefore p i) which (unpacked m) (branchesAt p (bAt p i)) (branchesAt p (bAt p i)) st (in-list false y)))
+            ap (onOutcome ruleᵘ) (sym (missing-goes rec env (cellsBefore p i) which (unpacked m) (branchesAt p (bAt p i)) (branchesAt p (bAt p i)) st mem (in-list false y)))
             ∙ whole (unpacked m) refl
 
 -- Input, time and ext are all that is left.
-module _ (p : Bytes) (i : ℕ) (w : NodeOf isSignal p i) (rec : Bytes) (env : Env) (st : Bytes) where
-  three : (b c : Bool) → eqb (kindAt p i) 1 ≡ b → eqb (kindAt p i) 3 ≡ c → 1 ≤ kindAt p i → kindAt p i ≤ 3 → ruleᵘ (leave st) ≡ goS rec env (signalAt p i) st
-  unfolding goS
-  three true c x y l u = sym (ap (λ (s : Signal). goS rec env s st) (signal-input p i (eqb-true _ _ x)))
-  three false true x y l u = sym (ap (λ (s : Signal). goS rec env s st) (ext-tree p i w (eqb-true _ _ y)))
-  three false false x y l u = sym (ap (λ (s : Signal). goS rec env s st) (signal-time p i (two (kindAt p i) (eqb-false _ _ x) (eqb-false _ _ y) l u)))
+module _ (p : Bytes) (i : ℕ) (w : NodeOf isSignal p i) (rec : Bytes) (env : Env) (st : Bytes) (mem : Memory) where
+  three : (b c : Bool) → eqb (kindAt p i) 1 ≡ b → eqb (kindAt p i) 3 ≡ c → 1 ≤ kindAt p i → kindAt p i ≤ 3
+      → leaving (ruleᵘ (leave st)) mem ≡ recallS rec env (signalAt p i) st mem
+  unfolding recallS
+  three true c x y l u = sym (ap (λ (s : Signal). recallS rec env s st mem) (signal-input p i (eqb-true _ _ x)))
+  three false true x y l u = sym (ap (λ (s : Signal). recallS rec env s st mem) (ext-tree p i w (eqb-true _ _ y)))
+  three false false x y l u = sym (ap (λ (s : Signal). recallS rec env s st mem) (signal-time p i (two (kindAt p i) (eqb-false _ _ x) (eqb-false _ _ y) l u)))
     where
       two : (m : ℕ) → (m ≡ 1 → ⊥) → (m ≡ 3 → ⊥) → 1 ≤ m → m ≤ 3 → m ≡ 2
       two m x y l u = omega (arith, x, y)
 
+  -- their evaluation notes nothing
+  pub low-fills : kindAt p i ≤ 3 → mem ≡ fillS rec st env (signalAt p i) mem
+  low-fills u = go (signal-kind (kindAt p i) (w .sorted))
+    where
+      go : SignalKind (kindAt p i) → mem ≡ fillS rec st env (signalAt p i) mem
+      go (is-input e) = sym (input-fills p i w rec st env e mem)
+      go (is-time e) = sym (time-fills p i w rec st env e mem)
+      go (is-ext e) = sym (ext-fills p i w rec st env e mem)
+      go (is-delay e) = absurd (omega (arith, e))
+      go (is-let e) = absurd (omega (arith, e))
+      go (is-switch e) = absurd (omega (arith, e))
+      go (is-group e) = absurd (omega (arith, e))
+      go (is-until e) = absurd (omega (arith, e))
+
   -- a kind up to 3, and any that is none of the others
-  pub low-updates : {m : ℕ} → m ≡ kindAt p i → m ≤ 3 → moved (movedIn 1) st ≡ goS rec env (signalAt p i) st
+  pub low-updates : {m : ℕ} → m ≡ kindAt p i → m ≤ 3 → leaving (moved (movedIn 1) st) mem ≡ recallS rec env (signalAt p i) st mem
   unfolding isSignal moved movedIn tallyIn countIn
   low-updates e u =
       let l = leb-true 1 (kindAt p i) (and-both _ _ (w .sorted) .0) in
-      one-rule st ∙ three (eqb (kindAt p i) 1) (eqb (kindAt p i) 3) refl refl l (omega (arith, e))
+      ap (λ (o : Updated). leaving o mem) (one-rule st) ∙ three (eqb (kindAt p i) 1) (eqb (kindAt p i) 3) refl refl l (omega (arith, e))
 
   pub leaf-updates : {A : Type 0} {m : ℕ} → m ≡ kindAt p i
       → (((((A × (m ≡ 4 → ⊥)) × (m ≡ 5 → ⊥)) × (m ≡ 6 → ⊥)) × (m ≡ 7 → ⊥)) × (m ≡ 8 → ⊥))
-      → moved (movedIn 1) st ≡ goS rec env (signalAt p i) st
-  unfolding isSignal moved movedIn tallyIn countIn
+      → leaving (moved (movedIn 1) st) mem ≡ recallS rec env (signalAt p i) st mem
+  unfolding isSignal
   leaf-updates e r =
       let b = and-both _ _ (w .sorted) in
-      let l = leb-true 1 (kindAt p i) (b .0) in
       let u = leb-true (kindAt p i) 8 (b .1) in
-      one-rule st ∙ three (eqb (kindAt p i) 1) (eqb (kindAt p i) 3) refl refl l
+      low-updates refl
       (less 3 (less 4 (less 5 (less 6 (less 7 u (λ h. r .1 (e ∙ h))) (λ h. r .0 .1 (e ∙ h))) (λ h. r .0 .0 .1 (e ∙ h)))
       (λ h. r .0 .0 .0 .1 (e ∙ h))) (λ h. r .0 .0 .0 .0 .1 (e ∙ h)))

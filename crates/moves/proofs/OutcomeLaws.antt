@@ -4,12 +4,12 @@ use mathlib.Core.Path.{_≡_, refl, ap}
 use Prim.Native.Nat.{ℕ, _≤_}
 use native.Mathlib.Omega.{arith}
 use Rattle.rules.specs.Bytes.{Bytes}
-use Rattle.rules.specs.Work.{Updated, Jump, Halted, moved, afterᵘ, _with_, _thenᵘ_}
+use Rattle.rules.specs.Work.{Updated, Jump, Halted, moved, afterᵘ}
 use Rattle.rules.specs.declared.Tally.{Tally}
 use Rattle.rules.specs.declared.Moved.{Moved}
 use Rattle.rules.specs.declared.Moved.the-variants.{Stay}
-use Rattle.rules.specs.declared.Evaluated.the-variants.{Stuck}
 use Rattle.rules.proofs.Within.{Withinᵘ}
+use Rattle.recalled.specs.Recall.{Memory, Recalled, leaving, onOutcome, fromᵐ, thenᵐ}
 use Rattle.moves.specs.Outcomes.{workOf, calmOf}
 use Rattle.moves.specs.declared.Calm.the-variants.{Still, Broken}
 
@@ -20,18 +20,19 @@ still-broken e = let z : _≡_ {A = ℕ} 0 1 = cc in omega arith
 pub broken-still : {w : Tally} → Broken ≡ Still w → ⊥
 broken-still e = let z : _≡_ {A = ℕ} 0 1 = cc in omega arith
 
--- An update that stays goes on from its state.
-pub then-still : (r : Moved) {w : Tally} (st : Bytes) (f : Bytes → Updated) → calmOf r ≡ Still w → (moved r st thenᵘ f) ≡ afterᵘ w (f st)
-unfolding calmOf moved _thenᵘ_
-then-still (Stay u) {w} st f e = let q : u ≡ w = cc in ap (λ (x : Tally). afterᵘ x (f st)) q
-then-still (Moved.Jump target v w) st f e = absurd (broken-still e)
-then-still Moved.Stuck st f e = absurd (broken-still e)
+-- An update that stays goes on from its state and its memory.
+pub then-still : (r : Moved) {w : Tally} (st : Bytes) (mem : Memory) (f : Bytes → Memory → Recalled) → calmOf r ≡ Still w
+    → thenᵐ (leaving (moved r st) mem) f ≡ onOutcome (afterᵘ w) (f st mem)
+unfolding calmOf moved thenᵐ fromᵐ
+then-still (Stay u) {w} st mem f e = let q : u ≡ w = cc in ap (λ (x : Tally). onOutcome (afterᵘ x) (f st mem)) q
+then-still (Moved.Jump target v w) st mem f e = absurd (broken-still e)
+then-still Moved.Stuck st mem f e = absurd (broken-still e)
 
-pub then-broken : (r : Moved) (st : Bytes) (f : Bytes → Updated) → calmOf r ≡ Broken → (moved r st thenᵘ f) ≡ Halted
-unfolding calmOf moved _thenᵘ_
-then-broken (Stay w) st f e = absurd (still-broken e)
-then-broken (Moved.Jump target v w) st f e = refl
-then-broken Moved.Stuck st f e = refl
+pub then-broken : (r : Moved) (st : Bytes) (mem : Memory) (f : Bytes → Memory → Recalled) → calmOf r ≡ Broken → thenᵐ (leaving (moved r st) mem) f ≡ leaving Halted mem
+unfolding calmOf moved thenᵐ fromᵐ
+then-broken (Stay w) st mem f e = absurd (still-broken e)
+then-broken (Moved.Jump target v w) st mem f e = refl
+then-broken Moved.Stuck st mem f e = refl
 
 -- What an update that stays has counted.
 pub still-work : (r : Moved) {w : Tally} → calmOf r ≡ Still w → w .work ≡ workOf r

@@ -7,10 +7,12 @@ use mathlib.Core.List.{List}
 use Prim.Native.Nat.{ℕ, _+_, _≤_, _<_, max}
 use native.Mathlib.Omega.{arith}
 use Rattle.rules.specs.Bytes.{Bytes, if_then_else_}
-use Rattle.rules.specs.Layout.{aAt, bAt, cAt, cellsBefore, held, isClear, holdBranch}
+use Rattle.rules.specs.Layout.{kindAt, aAt, bAt, cAt, cellsBefore, held, isClear, holdBranch}
+use Rattle.rules.specs.Kinds.{isSignal}
 use Rattle.rules.specs.Node.{IsNode}
+use Rattle.rules.specs.Shaped.{NodeOf}
 use Rattle.rules.specs.Scope.{hasBranch}
-use Rattle.rules.specs.Tree.{Signal, input, time, ext, delay, letSignal, switch, group, until, Branches, signalAt, branchesAt, casesAt}
+use Rattle.rules.specs.Tree.{Signal, Branches, signalAt, branchesAt, casesAt}
 use Rattle.rules.specs.Bound.{boundS, boundSC, boundU, boundUB, boundUC}
 use Rattle.rules.specs.Reset.{resetS}
 use Rattle.rules.specs.Work.{Updated, Next, Jump, moved, ruleᵘ}
@@ -22,11 +24,12 @@ use Rattle.rules.specs.declared.Moved.{Moved}
 use Rattle.rules.specs.declared.Moved.the-variants.{Stay}
 use Rattle.rules.specs.declared.Evaluated.{Evaluated}
 use Rattle.rules.specs.declared.Evaluated.the-variants.{Done}
-use Rattle.rules.proofs.Signals.{delay-tree, let-tree, switch-tree, group-tree, until-tree, case-law, case-on}
+use Rattle.rules.proofs.Signals.{delay-tree, let-tree, switch-kids, switch-tree, group-tree, until-tree, case-law, case-on}
 use Rattle.rules.proofs.Within.{Withinᵘ, evalS-within}
 use Rattle.rules.proofs.Branches.{found}
-use Rattle.current.specs.Current.{leaves, goS}
-use Rattle.current.proofs.Bounds.{goS-within}
+use Rattle.current.specs.Current.{leaves}
+use Rattle.recalled.specs.Recall.{Memory, Recalled, leaving, recallS}
+use Rattle.noted.specs.Noted.{memoryIn, Noted}
 use Rattle.outcomes.specs.Combine.{workOf as evalWork, partsOf}
 use Rattle.outcomes.specs.declared.Event.{Event}
 use Rattle.outcomes.specs.declared.Parts.the-variants.{Maybe}
@@ -38,6 +41,7 @@ use Rattle.moves.specs.Lent.{ReadyAs, CaseAs}
 use Rattle.moves.proofs.OutcomeLaws.{still-work, moved-within}
 use Rattle.moves.proofs.NumberLaws.{count-of}
 use Rattle.moves.proofs.ReadyLaws.{group-list}
+use Rattle.moves.proofs.RecallBounds.{recall-within}
 
 -- Of an evaluation.
 module _ (rec st : Bytes) (env : Env) (s : Signal) {r : Evaluated} (q : r ≡ evalS rec st env s) where
@@ -50,39 +54,37 @@ module _ (rec st : Bytes) (env : Env) (s : Signal) {r : Evaluated} (q : r ≡ ev
   pub parts-work : {e : Event} {u : Tally} → partsOf r ≡ Maybe e u → u .work ≤ boundS s
   parts-work e = omega (arith, take-work r e, eval-work)
 
+-- Of a let's definition, by the slot that it is noted in.
+pub slot-work : {p : Bytes} {index : List ℕ} {s i : ℕ} {e : Env} {n : Node} → ReadyAs 5 p index s e i n → (l : List ℕ) → Noted p l
+    → {v : Value} {u : Tally} → memoryIn l i ≡ Done v u → u .work ≤ boundS (signalAt p (n .a))
+slot-work {p} {i = i} r l h d =
+    omega (arith, ap evalWork d, h .bounded i (r .ready .node) (r .kind), ap (λ (k : ℕ). boundS (signalAt p k)) (r .fields .a-is))
+
 -- Of an update, by its number.
-number-within : (r : ℕ) (st : Bytes) {x : Updated} {b : ℕ} → moved (movedIn r) st ≡ x → Withinᵘ x b → countIn r ≤ b
-number-within r st e h = omega (arith, count-of r, moved-within (movedIn r) st e h)
+number-within : (r : ℕ) (st : Bytes) {mem : Memory} {x : Recalled} {b : ℕ} → leaving (moved (movedIn r) st) mem ≡ x → Withinᵘ (x .outcome) b → countIn r ≤ b
+number-within r st e h = omega (arith, count-of r, moved-within (movedIn r) st (ap (λ (y : Recalled). y .outcome) e) h)
 
-module _ (rec : Bytes) (env : Env) (s : Signal) (st : Bytes) (r : ℕ) (st₁ : Bytes) (q : moved (movedIn r) st₁ ≡ goS rec env s st) where
-  pub number-work : countIn r ≤ boundU s
-  number-work = number-within r st₁ q (goS-within rec env s st)
+module _ {p : Bytes} {l : List ℕ} (i : ℕ) (w : NodeOf isSignal p i) (h : Noted p l) (rec : Bytes) (env : Env) (st : Bytes) (r : ℕ) (st₁ : Bytes) {mem : Memory}
+    (q : leaving (moved (movedIn r) st₁) mem ≡ recallS rec env (signalAt p i) st (memoryIn l)) where
+  pub number-work : countIn r ≤ boundU (signalAt p i)
+  number-work = number-within r st₁ q (recall-within i w h rec env st)
 
-  pub calm-work : {w : Tally} → calmOf (movedIn r) ≡ Still w → w .work ≤ boundU s
+  pub calm-work : {u : Tally} → calmOf (movedIn r) ≡ Still u → u .work ≤ boundU (signalAt p i)
   calm-work c = omega (arith, still-work (movedIn r) c, count-of r, number-work)
 
 -- Of a switch's part that is current.
-pick-work : (t : Bool) (A B : Updated) {x y : ℕ} → Withinᵘ A x → Withinᵘ B y → (r : ℕ) (st : Bytes) → moved (movedIn r) st ≡ (if t then A else B) → countIn r ≤ max x y
+pick-work : (t : Bool) (A B : Recalled) {x y : ℕ} → Withinᵘ (A .outcome) x → Withinᵘ (B .outcome) y → (r : ℕ) (st : Bytes) {mem : Memory}
+    → leaving (moved (movedIn r) st) mem ≡ (if t then A else B) → countIn r ≤ max x y
 pick-work true A B h g r st q = omega (arith, number-within r st q h)
 pick-work false A B h g r st q = omega (arith, number-within r st q g)
 
-pub switch-work : (p : Bytes) (i : ℕ) (rec : Bytes) (env : Env) (st : Bytes) (r : ℕ) (st₁ : Bytes) → moved (movedIn r) st₁ ≡ inSwitch p i rec env st
+pub switch-work : {p : Bytes} {l : List ℕ} (i : ℕ) → NodeOf isSignal p i → kindAt p i ≡ 6 → Noted p l → (rec : Bytes) (env : Env) (st : Bytes) (r : ℕ) (st₁ : Bytes) {mem : Memory}
+    → leaving (moved (movedIn r) st₁) mem ≡ inSwitch p i rec env st (memoryIn l)
     → countIn r ≤ max (boundU (signalAt p (aAt p i))) (boundU (signalAt p (cAt p i)))
-switch-work p i rec env st r st₁ q =
-    pick-work (isClear st (cellsBefore p i)) _ _ (goS-within rec env (signalAt p (aAt p i)) st)
-    (goS-within rec (bind env i (held st (cellsBefore p i))) (signalAt p (cAt p i)) st) r st₁ q
-
--- An update counts at least one.
-one-counted : (s : Signal) → 1 ≤ boundU s
-unfolding boundU
-one-counted (input n c) = omega arith
-one-counted (time n) = omega arith
-one-counted (ext n e) = omega arith
-one-counted (delay n k v s) = omega arith
-one-counted (letSignal n t d b) = omega arith
-one-counted (switch n k t x e y) = omega arith
-one-counted (group n k body brs) = omega arith
-one-counted (until n s cs) = omega arith
+switch-work {p} i w e h rec env st r st₁ q =
+    let k = switch-kids p i w e in
+    pick-work (isClear st (cellsBefore p i)) _ _ (recall-within (aAt p i) (k .0 .node) h rec env st)
+    (recall-within (cAt p i) (k .2 .node) h rec (bind env i (held st (cellsBefore p i))) st) r st₁ q
 
 -- The sums, by the bound of the whole.
 module _ {p : Bytes} {index : List ℕ} {s i : ℕ} {e : Env} {n : Node} where
@@ -132,13 +134,13 @@ module _ {p : Bytes} {index : List ℕ} {s i : ℕ} {e : Env} {n : Node} where
       omega (arith, r .ready .small)
 
   -- an until by its walk alone, and by its walk and its signal
-  pub walk-sum : ReadyAs 8 p index s e i n → {u : ℕ} → u ≤ 1 + (boundSC (casesAt p (n .b)) + boundUC (casesAt p (n .b))) → u < 524287
+  pub walk-sum : ReadyAs 8 p index s e i n → {u : ℕ} → u ≤ boundSC (casesAt p (n .b)) + boundUC (casesAt p (n .b)) → u < 524287
   unfolding boundU
   walk-sum r h =
       let b = ap boundU (until-tree p i (r .ready .node) (r .kind)) in
       let x = ap (λ (k : ℕ). boundSC (casesAt p k)) (r .fields .b-is) in
       let y = ap (λ (k : ℕ). boundUC (casesAt p k)) (r .fields .b-is) in
-      omega (arith, r .ready .small, one-counted (signalAt p (aAt p i)))
+      omega (arith, r .ready .small)
 
   pub until-sum : ReadyAs 8 p index s e i n → {u k : ℕ} → u ≤ boundSC (casesAt p (n .b)) + boundUC (casesAt p (n .b)) → k ≤ boundU (signalAt p (n .a)) → u + k < 524287
   unfolding boundU
@@ -150,7 +152,7 @@ module _ {p : Bytes} {index : List ℕ} {s i : ℕ} {e : Env} {n : Node} where
       omega (arith, r .ready .small)
 
   -- a case's event alone, and the walk from the next case on with the event's update
-  pub event-sum : CaseAs p index s e i n → {u : ℕ} → u ≤ boundS (signalAt p (n .a)) → u ≤ 1 + (boundSC (casesAt p i) + boundUC (casesAt p i))
+  pub event-sum : CaseAs p index s e i n → {u : ℕ} → u ≤ boundS (signalAt p (n .a)) → u ≤ boundSC (casesAt p i) + boundUC (casesAt p i)
   unfolding boundSC
   event-sum r h =
       let b = ap boundSC (case-law p i (r .ready .node) refl) in

@@ -53,7 +53,7 @@ pub record Placed (k : ℕ) (p : Bytes) (index : List ℕ) (s i : ℕ) (n : Node
 pub record ReadyC (p : Bytes) (index : List ℕ) (s : ℕ) (env : Env) (j : ℕ) : Type 0 where
   pub node : NodeOf isCase p j
   pub lent : Lent p index s env
-  pub small : 1 + (boundSC (casesAt p j) + boundUC (casesAt p j)) < 524288
+  pub small : boundSC (casesAt p j) + boundUC (casesAt p j) < 524288
   pub few : sizeC (casesAt p j) ≤ 1008
 
 -- The same, of a case whose fields are n.

@@ -1,15 +1,17 @@
 -- Outcomes of updates in place: what they have counted, whether they stay, and what a walk over cases leaves.
 -- Assumes nothing: these are definitions.
+use mathlib.Core.List.{List}
 use Prim.Native.Nat.{ℕ, _+_, _*_, _/_, _%_}
 use lib.Dec.{eqb, ltb, leb}
 use Rattle.rules.specs.Bytes.{Bytes, if_then_else_}
 use Rattle.rules.specs.Values.{unpacked}
-use Rattle.rules.specs.Work.{Updated, Next, Jump, Halted, afterᵘ}
+use Rattle.rules.specs.Work.{Updated, Next, Jump, Halted, moved, afterᵘ}
 use Rattle.rules.specs.Layout.{bAt}
 use Rattle.rules.specs.Tree.{Cases, noCase, below, casesAt}
 use Rattle.rules.specs.Evaluate.{Env}
-use Rattle.rules.specs.Update.{onOccurrence}
-use Rattle.current.specs.Current.{soonest, goC}
+use Rattle.current.specs.Current.{soonest}
+use Rattle.recalled.specs.Recall.{Memory, Recalled, fillC, leaving, onOutcome, onOccurrenceᵐ, recallC}
+use Rattle.noted.specs.Noted.{memoryIn}
 use Rattle.rules.specs.declared.Tally.{Tally}
 use Rattle.rules.specs.declared.Moved.{Moved}
 use Rattle.rules.specs.declared.Moved.the-variants.{Stay}
@@ -49,15 +51,22 @@ movedIn m =
     else if ltb m 1048576 then Stay (tallyIn m)
     else Moved.Jump (targetIn m) (unpacked (jumpValue m)) (tallyIn m)
 
+-- An update's number, with the state and the slots of definitions that it leaves.
+abbrev pub leftIn : ℕ → Bytes → List ℕ → Recalled
+leftIn r st memo = leaving (moved (movedIn r) st) (memoryIn memo)
+
 -- The walk over the cases: the first present event, from the state as it was; where none is present, the events are updated.
-unfoldable pub walked : Bytes → Env → Cases → Bytes → Updated
-walked rec env cs st = onOccurrence (soonest rec st env cs) st (goC rec env cs st)
+unfoldable pub walked : Bytes → Env → Cases → Bytes → Memory → Recalled
+walked rec env cs st m = onOccurrenceᵐ (soonest rec st env cs) st (fillC rec st env cs m) (recallC rec env cs st (fillC rec st env cs m))
 
 -- The walk from a case whose event is absent: on to the next case, and where none was present the event is updated on the way back.
-unfoldable pub walkedOn : Updated → (Bytes → Updated) → Updated
-walkedOn (Next st w) f = afterᵘ w (f st)
-walkedOn (Jump target v st w) f = Jump target v st w
-walkedOn Halted f = Halted
+unfoldable pub onWalked : Updated → Memory → (Bytes → Memory → Recalled) → Recalled
+onWalked (Next st w) m f = onOutcome (afterᵘ w) (f st m)
+onWalked (Jump target v st w) m f = leaving (Jump target v st w) m
+onWalked Halted m f = leaving Halted m
+
+abbrev pub walkedOn : Recalled → (Bytes → Memory → Recalled) → Recalled
+walkedOn r f = onWalked (r .outcome) (r .memory) f
 
 -- The cases after case j.
 unfoldable pub nextCases : Bytes → ℕ → Cases

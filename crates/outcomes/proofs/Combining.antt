@@ -21,7 +21,7 @@ use Rattle.rules.specs.declared.Evaluated.{Evaluated}
 use Rattle.rules.specs.declared.Evaluated.the-variants.{Done, Stuck}
 use Rattle.rules.proofs.Static.{and-both}
 use Rattle.rules.proofs.Round.{plain-no}
-use Rattle.outcomes.specs.Combine.{countOf, workOf, wordBy, armBy, armOf, partsBy, partsOf}
+use Rattle.outcomes.specs.Combine.{countOf, workOf, wordBy, armBy, armIn, partsBy, partsOf}
 use Rattle.outcomes.specs.Outcome.{tallyIn, outcomeIn, IsProper}
 use Rattle.outcomes.specs.declared.Arm.the-variants.{Go, Neither}
 use Rattle.outcomes.specs.declared.Event.the-variants.{Occurs, Quiet}
@@ -148,8 +148,8 @@ unfolding negated notOf wordBy after
 negated-by (Done u x) = refl
 negated-by Stuck = refl
 
-arm-by-word : (r : Evaluated) (yes₀ no₀ : ℕ) → armOf r yes₀ no₀ ≡ armBy (wordBy boolT r) (countOf r) yes₀ no₀
-unfolding armOf armBy wordBy
+arm-by-word : (r : Evaluated) (yes₀ no₀ : ℕ) → armIn r yes₀ no₀ ≡ armBy (wordBy boolT r) (countOf r) yes₀ no₀
+unfolding armIn armBy wordBy
 arm-by-word (Done u x) yes₀ no₀ = refl
 arm-by-word Stuck yes₀ no₀ = refl
 
@@ -219,15 +219,15 @@ module _ (r : ℕ) {x : Word} (f : x ≡ wordBy boolT (outcomeIn r)) where
 
 -- The arm, by the word of the test.
 module _ (r yes₀ no₀ : ℕ) {x : Word} (f : x ≡ wordBy boolT (outcomeIn r)) where
-  pub arm-neither : x ≡ Not → Neither ≡ armOf (outcomeIn r) yes₀ no₀
+  pub arm-neither : x ≡ Not → Neither ≡ armIn (outcomeIn r) yes₀ no₀
   unfolding armBy
   arm-neither h = rw (arm-by-word (outcomeIn r) yes₀ no₀, ← f, h)
 
-  pub arm-first : {a : ℕ} {w : Tally} → x ≡ Is a → a ≡ 1 → w ≡ tallyIn (middleIn r) → Go yes₀ w ≡ armOf (outcomeIn r) yes₀ no₀
+  pub arm-first : {a : ℕ} {w : Tally} → x ≡ Is a → a ≡ 1 → w ≡ tallyIn (middleIn r) → Go yes₀ w ≡ armIn (outcomeIn r) yes₀ no₀
   unfolding armBy isTrue
   arm-first h z u = rw (arm-by-word (outcomeIn r) yes₀ no₀, ← f, h, eq-eqb _ _ z, count-is r, u)
 
-  pub arm-second : {a : ℕ} {w : Tally} → x ≡ Is a → (a ≡ 1 → ⊥) → w ≡ tallyIn (middleIn r) → Go no₀ w ≡ armOf (outcomeIn r) yes₀ no₀
+  pub arm-second : {a : ℕ} {w : Tally} → x ≡ Is a → (a ≡ 1 → ⊥) → w ≡ tallyIn (middleIn r) → Go no₀ w ≡ armIn (outcomeIn r) yes₀ no₀
   unfolding armBy isTrue
   arm-second h z u = rw (arm-by-word (outcomeIn r) yes₀ no₀, ← f, h, ne-eqb _ _ z, count-is r, u)
 

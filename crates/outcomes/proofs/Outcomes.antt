@@ -24,7 +24,7 @@ use Rattle.rules.specs.declared.Evaluated.the-variants.{Done, Stuck}
 use Rattle.rules.proofs.Round.{plain-yes}
 use Rattle.rules.proofs.Static.{and-both}
 use Rattle.rules.proofs.Within.{Within}
-use Rattle.outcomes.specs.Combine.{workOf, armBy, armOf, partsBy, partsOf}
+use Rattle.outcomes.specs.Combine.{workOf, armBy, armIn, partsBy, partsOf}
 use Rattle.outcomes.specs.Outcome.{IsValue, IsProper, tallyIn, outcomeIn, IsOutcome, valueIn, shownIn}
 use Rattle.outcomes.specs.declared.Arm.the-variants.{Go, Neither}
 use Rattle.outcomes.specs.declared.Event.{Event}
@@ -56,8 +56,8 @@ module _ (x y : ℕ) where
       go false e = cc
   arm-by Not w f e = absurd (apart-arms e)
 
-  pub arm-goes : (r : Evaluated) (f : ℕ → Evaluated) {m : ℕ} {u : Tally} → armOf r x y ≡ Go m u → chosen r (f x) (f y) ≡ after u (f m)
-  unfolding armOf chosen
+  pub arm-goes : (r : Evaluated) (f : ℕ → Evaluated) {m : ℕ} {u : Tally} → armIn r x y ≡ Go m u → chosen r (f x) (f y) ≡ after u (f m)
+  unfolding armIn chosen
   arm-goes (Done v w) f e = arm-by (plainWord boolT v) w f e
   arm-goes Stuck f e = absurd (apart-arms e)
 
@@ -66,8 +66,8 @@ module _ (x y : ℕ) where
   none-by (Is b) w r s e = absurd (arms-apart e)
   none-by Not w r s e = refl
 
-  pub arm-none : (q r s : Evaluated) → armOf q x y ≡ Neither → chosen q r s ≡ Stuck
-  unfolding armOf chosen
+  pub arm-none : (q r s : Evaluated) → armIn q x y ≡ Neither → chosen q r s ≡ Stuck
+  unfolding armIn chosen
   arm-none (Done v w) r s e = none-by (plainWord boolT v) w r s e
   arm-none Stuck r s e = refl
 
@@ -81,8 +81,8 @@ module _ (x y : ℕ) where
       go false e h g = subst P (let q : y ≡ m = cc in q) g
   one-by P Not w e h g = absurd (apart-arms e)
 
-  pub arm-one : (P : ℕ → Type 0) (r : Evaluated) {m : ℕ} {u : Tally} → armOf r x y ≡ Go m u → P x → P y → P m
-  unfolding armOf
+  pub arm-one : (P : ℕ → Type 0) (r : Evaluated) {m : ℕ} {u : Tally} → armIn r x y ≡ Go m u → P x → P y → P m
+  unfolding armIn
   arm-one P (Done v w) e h g = one-by P (plainWord boolT v) w e h g
   arm-one P Stuck e h g = absurd (apart-arms e)
 
@@ -92,8 +92,8 @@ module _ (x y : ℕ) where
   count-by (Is b) w e = cc
   count-by Not w e = absurd (apart-arms e)
 
-  pub arm-work : (r : Evaluated) {m : ℕ} {u : Tally} → armOf r x y ≡ Go m u → u .work ≡ workOf r
-  unfolding armOf
+  pub arm-work : (r : Evaluated) {m : ℕ} {u : Tally} → armIn r x y ≡ Go m u → u .work ≡ workOf r
+  unfolding armIn
   arm-work (Done v w) e = ap (λ (t : Tally). t .work) (count-by (plainWord boolT v) w e)
   arm-work Stuck e = absurd (apart-arms e)
 

@@ -39,9 +39,9 @@ unfoldable pub armBy : Word → Tally → ℕ → ℕ → Arm
 armBy (Is b) w yes₀ no₀ = Go (if isTrue b then yes₀ else no₀) w
 armBy Not w yes₀ no₀ = Neither
 
-unfoldable pub armOf : Evaluated → ℕ → ℕ → Arm
-armOf (Done u w) yes₀ no₀ = armBy (plainWord boolT u) w yes₀ no₀
-armOf Stuck yes₀ no₀ = Neither
+unfoldable pub armIn : Evaluated → ℕ → ℕ → Arm
+armIn (Done u w) yes₀ no₀ = armBy (plainWord boolT u) w yes₀ no₀
+armIn Stuck yes₀ no₀ = Neither
 
 -- The parts of a maybe that was opened, and of its outcome: what it holds is given by its 8 bytes.
 unfoldable pub partsBy : Opened → Tally → Parts

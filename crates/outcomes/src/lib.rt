@@ -8,7 +8,7 @@ ghost use Rattle.rules.specs.Work.{noted, _plus_, give, after as afterOf, rule}
 ghost use Rattle.rules.specs.Evaluate.{look as lookOf, meant, operated as operatedOf, negated as negatedOf, lifted as liftedOf};
 ghost use Rattle.rules.specs.declared.Word.the-variants.{Is};
 ghost use Rattle.rules.specs.declared.Evaluated.the-variants.{Done};
-ghost use Rattle.outcomes.specs.Combine.{workOf, wordBy, armOf as armIn, partsOf};
+ghost use Rattle.outcomes.specs.Combine.{workOf, wordBy, armIn, partsOf};
 ghost use Rattle.outcomes.specs.Outcome.{tallyIn, outcomeIn, IsOutcome, IsProper, Slots, valueIn, shownIn};
 use rules::BOOL;
 use rules::INT;

@@ -38,14 +38,15 @@ use Rattle.outcomes.proofs.Tallies.{same-tally}
 use Rattle.moves.proofs.NumberLaws.{or-same}
 use Rattle.outcomes.proofs.Outcomes.{work-within, slots-none}
 use Rattle.rules.proofs.Within.{evalS-within}
-use Rattle.current.specs.Current.{goS}
-use Rattle.current.proofs.SameUpdate.{root-same}
+use Rattle.recalled.specs.Recall.{fillS, recallS}
+use Rattle.recalled.proofs.RootRecall.{root-recalled}
+use Rattle.noted.specs.Noted.{memoryIn, Notes}
 use Rattle.moves.specs.Outcomes.{calmOf}
 use Rattle.moves.specs.declared.Calm.the-variants.{Still, Broken}
 use Rattle.promises.specs.Small.{Small}
 use Rattle.promises.proofs.FromTable.{seated}
 use Rattle.promises.proofs.Steps.{StepGoes, step-goes, well-parts}
-use Rattle.steps.specs.Going.{Going, Held, Taken, Displayed, Advanced, displayedIn, mostWork}
+use Rattle.steps.specs.Going.{Going, Held, Told, Taken, Displayed, Advanced, displayedIn, mostWork}
 
 -- a program of at most 1,008 nodes has a small bound
 few : (n : ℕ) → n ≤ 1008 → n * (n + 1) ≤ mostWork
@@ -163,6 +164,14 @@ module _ (p rec st : Bytes) where
 
 -- in the terms of the code: a call at node count - 1 with the lent scratch
 module _ {p : Bytes} {index : List ℕ} {size : ℕ} {env : Env} {count : ℕ} (g : Held p index size env count) where
+  -- what it notes is told to the update
+  pub told : (rec st : Bytes) {l l₁ : List ℕ} → Notes p l l₁ (fillS rec st env (signalAt p (count - 1))) → Told p rec st l₁
+  told rec st {l = l} h = record {
+    before = memoryIn l;
+    filled = h .filled ∙ (λ i. fillS rec st (g .blank i) (root-at p count (g .counted) i) (memoryIn l));
+    noted = h .noted;
+  }
+
   module _ (rec st : Bytes) {r : Evaluated} (e : r ≡ evalS rec st env (signalAt p (count - 1))) where
     evaluated-at : r ≡ evalS rec st (unbound mostNodes) (root p)
     evaluated-at = e ∙ (λ i. evalS rec st (g .blank i) (root-at p count (g .counted) i))
@@ -195,53 +204,54 @@ module _ {p st : Bytes} {index : List ℕ} {env : Env} {count : ℕ} (g : Going 
     goes : StepGoes p rec st
     goes = step-goes p rec st (g .accepted) (seated p hp (g .accepted)) (g .well) hs hr
 
-    updated-at : {u : Updated} → u ≡ goS rec env (signalAt p (count - 1)) st → updS rec (unbound mostNodes) (root p) st ≡ u
-    updated-at h =
-        sym (h ∙ (λ i. goS rec (g .blank i) (root-at p count (g .counted) i) st)
-        ∙ root-same p rec st (g .accepted) (seated p hp (g .accepted)) (g .well) hs hr)
+    module _ {memo : List ℕ} (told : Told p rec st memo) where
+      updated-at : {u : Updated} → u ≡ recallS rec env (signalAt p (count - 1)) st (memoryIn memo) .outcome → updS rec (unbound mostNodes) (root p) st ≡ u
+      updated-at h =
+          sym (h ∙ (λ i. recallS rec (g .blank i) (root-at p count (g .counted) i) st (told .filled i) .outcome)
+          ∙ root-recalled p rec st (g .accepted) (seated p hp (g .accepted)) (g .well) hs hr (told .before))
 
-    module _ (x : Moved) (st₁ : Bytes) (h : moved x st₁ ≡ goS rec env (signalAt p (count - 1)) st) where
-      never-halted : x ≡ Moved.Stuck → ⊥
-      unfolding moved
-      never-halted k = let e = both p rec st goes .updates in let z : _≡_ {A = ℕ} 0 1 = cc (updated-at h ∙ ap (λ (y : Moved). moved y st₁) k) in omega arith
+      module _ (x : Moved) (st₁ : Bytes) (h : moved x st₁ ≡ recallS rec env (signalAt p (count - 1)) st (memoryIn memo) .outcome) where
+        never-halted : x ≡ Moved.Stuck → ⊥
+        unfolding moved
+        never-halted k = let e = both p rec st goes .updates in let z : _≡_ {A = ℕ} 0 1 = cc (updated-at h ∙ ap (λ (y : Moved). moved y st₁) k) in omega arith
 
-      never-jumps : {w : Value} {t : Tally} {j : ℕ} → x ≡ Moved.Jump j w t → ⊥
-      unfolding moved
-      never-jumps k = let e = both p rec st goes .updates in let z : _≡_ {A = ℕ} 0 1 = cc (updated-at h ∙ ap (λ (y : Moved). moved y st₁) k) in omega arith
+        never-jumps : {w : Value} {t : Tally} {j : ℕ} → x ≡ Moved.Jump j w t → ⊥
+        unfolding moved
+        never-jumps k = let e = both p rec st goes .updates in let z : _≡_ {A = ℕ} 0 1 = cc (updated-at h ∙ ap (λ (y : Moved). moved y st₁) k) in omega arith
 
-      broken : (y : Moved) → x ≡ y → calmOf y ≡ Broken → ⊥
-      unfolding calmOf
-      broken (Moved.Stay t) k e = let z : _≡_ {A = ℕ} 0 1 = cc in omega arith
-      broken (Moved.Jump j w t) k e = never-jumps k
-      broken Moved.Stuck k e = never-halted k
+        broken : (y : Moved) → x ≡ y → calmOf y ≡ Broken → ⊥
+        unfolding calmOf
+        broken (Moved.Stay t) k e = let z : _≡_ {A = ℕ} 0 1 = cc in omega arith
+        broken (Moved.Jump j w t) k e = never-jumps k
+        broken Moved.Stuck k e = never-halted k
 
-      pub never-broken : calmOf x ≡ Broken → ⊥
-      never-broken e = broken x refl e
+        pub never-broken : calmOf x ≡ Broken → ⊥
+        never-broken e = broken x refl e
 
-      pub advances : {t : Tally} → calmOf x ≡ Still t → {st₂ : Bytes} {moment : ℕ} → st₂ ≡ setTime st₁ moment → moment ≡ timeIn rec
-          → Advanced p rec st st₂ t
-      unfolding moved _plus_
-      advances {t} c {st₂} a b =
-          let m = goes in
-          let k = still-stay x c in
-          let e = both p rec st m .evaluates in
-          let q : stepOf p rec st ≡ Made (both p rec st m .value) st₂ (both p rec st m .seen plus t) =
-          by-parts p rec st e (updated-at h ∙ ap (λ (y : Moved). moved y st₁) k)
-          ∙ ap (λ (s : Bytes). Made (both p rec st m .value) s (both p rec st m .seen plus t)) (sym (a ∙ ap (setTime st₁) b)) in
-          let s : st₂ ≡ m .state = cc (m .made) in
-          let w : (both p rec st m .seen plus t) ≡ m .tally = cc (m .made) in
-          record {
-            output = both p rec st m .value;
-            seen = both p rec st m .seen;
-            evaluates = e;
-            made = q;
-            well = λ h. rw s (m .well h);
-            within = omega (arith, m .within, ap (λ (x : Tally). x .work) w);
-            below = omega (arith, small-bound p (g .accepted), m .within, ap (λ (x : Tally). x .work) w);
-          }
+        pub advances : {t : Tally} → calmOf x ≡ Still t → {st₂ : Bytes} {moment : ℕ} → st₂ ≡ setTime st₁ moment → moment ≡ timeIn rec
+            → Advanced p rec st st₂ t
+        unfolding moved _plus_
+        advances {t} c {st₂} a b =
+            let m = goes in
+            let k = still-stay x c in
+            let e = both p rec st m .evaluates in
+            let q : stepOf p rec st ≡ Made (both p rec st m .value) st₂ (both p rec st m .seen plus t) =
+            by-parts p rec st e (updated-at h ∙ ap (λ (y : Moved). moved y st₁) k)
+            ∙ ap (λ (s : Bytes). Made (both p rec st m .value) s (both p rec st m .seen plus t)) (sym (a ∙ ap (setTime st₁) b)) in
+            let s : st₂ ≡ m .state = cc (m .made) in
+            let w : (both p rec st m .seen plus t) ≡ m .tally = cc (m .made) in
+            record {
+              output = both p rec st m .value;
+              seen = both p rec st m .seen;
+              evaluates = e;
+              made = q;
+              well = λ h. rw s (m .well h);
+              within = omega (arith, m .within, ap (λ (x : Tally). x .work) w);
+              below = omega (arith, small-bound p (g .accepted), m .within, ap (λ (x : Tally). x .work) w);
+            }
 
-      pub calm-small : {t : Tally} → calmOf x ≡ Still t → t .work ≤ mostWork
-      calm-small k = advances k {st₂ = setTime st₁ (timeIn rec)} {moment = timeIn rec} refl refl .below
+        pub calm-small : {t : Tally} → calmOf x ≡ Still t → t .work ≤ mostWork
+        calm-small k = advances k {st₂ = setTime st₁ (timeIn rec)} {moment = timeIn rec} refl refl .below
 
 -- shown and advanced, a step is taken
 pub step-taken : {p rec st st₁ out out₁ : Bytes} {place : ℕ} {a b : Tally} → Displayed (evalS rec st (unbound mostNodes) (root p)) out out₁ place a

@@ -23,6 +23,8 @@ use Rattle.rules.specs.declared.Evaluated.{Evaluated}
 use Rattle.rules.specs.declared.Evaluated.the-variants.{Done, Stuck}
 use Rattle.outcomes.specs.Combine.{countOf}
 use Rattle.cells.specs.Indexed.{Indexed}
+use Rattle.recalled.specs.Recall.{Memory, fillS}
+use Rattle.noted.specs.Noted.{memoryIn, Noted}
 
 -- An accepted program of so many nodes with its table of cells, a well-formed state, and a scratch in which nothing is bound.
 pub record Going (p : Bytes) (index : List ℕ) (st : Bytes) (env : Env) (count : ℕ) : Type 0 where
@@ -39,6 +41,12 @@ pub record Held (p : Bytes) (index : List ℕ) (size : ℕ) (env : Env) (count :
   pub counted : count ≡ nodes p
   pub cells : stateLength p ≤ size
   pub blank : env ≡ unbound mostNodes
+
+-- The slots hold what the evaluation of this step's root has noted, whatever they held before it.
+pub record Told (p rec st : Bytes) (memo : List ℕ) : Type 0 where
+  pub before : Memory
+  pub filled : memoryIn memo ≡ fillS rec st (unbound mostNodes) (root p) before
+  pub noted : Noted p memo
 
 -- What is shown of an evaluation at a place of the output room: its value, where there is one.
 unfoldable pub displayedIn : Evaluated → Bytes → ℕ → Bytes

@@ -6,7 +6,8 @@ ghost use Rattle.rules.specs.Layout.{inputLength, headerLength, mostNodes};
 ghost use Rattle.rules.specs.Tree.{root};
 ghost use Rattle.rules.specs.Evaluate.{unbound, evalS};
 ghost use Rattle.rules.specs.Calls.{recordVerdict, noStep, firstWrapped, runFrom};
-ghost use Rattle.steps.specs.Going.{Going, Held, Displayed, Advanced, Taken, Leaves, mostWork};
+ghost use Rattle.steps.specs.Going.{Going, Held, Told, Displayed, Advanced, Taken, Leaves, mostWork};
+ghost use Rattle.noted.specs.Noted.{Noted};
 ghost use Rattle.promises.specs.Run.{workIn};
 use answers::otherwise;
 use answers::refuse_if;
@@ -46,11 +47,12 @@ fn show(
     out: &mut [u8],
     at: usize,
     count: usize,
+    memo: &mut [u64; 1008],
 ) -> Tally
-    requires { ⌜ Held (now p) (now index) (length (now st)) (now env) count × (at + 8 ≤ length (now out)) ⌝ }
-    ensures { λ w. ⌜ Displayed (evalS (now (rec .entry)) (now (st .entry)) (unbound mostNodes) (root (now (p .entry)))) (now (out .entry)) (now (out .exit)) at w × (now (env .exit) ≡ now (env .entry)) ⌝ }
+    requires { ⌜ Held (now p) (now index) (length (now st)) (now env) count × (at + 8 ≤ length (now out)) × Noted (now p) (now memo) ⌝ }
+    ensures { λ w. ⌜ Displayed (evalS (now (rec .entry)) (now (st .entry)) (unbound mostNodes) (root (now (p .entry)))) (now (out .entry)) (now (out .exit)) at w × (now (env .exit) ≡ now (env .entry)) × Told (now (p .entry)) (now (rec .entry)) (now (st .entry)) (now (memo .exit)) ⌝ }
 {
-    let outcome = evaluated(&p, index, &rec, st, env, count - 1);
+    let outcome = evaluated(&p, index, &rec, st, env, count - 1, memo);
     let shown = outcomes::show(outcome);
     match shown {
         Shown::Stuck => Tally {
@@ -73,11 +75,12 @@ fn advance(
     st: &mut [u8],
     env: &mut [u64; 1008],
     count: usize,
+    memo: &mut [u64; 1008],
 ) -> Tally
-    requires { ⌜ Going (now p) (now index) (now st) (now env) count × (inputLength ≤ length (now rec)) ⌝ }
-    ensures { λ w. ⌜ Advanced (now (p .entry)) (now (rec .entry)) (now (st .entry)) (now (st .exit)) w × Held (now (p .entry)) (now (index .entry)) (length (now (st .exit))) (now (env .exit)) count ⌝ }
+    requires { ⌜ Going (now p) (now index) (now st) (now env) count × (inputLength ≤ length (now rec)) × Told (now p) (now rec) (now st) (now memo) ⌝ }
+    ensures { λ w. ⌜ Advanced (now (p .entry)) (now (rec .entry)) (now (st .entry)) (now (st .exit)) w × Held (now (p .entry)) (now (index .entry)) (length (now (st .exit))) (now (env .exit)) count × Noted (now (p .entry)) (now (memo .exit)) ⌝ }
 {
-    let moved = update_s(&p, index, &rec, st, env, count - 1);
+    let moved = update_s(&p, index, &rec, st, env, count - 1, memo);
     let Calm::Still(w) = settled(moved) else {
         return Tally {
             work: 0,
@@ -98,12 +101,13 @@ fn make_step(
     out: &mut [u8],
     at: usize,
     count: usize,
+    memo: &mut [u64; 1008],
 ) -> Tally
-    requires { ⌜ Going (now p) (now index) (now st) (now env) count × (inputLength ≤ length (now rec)) × (at + 8 ≤ length (now out)) ⌝ }
-    ensures { λ w. ⌜ Taken (now (p .entry)) (now (rec .entry)) (now (st .entry)) (now (st .exit)) (now (out .entry)) (now (out .exit)) at w × (now (env .exit) ≡ now (env .entry)) ⌝ }
+    requires { ⌜ Going (now p) (now index) (now st) (now env) count × (inputLength ≤ length (now rec)) × (at + 8 ≤ length (now out)) × Noted (now p) (now memo) ⌝ }
+    ensures { λ w. ⌜ Taken (now (p .entry)) (now (rec .entry)) (now (st .entry)) (now (st .exit)) (now (out .entry)) (now (out .exit)) at w × (now (env .exit) ≡ now (env .entry)) × Noted (now (p .entry)) (now (memo .exit)) ⌝ }
 {
-    let seen = show(p, index, rec, st, env, out, at, count);
-    let moved = advance(p, index, rec, st, env, count);
+    let seen = show(p, index, rec, st, env, out, at, count, memo);
+    let moved = advance(p, index, rec, st, env, count, memo);
     Tally {
         work: seen.work + moved.work,
         wrapped: seen.wrapped | moved.wrapped,
@@ -122,7 +126,7 @@ fn first_wrapped(mark: u32, done: u32, w: Tally) -> u32
     mark
 }
 
-// The records of a run, one after the other, until one is refused. More records may follow in another run. (No step works more than 1,008
+// The records of a run, one after the other, until one is refused. The slots of definitions' outcomes are made once for the run. More records may follow in another run. (No step works more than 1,008
 // times 1,009, so that the work of 4,096 is below 2 to the 32nd.)
 pub fn run_records(
     p: &[u8],
@@ -136,6 +140,7 @@ pub fn run_records(
     requires { ⌜ Going (now p) (now index) (now st) (now env) count × (length (now recs) ≤ 163840) × (length (now out) ≡ 8 * (length (now recs) / inputLength)) ⌝ }
     ensures { λ r. ⌜ Leaves (runFrom (now (p .entry)) (now (recs .entry)) (length (now (recs .entry)) / inputLength) 0 0 noStep (now (st .entry)) (now (out .entry))) r (now (st .exit)) (now (out .exit)) × Going (now (p .entry)) (now (index .entry)) (now (st .exit)) (now (env .exit)) count × (workIn r ≤ mostWork * (length (now (recs .entry)) / inputLength)) ⌝ }
 {
+    let mut memo: [u64; 1008] = [0; 1008];
     let left = recs.len() / 40;
     let mut done: usize = 0;
     let mut work: u32 = 0;
@@ -148,7 +153,7 @@ pub fn run_records(
         if let Verdict::Refuse(r) = found {
             return Ran::Refused(r, work, mark);
         }
-        let spent = make_step(p, index, rec, st, env, out, 8 * done, count);
+        let spent = make_step(p, index, rec, st, env, out, 8 * done, count, &mut memo);
         work += spent.work as u32;
         mark = first_wrapped(mark, done as u32, spent);
         done += 1;

@@ -25,10 +25,11 @@ use Rattle.outcomes.specs.Combine.{partsOf}
 use Rattle.outcomes.specs.declared.Event.{Event}
 use Rattle.outcomes.specs.declared.Parts.the-variants.{Maybe}
 use Rattle.outcomes.proofs.Tallies.{counted, same-tally, or-no, yes-or, no-or, plus-assoc, one-first, four-parts}
-use Rattle.current.specs.Current.{goS}
+use Rattle.recalled.specs.Recall.{Memory, Recalled, fillS, leaving, onOutcome, recallS}
+use Rattle.noted.specs.Noted.{memoryIn, Noted}
 use Rattle.moves.specs.Outcomes.{workOf, calmOf, countIn, tallyIn, targetIn, jumpValue, movedIn, walked}
 use Rattle.moves.specs.Lent.{ReadyC, CaseAs}
-use Rattle.moves.proofs.KindLaws.{low-updates}
+use Rattle.moves.proofs.KindLaws.{low-fills, low-updates}
 use Rattle.moves.proofs.ReadyLaws.{case-part, case-rest}
 use Rattle.moves.proofs.NumberLaws.{moved-stays, moved-jumps, more-moved, more-count}
 use Rattle.moves.proofs.WalkLaws.{walk-quiet, walk-count, goes-on, broken-on}
@@ -77,21 +78,29 @@ module _ {p : Bytes} {index : List ℕ} (rec st : Bytes) {env : Env} {j : ℕ} {
   gone : partsOf (evalS rec st env (signalAt p (n .a))) ≡ Maybe Event.Quiet (seenIn u)
   gone = rw (r .fields .a-is) (q .absent o)
 
-  updates : (s : Bytes) → moved (movedIn 1) s ≡ goS rec env (signalAt p (n .a)) s
-  updates s = low-updates p (n .a) (case-part r .ready .node) rec env s refl (rw (r .fields .a-is) (q .idle o))
+  idle : (mem : Memory) → mem ≡ fillS rec st env (signalAt p (n .a)) mem
+  idle mem = low-fills p (n .a) (case-part r .ready .node) rec env st mem (rw (r .fields .a-is) (q .idle o))
 
-  passed-by : (X : Updated) → X ≡ walked rec env (casesAt p (n .b)) st → quietly u 1 X ≡ walked rec env (casesAt p j) st
+  updates : (s : Bytes) (mem : Memory) → leaving (moved (movedIn 1) s) mem ≡ recallS rec env (signalAt p (n .a)) s mem
+  updates s mem = low-updates p (n .a) (case-part r .ready .node) rec env s mem refl (rw (r .fields .a-is) (q .idle o))
+
+  passed-by : (mem : Memory) (X : Updated) (y : Memory) → leaving X y ≡ walked rec env (casesAt p (n .b)) st mem
+      → leaving (quietly u 1 X) y ≡ walked rec env (casesAt p j) st mem
   unfolding quietly keeping afterᵘ moved movedIn tallyIn countIn stays calmOf
-  passed-by (Next s w) h =
-      walk-quiet p j (r .ready .node) (r .fields) rec env st refl gone refl (Stay (w plus counted 1)) s
-      (goes-on p j (r .ready .node) (r .fields) rec env st on (Stay w) s h refl refl (movedIn 1) s (updates s) refl refl)
+  passed-by mem (Next s w) y h =
+      walk-quiet p j (r .ready .node) (r .fields) rec env st mem refl (idle mem) gone refl (Stay (w plus counted 1)) s
+      (goes-on p j (r .ready .node) (r .fields) rec env st mem on (Stay w) s h refl refl (movedIn 1) s (updates s y) refl refl)
       (ap (λ (x : Tally). Next s (seenIn u plus x)) (one-first w))
-  passed-by (Jump target v s w) h =
-      walk-quiet p j (r .ready .node) (r .fields) rec env st refl gone refl (Moved.Jump target v w) s
-      (broken-on p j (r .ready .node) (r .fields) rec env st on (Moved.Jump target v w) s h refl) refl
-  passed-by Halted h =
-      walk-quiet p j (r .ready .node) (r .fields) rec env st refl gone refl Moved.Stuck st
-      (broken-on p j (r .ready .node) (r .fields) rec env st on Moved.Stuck st h refl) refl
+  passed-by mem (Jump target v s w) y h =
+      walk-quiet p j (r .ready .node) (r .fields) rec env st mem refl (idle mem) gone refl (Moved.Jump target v w) s
+      (broken-on p j (r .ready .node) (r .fields) rec env st mem on (Moved.Jump target v w) s h refl) refl
+  passed-by mem Halted y h =
+      walk-quiet p j (r .ready .node) (r .fields) rec env st mem refl (idle mem) gone refl Moved.Stuck st
+      (broken-on p j (r .ready .node) (r .fields) rec env st mem on Moved.Stuck st h refl) refl
+
+  pub pass-one : (mem : Memory) → walked rec env (casesAt p j) st mem ≡ onOutcome (quietly u 1) (walked rec env (casesAt p (n .b)) st mem)
+  unfolding onOutcome
+  pass-one mem = let W = walked rec env (casesAt p (n .b)) st mem in sym (passed-by mem (W .outcome) (W .memory) refl)
 
   pub counted-small : u % 4294967296 < 65536
   counted-small = q .small
@@ -105,13 +114,23 @@ module _ {p : Bytes} {index : List ℕ} (rec st : Bytes) {env : Env} {j : ℕ} {
 -- The loop at a case, with what it has counted.
 pub record Passing (p : Bytes) (index : List ℕ) (rec st : Bytes) (env : Env) (j i seen kept : ℕ) : Type 0 where
   pub ready : ReadyC p index (length st) env i
-  pub same : walked rec env (casesAt p j) st ≡ quietly seen kept (walked rec env (casesAt p i) st)
+  pub same : (mem : Memory) → walked rec env (casesAt p j) st mem ≡ onOutcome (quietly seen kept) (walked rec env (casesAt p i) st mem)
   pub down : kept + i ≤ j
   pub few : seen % 4294967296 ≤ 65536 * kept
   pub marks : seen < 4294967296 * kept + 4294967296
 
+-- The same of what leaves a memory too.
+quiet-none : (r : Recalled) → r ≡ onOutcome (quietly 0 0) r
+unfolding onOutcome
+quiet-none r = ap (λ (o : Updated). leaving o (r .memory)) (quietly-none (r .outcome))
+
+quiet-more : (s k u : ℕ) (r : Recalled) → s % 4294967296 + u % 4294967296 < 4294967296
+    → onOutcome (quietly s k) (onOutcome (quietly u 1) r) ≡ onOutcome (quietly (s + u) (k + 1)) r
+unfolding onOutcome
+quiet-more s k u r h = ap (λ (o : Updated). leaving o (r .memory)) (quietly-more s k u (r .outcome) h)
+
 pub pass-start : {p : Bytes} {index : List ℕ} (rec st : Bytes) {env : Env} {j : ℕ} → ReadyC p index (length st) env j → Passing p index rec st env j j 0 0
-pass-start rec st r = record { ready = r; same = quietly-none _; down = omega arith; few = omega arith; marks = omega arith }
+pass-start rec st r = record { ready = r; same = λ mem. quiet-none _; down = omega arith; few = omega arith; marks = omega arith }
 
 -- The counts stay small: no more cases are passed than there are nodes.
 low-sum : (seen u kept : ℕ) → seen % 4294967296 ≤ 65536 * kept → u % 4294967296 < 65536 → kept < 1008
@@ -124,12 +143,11 @@ pub pass-next : {p : Bytes} {index : List ℕ} {rec st : Bytes} {env : Env} {j i
 pass-next {p} {index} {rec} {st} {env} {j} {i} {seen} {kept} w s {n} f {u} q o =
     let r : CaseAs p index (length st) env i n = record { ready = s .ready; fields = f } in
     let k = next-ready rec st r q o in
-    let room = low-sum seen u kept (s .few) (counted-small rec st r q o) (omega (arith, w .inside, w .shaped .small, s .down, k .0)) in
-    let W = walked rec env (casesAt p (n .b)) st in (
+    let room = low-sum seen u kept (s .few) (counted-small rec st r q o) (omega (arith, w .inside, w .shaped .small, s .down, k .0)) in (
       k .0,
       record {
         ready = k .1;
-        same = s .same ∙ ap (quietly seen kept) (sym (passed-by rec st r q o W refl)) ∙ quietly-more seen kept u W (room .0);
+        same = λ mem. s .same mem ∙ ap (onOutcome (quietly seen kept)) (pass-one rec st r q o mem) ∙ quiet-more seen kept u (walked rec env (casesAt p (n .b)) st mem) (room .0);
         down = omega (arith, s .down, k .0);
         few = room .1;
         marks = omega (arith, s .marks, counted-once rec st r q o);
@@ -152,7 +170,7 @@ quiet-again {p} {rec = rec} {st = st} {i = i} s q h = q ∙ ap (λ (x : Env). qu
 pub record Passes (p : Bytes) (index : List ℕ) (rec st : Bytes) (env : Env) (j : ℕ) (s : Passed) : Type 0 where
   pub ready : ReadyC p index (length st) env (s .at)
   pub down : s .at ≤ j
-  pub same : walked rec env (casesAt p j) st ≡ quietly (s .seen) (s .kept) (walked rec env (casesAt p (s .at)) st)
+  pub same : (mem : Memory) → walked rec env (casesAt p j) st mem ≡ onOutcome (quietly (s .seen) (s .kept)) (walked rec env (casesAt p (s .at)) st mem)
   pub few-kept : s .kept < 4294967296
 
 pass-end : {p : Bytes} {index : List ℕ} {rec st : Bytes} {env : Env} {j : ℕ} (s : Passed) → NodeOf isCase p j
@@ -281,19 +299,29 @@ still-end i k e g = rw (e, g) (let z : 0 < i + 1 = omega arith in z)
 
 -- What was passed may be added to the walk's outcome: both together are the walk from case j, whose count is within its bound.
 pub passes-fit : {p : Bytes} {index : List ℕ} {rec st : Bytes} {env : Env} {j : ℕ} {s : Passed} → ReadyC p index (length st) env j
-    → Passes p index rec st env j s → (o : ℕ) (st₁ : Bytes) → moved (movedIn o) st₁ ≡ walked rec env (casesAt p (s .at)) st → Fits s o
-unfolding quietly keeping seenIn afterᵘ _plus_ moved tallyIn
-passes-fit {p} {index} {rec} {st} {env} {j} {s} r x o st₁ e =
+    → Passes p index rec st env j s → {l : List ℕ} → Noted p l → (o : ℕ) (st₁ : Bytes) {y : Memory}
+    → leaving (moved (movedIn o) st₁) y ≡ walked rec env (casesAt p (s .at)) st (memoryIn l) → Fits s o
+unfolding quietly keeping seenIn afterᵘ _plus_ moved tallyIn onOutcome
+passes-fit {p} {index} {rec} {st} {env} {j} {s} r x {l} g o st₁ {y} e =
     record {
       still = λ n l. small (Stay (seenIn (s .seen) plus (counted (s .kept) plus tallyIn o))) (rw (moved-stays o n l) at whole);
       jumps = λ l. small (Moved.Jump (targetIn o) (unpacked (jumpValue o)) (seenIn (s .seen) plus tallyIn o)) (rw (moved-jumps o l) at whole);
     }
   where
-    whole : quietly (s .seen) (s .kept) (moved (movedIn o) st₁) ≡ walked rec env (casesAt p j) st
-    whole = ap (quietly (s .seen) (s .kept)) e ∙ sym (x .same)
+    whole : leaving (quietly (s .seen) (s .kept) (moved (movedIn o) st₁)) y ≡ walked rec env (casesAt p j) st (memoryIn l)
+    whole = ap (onOutcome (quietly (s .seen) (s .kept))) e ∙ sym (x .same (memoryIn l))
 
-    small : (m : Moved) → moved m st₁ ≡ walked rec env (casesAt p j) st → workOf m < 524288
-    small m h = omega (arith, r .small, walk-count m st₁ rec env (casesAt p j) st h)
+    small : (m : Moved) → leaving (moved m st₁) y ≡ walked rec env (casesAt p j) st (memoryIn l) → workOf m < 524288
+    small m h = omega (arith, r .small, walk-count j (r .node) g rec env st m st₁ h)
+
+-- And so the walk from case j is what was passed and the walk from there, by slots that hold what they held at first.
+pub walk-passed : {p : Bytes} {index : List ℕ} (rec st : Bytes) {env : Env} {j : ℕ} {s : Passed} → Passes p index rec st env j s → (mem : Memory) {env₁ : Env} → env₁ ≡ env
+    → {o : Updated} {y : Memory} → leaving o y ≡ walked rec env₁ (casesAt p (s .at)) st mem → {t : Updated} → t ≡ quietly (s .seen) (s .kept) o
+    → leaving t y ≡ walked rec env (casesAt p j) st mem
+unfolding onOutcome
+walk-passed {p} rec st {s = s} x mem h {y = y} e z =
+    ap (λ (o : Updated). leaving o y) z
+    ∙ ap (onOutcome (quietly (s .seen) (s .kept))) (e ∙ ap (λ (a : Env). walked rec a (casesAt p (s .at)) st mem) h) ∙ sym (x .same mem)
 
 -- The sum, by what the outcome's number is.
 module _ (s : Passed) (o : ℕ) (f : Fits s o) {u : Tally} (e : u ≡ seenIn (s .seen)) (st : Bytes) where

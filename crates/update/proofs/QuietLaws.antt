@@ -17,6 +17,7 @@ use Rattle.rules.specs.declared.Tally.{Tally}
 use Rattle.rules.specs.declared.Evaluated.{Evaluated}
 use Rattle.rules.proofs.Within.{evalS-within}
 use Rattle.outcomes.specs.Combine.{workOf, partsOf}
+use Rattle.outcomes.specs.Outcome.{outcomeIn, IsOutcome}
 use Rattle.outcomes.specs.declared.Event.{Event}
 use Rattle.outcomes.specs.declared.Event.the-variants.{Occurs}
 use Rattle.outcomes.specs.declared.Parts.{Parts}
@@ -25,7 +26,7 @@ use Rattle.outcomes.proofs.Outcomes.{work-within, take-work}
 use Rattle.outcomes.proofs.Tallies.{same-tally}
 use Rattle.moves.specs.Lent.{CaseAs}
 use Rattle.moves.proofs.ReadyLaws.{case-part, seen-small}
-use Rattle.update.specs.Passes.{seenOf, seenIn, absentWork, quietWork}
+use Rattle.update.specs.Passes.{seenOf, seenIn, absentWork, quietWork, Known}
 
 -- The count by tests: of the last case, of an event of another kind, and of an event that is looked at.
 module _ (p rec st : Bytes) (env : Env) (j : ℕ) where
@@ -55,6 +56,26 @@ module _ {p : Bytes} {index : List ℕ} (rec st : Bytes) {env : Env} {j : ℕ} {
     low-quiet h q a =
         ap absentWork (sym a ∙ ap partsOf q) ∙ ap (λ (i : ℕ). absentWork (partsOf (evalS rec st env (signalAt p i)))) (r .fields .a-is)
         ∙ sym (work-low p rec st env j (λ z. d (r .fields .b-is ∙ z)) (rw (← r .fields .a-is) (rw (← e) h)))
+
+-- What is known of an event, by its number and by slots that are the same; where nothing is; and of one that was evaluated.
+pub known-by : {p rec st : Bytes} {env : Env} {i k e : ℕ} → i ≡ k → Known p rec st env k e → Known p rec st env i e
+known-by {p} {rec} {st} {env} {e = e} h g = subst (λ (x : ℕ). Known p rec st env x e) (sym h) g
+
+pub known-again : {p rec st : Bytes} {env env₁ : Env} {i e : ℕ} → env₁ ≡ env → Known p rec st env i e → Known p rec st env₁ i e
+known-again {p} {rec} {st} {i = i} {e = e} h g = subst (λ (x : Env). Known p rec st x i e) (sym h) g
+
+pub known-none : {p rec st : Bytes} {env : Env} {i : ℕ} → Known p rec st env i 0
+known-none =
+    record {
+      low = λ h. absurd (omega (arith, h));
+      same = λ h. absurd (omega (arith, h));
+      number = λ h. absurd (omega (arith, h));
+    }
+
+pub event-known : {p : Bytes} {index : List ℕ} (rec st : Bytes) {env : Env} {j : ℕ} {n : Node} → CaseAs p index (length st) env j n
+    → {k : ℕ} → k ≡ kindAt p (n .a) → k ≤ 3 → {e : ℕ} → outcomeIn e ≡ evalS rec st env (signalAt p (n .a)) → IsOutcome e → Known p rec st env (aAt p j) e
+event-known rec st r h l q i =
+    known-by (sym (r .fields .a-is)) (record { low = λ _. rw (← h) l; same = λ _. q; number = λ _. i })
 
 -- What the event of a case counted is small.
 pub few-seen : {p : Bytes} {index : List ℕ} (rec st : Bytes) {env : Env} {j : ℕ} {n : Node} → CaseAs p index (length st) env j n

@@ -1,5 +1,6 @@
 -- The cases of an until that a loop passes: their events are absent, and to update them does nothing.
 -- Assumes nothing: these are definitions.
+use mathlib.Core.Path.{_≡_}
 use mathlib.Core.Bool.{false}
 use Prim.Native.Nat.{ℕ, zero, suc, _+_, _%_, _≤_, _<_}
 use lib.Dec.{eqb, ltb, leb}
@@ -10,6 +11,7 @@ use Rattle.rules.specs.Work.{Updated, Next, Jump, Halted, _plus_, afterᵘ}
 use Rattle.rules.specs.Evaluate.{Env, evalS}
 use Rattle.rules.specs.declared.Tally.{Tally}
 use Rattle.outcomes.specs.Combine.{partsOf}
+use Rattle.outcomes.specs.Outcome.{outcomeIn, IsOutcome}
 use Rattle.outcomes.specs.declared.Event.the-variants.{Occurs, Quiet}
 use Rattle.outcomes.specs.declared.Parts.{Parts}
 use Rattle.outcomes.specs.declared.Parts.the-variants.{Maybe, Wrong}
@@ -61,3 +63,9 @@ passedFrom p rec st env (suc fuel) j =
 pub record Fits (s : Passed) (o : ℕ) : Type 0 where
   pub still : 0 < o → o < 1048576 → s .seen % 4294967296 + (s .kept + countIn o) < 524288
   pub jumps : 1048576 ≤ o → s .seen % 4294967296 + countIn o < 524288
+
+-- A number e above 0 is the outcome of signal i, an input, time or ext; 0 says nothing.
+pub record Known (p rec st : Bytes) (env : Env) (i e : ℕ) : Type 0 where
+  pub low : 0 < e → kindAt p i ≤ 3
+  pub same : 0 < e → outcomeIn e ≡ evalS rec st env (signalAt p i)
+  pub number : 0 < e → IsOutcome e

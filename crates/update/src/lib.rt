@@ -1,4 +1,5 @@
-// Update: a signal goes one step on, in place on the lent state. The values of variables stand in lent slots, set and put back.
+// Update: a signal goes one step on, in place on the lent state. The values of variables stand in lent slots, set and put back; the outcomes of
+// definitions in others, noted by the evaluation that comes before each update.
 ghost use mathlib.Core.Path.{_≡_};
 ghost use Prim.Native.Nat.{_<_};
 ghost use lib.ListN.{length};
@@ -9,19 +10,23 @@ ghost use Rattle.rules.specs.Shaped.{NodeOf};
 ghost use Rattle.rules.specs.Layout.{aAt, bAt, cellsBefore, mostNodes};
 ghost use Rattle.rules.specs.Tree.{signalAt, branchesAt, casesAt};
 ghost use Rattle.rules.specs.Work.{moved, stays, ruleᵘ};
-ghost use Rattle.rules.specs.Evaluate.{bind};
-ghost use Rattle.outcomes.specs.Outcome.{IsValue};
-ghost use Rattle.current.specs.Current.{leaves, goS};
-ghost use Rattle.moves.specs.Outcomes.{countIn, movedIn, walked, walkedOn, nextCases};
+ghost use Rattle.rules.specs.Evaluate.{bind, evalS};
+ghost use Rattle.outcomes.specs.Outcome.{outcomeIn, IsOutcome, IsValue};
+ghost use Rattle.current.specs.Current.{leaves};
+ghost use Rattle.recalled.specs.Recall.{fillS, onOutcome, recallS};
+ghost use Rattle.noted.specs.Noted.{memoryIn, Noted, Notes};
+ghost use Rattle.evaluate.specs.Ready.{ReadyS};
+ghost use Rattle.moves.specs.Outcomes.{countIn, movedIn, leftIn, walked, walkedOn, nextCases};
 ghost use Rattle.moves.specs.Parts.{inSwitch, switched, entered};
-ghost use Rattle.update.specs.Passes.{Fits, seenOf, seenIn, quietly, quietWork, passedFrom};
+ghost use Rattle.update.specs.Passes.{Fits, seenOf, seenIn, quietly, quietWork, passedFrom, Known};
 ghost use Rattle.moves.specs.Lent.{Ready, ReadyAs, Placed, ReadyC, CaseAs};
 use branches::has_branch;
 use cells::kind_by;
 use cells::node_by;
+use cells::own_cell;
 use evaluate::branch_in;
-use evaluate::content;
 use evaluate::evaluated;
+use evaluate::outright;
 use moves::Calm;
 use moves::after;
 use moves::caught;
@@ -44,13 +49,14 @@ use outcomes::show;
 use rules::Node;
 use rules::Tally;
 use state::resets;
+use table::LAST;
 
 // Switch i catches the value v: the part that is left goes to start.
 fn switches(p: &&[u8], index: &[u16; 2016], st: &mut [u8], i: usize, n: Node, v: u64)
     requires { ⌜ Placed 6 (now (now p)) (now index) (length (now st)) i n × IsValue v ⌝ }
     ensures { λ _. ⌜ now (st .exit) ≡ switched (now (now (p .entry))) i (now (st .entry)) (unpacked v) ⌝ }
 {
-    let m = content(index, st, i);
+    let m = own_cell(index, st, i);
     hold(index, st, i, v);
     if m == 0 {
         resets(p, index, st, n.a);
@@ -108,6 +114,19 @@ pub struct Passed {
     pub kept: u64,
 }
 
+// A case that was looked at: what its event counted, if the case is quiet, else 0; and the event's outcome, if it was evaluated and the case is
+// not quiet, else 0.
+pub struct Looked {
+    pub seen: u64,
+    pub event: u64,
+}
+
+// Where a loop has brought a walk, and the outcome of the event of the case where it stands, if it was evaluated, else 0.
+pub struct Reached {
+    pub passed: Passed,
+    pub event: u64,
+}
+
 // What an event counted, as one number: its work, and 4,294,967,296 more where a number wrapped.
 fn seen_of(u: Tally) -> u64
     requires { ⌜ u .work < 4294967296 ⌝ }
@@ -129,7 +148,7 @@ fn seen_in(n: u64) -> Tally
     }
 }
 
-// What the event of case j counted, if it is absent, if its update does nothing (input, time and ext) and if a case follows; else 0.
+// Case j is quiet if its event is absent, if its update does nothing (input, time and ext) and if a case follows.
 fn quiet(
     p: &&[u8],
     index: &[u16; 2016],
@@ -138,25 +157,28 @@ fn quiet(
     env: &mut [u64; 1008],
     j: usize,
     n: Node,
-) -> u64
+) -> Looked
     requires { ⌜ CaseAs (now (now p)) (now index) (length (now st)) (now env) j n ⌝ }
-    ensures { λ u. ⌜ (u ≡ quietWork (now (now (p .entry))) (now (now (rec .entry))) (now (st .entry)) (now (env .entry)) j) × (now (env .exit) ≡ now (env .entry)) ⌝ }
+    ensures { λ s. ⌜ (s .seen ≡ quietWork (now (now (p .entry))) (now (now (rec .entry))) (now (st .entry)) (now (env .entry)) j) × (now (env .exit) ≡ now (env .entry)) × Known (now (now (p .entry))) (now (now (rec .entry))) (now (st .entry)) (now (env .entry)) (aAt (now (now (p .entry))) j) (s .event) ⌝ }
 {
-    if n.b == 65535 {
-        return 0;
+    if n.b == LAST {
+        return Looked { seen: 0, event: 0 };
     }
     let kind = kind_by(*p, index, n.a);
     if kind > 3 {
-        return 0;
+        return Looked { seen: 0, event: 0 };
     }
-    let e = evaluated(p, index, rec, st, env, n.a);
+    let e = outright(p, index, rec, env, n.a);
     let Parts::Maybe(event, u) = apart(e) else {
-        return 0;
+        return Looked { seen: 0, event: e };
     };
     let Event::Occurs(_) = event else {
-        return seen_of(u);
+        return Looked {
+            seen: seen_of(u),
+            event: 0,
+        };
     };
-    0
+    Looked { seen: 0, event: e }
 }
 
 // The cases from case j on that are quiet so are passed in a loop, each without a level of the walk's recursion.
@@ -167,18 +189,21 @@ fn pass(
     st: &[u8],
     env: &mut [u64; 1008],
     j: usize,
-) -> Passed
+) -> Reached
     requires { ⌜ ReadyC (now (now p)) (now index) (length (now st)) (now env) j ⌝ }
-    ensures { λ s. ⌜ (s ≡ passedFrom (now (now (p .entry))) (now (now (rec .entry))) (now (st .entry)) (now (env .entry)) mostNodes j) × (now (env .exit) ≡ now (env .entry)) ⌝ }
+    ensures { λ s. ⌜ (s .passed ≡ passedFrom (now (now (p .entry))) (now (now (rec .entry))) (now (st .entry)) (now (env .entry)) mostNodes j) × (now (env .exit) ≡ now (env .entry)) × Known (now (now (p .entry))) (now (now (rec .entry))) (now (st .entry)) (now (env .entry)) (aAt (now (now (p .entry))) (s .passed .at)) (s .event) ⌝ }
 {
     let mut at = j;
     let mut seen: u64 = 0;
     let mut kept: u64 = 0;
+    let mut event: u64 = 0;
     let mut on = true;
     while on {
         let n = node_by(*p, index, at);
         let next = n.b;
-        let u = quiet(p, index, rec, st, env, at, n);
+        let s = quiet(p, index, rec, st, env, at, n);
+        let u = s.seen;
+        event = s.event;
         on = u > 0;
         if on {
             seen += u;
@@ -186,11 +211,34 @@ fn pass(
             at = next;
         }
     }
-    Passed {
-        at: at,
-        seen: seen,
-        kept: kept,
+    Reached {
+        passed: Passed {
+            at: at,
+            seen: seen,
+            kept: kept,
+        },
+        event: event,
     }
+}
+
+// The outcome of signal i, which may be known already.
+fn event_of(
+    p: &&[u8],
+    index: &[u16; 2016],
+    rec: &&[u8],
+    st: &[u8],
+    env: &mut [u64; 1008],
+    i: usize,
+    known: u64,
+    memo: &mut [u64; 1008],
+) -> u64
+    requires { ⌜ ReadyS (now (now p)) (now index) (now st) (now env) i × Noted (now (now p)) (now memo) × Known (now (now p)) (now (now rec)) (now st) (now env) i known ⌝ }
+    ensures { λ r. ⌜ (outcomeIn r ≡ evalS (now (now (rec .entry))) (now (st .entry)) (now (env .entry)) (signalAt (now (now (p .entry))) i)) × IsOutcome r × (now (env .exit) ≡ now (env .entry)) × Notes (now (now (p .entry))) (now (memo .entry)) (now (memo .exit)) (fillS (now (now (rec .entry))) (now (st .entry)) (now (env .entry)) (signalAt (now (now (p .entry))) i)) ⌝ }
+{
+    if known > 0 {
+        return known;
+    }
+    evaluated(p, index, rec, st, env, i, memo)
 }
 
 // The walk's outcome with what was passed before it: the passed events' updates, a rule each, count only where none was present.
@@ -216,15 +264,16 @@ fn goes(
     st: &mut [u8],
     env: &mut [u64; 1008],
     i: usize,
+    memo: &mut [u64; 1008],
 ) -> u64
-    requires { ⌜ Ready (now (now p)) (now index) (length (now st)) (now env) i ⌝ }
-    ensures { λ r. ⌜ (moved (movedIn r) (now (st .exit)) ≡ goS (now (now (rec .entry))) (now (env .entry)) (signalAt (now (now (p .entry))) i) (now (st .entry))) × (now (env .exit) ≡ now (env .entry)) ⌝ }
+    requires { ⌜ Ready (now (now p)) (now index) (length (now st)) (now env) i × Noted (now (now p)) (now memo) ⌝ }
+    ensures { λ r. ⌜ (leftIn r (now (st .exit)) (now (memo .exit)) ≡ recallS (now (now (rec .entry))) (now (env .entry)) (signalAt (now (now (p .entry))) i) (now (st .entry)) (memoryIn (now (memo .entry)))) × (now (env .exit) ≡ now (env .entry)) × Noted (now (now (p .entry))) (now (memo .exit)) ⌝ }
 {
     let kind = kind_by(*p, index, i);
     if kind <= 3 {
         return 1;
     }
-    update_s(p, index, rec, st, env, i)
+    update_s(p, index, rec, st, env, i, memo)
 }
 
 // Signal i goes one step on. Input, time and ext do nothing.
@@ -235,18 +284,19 @@ pub fn update_s(
     st: &mut [u8],
     env: &mut [u64; 1008],
     i: usize,
+    memo: &mut [u64; 1008],
 ) -> u64
-    requires { ⌜ Ready (now (now p)) (now index) (length (now st)) (now env) i ⌝ }
-    ensures { λ r. ⌜ (moved (movedIn r) (now (st .exit)) ≡ goS (now (now (rec .entry))) (now (env .entry)) (signalAt (now (now (p .entry))) i) (now (st .entry))) × (now (env .exit) ≡ now (env .entry)) ⌝ }
+    requires { ⌜ Ready (now (now p)) (now index) (length (now st)) (now env) i × Noted (now (now p)) (now memo) ⌝ }
+    ensures { λ r. ⌜ (leftIn r (now (st .exit)) (now (memo .exit)) ≡ recallS (now (now (rec .entry))) (now (env .entry)) (signalAt (now (now (p .entry))) i) (now (st .entry)) (memoryIn (now (memo .entry)))) × (now (env .exit) ≡ now (env .entry)) × Noted (now (now (p .entry))) (now (memo .exit)) ⌝ }
 {
     let n = node_by(*p, index, i);
     let k = n.kind;
     match k {
-        4 => update_delay(p, index, rec, st, env, i, n),
-        5 => update_let(p, index, rec, st, env, i, n),
-        6 => update_switch(p, index, rec, st, env, i, n),
-        7 => update_group(p, index, rec, st, env, i, n),
-        8 => update_until(p, index, rec, st, env, i, n),
+        4 => update_delay(p, index, rec, st, env, i, n, memo),
+        5 => update_let(p, index, rec, st, env, i, n, memo),
+        6 => update_switch(p, index, rec, st, env, i, n, memo),
+        7 => update_group(p, index, rec, st, env, i, n, memo),
+        8 => update_until(p, index, rec, st, env, i, n, memo),
         _ => 1,
     }
 }
@@ -261,13 +311,14 @@ fn inside(
     i: usize,
     v: u64,
     k: usize,
+    memo: &mut [u64; 1008],
 ) -> u64
-    requires { ⌜ Ready (now (now p)) (now index) (length (now st)) (now env) k × (i < 1008) × IsValue v ⌝ }
-    ensures { λ r. ⌜ (moved (movedIn r) (now (st .exit)) ≡ goS (now (now (rec .entry))) (bind (now (env .entry)) i (unpacked v)) (signalAt (now (now (p .entry))) k) (now (st .entry))) × (now (env .exit) ≡ now (env .entry)) ⌝ }
+    requires { ⌜ Ready (now (now p)) (now index) (length (now st)) (now env) k × (i < 1008) × IsValue v × Noted (now (now p)) (now memo) ⌝ }
+    ensures { λ r. ⌜ (leftIn r (now (st .exit)) (now (memo .exit)) ≡ recallS (now (now (rec .entry))) (bind (now (env .entry)) i (unpacked v)) (signalAt (now (now (p .entry))) k) (now (st .entry)) (memoryIn (now (memo .entry)))) × (now (env .exit) ≡ now (env .entry)) × Noted (now (now (p .entry))) (now (memo .exit)) ⌝ }
 {
     let old = env[i];
     env[i] = v;
-    let r = goes(p, index, rec, st, env, k);
+    let r = goes(p, index, rec, st, env, k, memo);
     env[i] = old;
     r
 }
@@ -281,15 +332,16 @@ fn update_delay(
     env: &mut [u64; 1008],
     i: usize,
     n: Node,
+    memo: &mut [u64; 1008],
 ) -> u64
-    requires { ⌜ ReadyAs 4 (now (now p)) (now index) (length (now st)) (now env) i n ⌝ }
-    ensures { λ r. ⌜ (moved (movedIn r) (now (st .exit)) ≡ goS (now (now (rec .entry))) (now (env .entry)) (signalAt (now (now (p .entry))) i) (now (st .entry))) × (now (env .exit) ≡ now (env .entry)) ⌝ }
+    requires { ⌜ ReadyAs 4 (now (now p)) (now index) (length (now st)) (now env) i n × Noted (now (now p)) (now memo) ⌝ }
+    ensures { λ r. ⌜ (leftIn r (now (st .exit)) (now (memo .exit)) ≡ recallS (now (now (rec .entry))) (now (env .entry)) (signalAt (now (now (p .entry))) i) (now (st .entry)) (memoryIn (now (memo .entry)))) × (now (env .exit) ≡ now (env .entry)) × Noted (now (now (p .entry))) (now (memo .exit)) ⌝ }
 {
-    let e = evaluated(p, index, rec, st, env, n.a);
+    let e = evaluated(p, index, rec, st, env, n.a, memo);
     let Shown::Value(v, u) = show(e) else {
         return 0;
     };
-    let r = goes(p, index, rec, st, env, n.a);
+    let r = goes(p, index, rec, st, env, n.a, memo);
     let Calm::Still(w) = settled(r) else {
         return 0;
     };
@@ -297,7 +349,7 @@ fn update_delay(
     stayed(u, w)
 }
 
-// A let evaluates its definition, binds, updates the definition, then the body.
+// A let takes what the evaluation before noted of its definition, binds, updates the definition, then the body.
 fn update_let(
     p: &&[u8],
     index: &[u16; 2016],
@@ -306,19 +358,20 @@ fn update_let(
     env: &mut [u64; 1008],
     i: usize,
     n: Node,
+    memo: &mut [u64; 1008],
 ) -> u64
-    requires { ⌜ ReadyAs 5 (now (now p)) (now index) (length (now st)) (now env) i n ⌝ }
-    ensures { λ r. ⌜ (moved (movedIn r) (now (st .exit)) ≡ goS (now (now (rec .entry))) (now (env .entry)) (signalAt (now (now (p .entry))) i) (now (st .entry))) × (now (env .exit) ≡ now (env .entry)) ⌝ }
+    requires { ⌜ ReadyAs 5 (now (now p)) (now index) (length (now st)) (now env) i n × Noted (now (now p)) (now memo) ⌝ }
+    ensures { λ r. ⌜ (leftIn r (now (st .exit)) (now (memo .exit)) ≡ recallS (now (now (rec .entry))) (now (env .entry)) (signalAt (now (now (p .entry))) i) (now (st .entry)) (memoryIn (now (memo .entry)))) × (now (env .exit) ≡ now (env .entry)) × Noted (now (now (p .entry))) (now (memo .exit)) ⌝ }
 {
-    let e = evaluated(p, index, rec, st, env, n.a);
+    let e = memo[i];
     let Shown::Value(v, u) = show(e) else {
         return 0;
     };
-    let d = inside(p, index, rec, st, env, i, v, n.a);
+    let d = inside(p, index, rec, st, env, i, v, n.a, memo);
     let Calm::Still(w) = settled(d) else {
         return 0;
     };
-    let b = inside(p, index, rec, st, env, i, v, n.b);
+    let b = inside(p, index, rec, st, env, i, v, n.b, memo);
     later(u, w, b)
 }
 
@@ -331,20 +384,21 @@ fn update_switch(
     env: &mut [u64; 1008],
     i: usize,
     n: Node,
+    memo: &mut [u64; 1008],
 ) -> u64
-    requires { ⌜ ReadyAs 6 (now (now p)) (now index) (length (now st)) (now env) i n ⌝ }
-    ensures { λ r. ⌜ (moved (movedIn r) (now (st .exit)) ≡ goS (now (now (rec .entry))) (now (env .entry)) (signalAt (now (now (p .entry))) i) (now (st .entry))) × (now (env .exit) ≡ now (env .entry)) ⌝ }
+    requires { ⌜ ReadyAs 6 (now (now p)) (now index) (length (now st)) (now env) i n × Noted (now (now p)) (now memo) ⌝ }
+    ensures { λ r. ⌜ (leftIn r (now (st .exit)) (now (memo .exit)) ≡ recallS (now (now (rec .entry))) (now (env .entry)) (signalAt (now (now (p .entry))) i) (now (st .entry)) (memoryIn (now (memo .entry)))) × (now (env .exit) ≡ now (env .entry)) × Noted (now (now (p .entry))) (now (memo .exit)) ⌝ }
 {
-    let e = evaluated(p, index, rec, st, env, n.b);
+    let e = evaluated(p, index, rec, st, env, n.b, memo);
     let Parts::Maybe(event, u) = apart(e) else {
         return 0;
     };
-    let r = goes(p, index, rec, st, env, n.b);
+    let r = goes(p, index, rec, st, env, n.b, memo);
     let Calm::Still(w) = settled(r) else {
         return 0;
     };
     let Event::Occurs(v) = event else {
-        let q = in_switch(p, index, rec, st, env, i, n);
+        let q = in_switch(p, index, rec, st, env, i, n, memo);
         return later(u, w, stay(q));
     };
     switches(p, index, st, i, n, v);
@@ -360,16 +414,17 @@ fn in_switch(
     env: &mut [u64; 1008],
     i: usize,
     n: Node,
+    memo: &mut [u64; 1008],
 ) -> u64
-    requires { ⌜ ReadyAs 6 (now (now p)) (now index) (length (now st)) (now env) i n ⌝ }
-    ensures { λ r. ⌜ (moved (movedIn r) (now (st .exit)) ≡ inSwitch (now (now (p .entry))) i (now (now (rec .entry))) (now (env .entry)) (now (st .entry))) × (now (env .exit) ≡ now (env .entry)) ⌝ }
+    requires { ⌜ ReadyAs 6 (now (now p)) (now index) (length (now st)) (now env) i n × Noted (now (now p)) (now memo) ⌝ }
+    ensures { λ r. ⌜ (leftIn r (now (st .exit)) (now (memo .exit)) ≡ inSwitch (now (now (p .entry))) i (now (now (rec .entry))) (now (env .entry)) (now (st .entry)) (memoryIn (now (memo .entry)))) × (now (env .exit) ≡ now (env .entry)) × Noted (now (now (p .entry))) (now (memo .exit)) ⌝ }
 {
-    let m = content(index, st, i);
+    let m = own_cell(index, st, i);
     if m == 0 {
         let first = n.a;
-        return goes(p, index, rec, st, env, first);
+        return goes(p, index, rec, st, env, first, memo);
     }
-    inside(p, index, rec, st, env, i, exactly(m), n.c)
+    inside(p, index, rec, st, env, i, exactly(m), n.c, memo)
 }
 
 // A let continue updates its current part, its body or the branch that its cell names, the argument bound; a jump to one of its branches is caught.
@@ -381,20 +436,21 @@ fn update_group(
     env: &mut [u64; 1008],
     i: usize,
     n: Node,
+    memo: &mut [u64; 1008],
 ) -> u64
-    requires { ⌜ ReadyAs 7 (now (now p)) (now index) (length (now st)) (now env) i n ⌝ }
-    ensures { λ r. ⌜ (moved (movedIn r) (now (st .exit)) ≡ goS (now (now (rec .entry))) (now (env .entry)) (signalAt (now (now (p .entry))) i) (now (st .entry))) × (now (env .exit) ≡ now (env .entry)) ⌝ }
+    requires { ⌜ ReadyAs 7 (now (now p)) (now index) (length (now st)) (now env) i n × Noted (now (now p)) (now memo) ⌝ }
+    ensures { λ r. ⌜ (leftIn r (now (st .exit)) (now (memo .exit)) ≡ recallS (now (now (rec .entry))) (now (env .entry)) (signalAt (now (now (p .entry))) i) (now (st .entry)) (memoryIn (now (memo .entry)))) × (now (env .exit) ≡ now (env .entry)) × Noted (now (now (p .entry))) (now (memo .exit)) ⌝ }
 {
-    let m = content(index, st, i);
+    let m = own_cell(index, st, i);
     if m == 0 {
-        let r = goes(p, index, rec, st, env, n.a);
+        let r = goes(p, index, rec, st, env, n.a, memo);
         return catches(p, index, st, i, n, n.a, r);
     }
     let which = branch_in(m);
     if has_branch(*p, index, n.b, which) {
         let branch = node_by(*p, index, which);
         let part = branch.a;
-        let r = inside(p, index, rec, st, env, which, exactly(m), part);
+        let r = inside(p, index, rec, st, env, which, exactly(m), part, memo);
         return catches(p, index, st, i, n, part, r);
     }
     0
@@ -409,15 +465,16 @@ fn update_until(
     env: &mut [u64; 1008],
     i: usize,
     n: Node,
+    memo: &mut [u64; 1008],
 ) -> u64
-    requires { ⌜ ReadyAs 8 (now (now p)) (now index) (length (now st)) (now env) i n ⌝ }
-    ensures { λ r. ⌜ (moved (movedIn r) (now (st .exit)) ≡ goS (now (now (rec .entry))) (now (env .entry)) (signalAt (now (now (p .entry))) i) (now (st .entry))) × (now (env .exit) ≡ now (env .entry)) ⌝ }
+    requires { ⌜ ReadyAs 8 (now (now p)) (now index) (length (now st)) (now env) i n × Noted (now (now p)) (now memo) ⌝ }
+    ensures { λ r. ⌜ (leftIn r (now (st .exit)) (now (memo .exit)) ≡ recallS (now (now (rec .entry))) (now (env .entry)) (signalAt (now (now (p .entry))) i) (now (st .entry)) (memoryIn (now (memo .entry)))) × (now (env .exit) ≡ now (env .entry)) × Noted (now (now (p .entry))) (now (memo .exit)) ⌝ }
 {
-    let o = walk(p, index, rec, st, env, n.b);
+    let o = walk(p, index, rec, st, env, n.b, memo);
     let Calm::Still(u) = settled(o) else {
         return ruled(o);
     };
-    let r = goes(p, index, rec, st, env, n.a);
+    let r = goes(p, index, rec, st, env, n.a, memo);
     ruled(after(u, stay(r)))
 }
 
@@ -429,17 +486,19 @@ fn walk(
     st: &mut [u8],
     env: &mut [u64; 1008],
     j: usize,
+    memo: &mut [u64; 1008],
 ) -> u64
-    requires { ⌜ ReadyC (now (now p)) (now index) (length (now st)) (now env) j ⌝ }
-    ensures { λ r. ⌜ (moved (movedIn r) (now (st .exit)) ≡ walked (now (now (rec .entry))) (now (env .entry)) (casesAt (now (now (p .entry))) j) (now (st .entry))) × (now (env .exit) ≡ now (env .entry)) ⌝ }
+    requires { ⌜ ReadyC (now (now p)) (now index) (length (now st)) (now env) j × Noted (now (now p)) (now memo) ⌝ }
+    ensures { λ r. ⌜ (leftIn r (now (st .exit)) (now (memo .exit)) ≡ walked (now (now (rec .entry))) (now (env .entry)) (casesAt (now (now (p .entry))) j) (now (st .entry)) (memoryIn (now (memo .entry)))) × (now (env .exit) ≡ now (env .entry)) × Noted (now (now (p .entry))) (now (memo .exit)) ⌝ }
 {
-    let s = pass(p, index, rec, st, env, j);
+    let reached = pass(p, index, rec, st, env, j);
+    let s = reached.passed;
     let at = s.at;
-    let o = walk_case(p, index, rec, st, env, at);
+    let o = walk_case(p, index, rec, st, env, at, reached.event, memo);
     added(s, o)
 }
 
-// The cases from case j on: events in list order up to the first present one.
+// The cases from case j on, whose event's outcome may be known: events in list order up to the first present one.
 fn walk_case(
     p: &&[u8],
     index: &[u16; 2016],
@@ -447,17 +506,19 @@ fn walk_case(
     st: &mut [u8],
     env: &mut [u64; 1008],
     j: usize,
+    known: u64,
+    memo: &mut [u64; 1008],
 ) -> u64
-    requires { ⌜ ReadyC (now (now p)) (now index) (length (now st)) (now env) j ⌝ }
-    ensures { λ r. ⌜ (moved (movedIn r) (now (st .exit)) ≡ walked (now (now (rec .entry))) (now (env .entry)) (casesAt (now (now (p .entry))) j) (now (st .entry))) × (now (env .exit) ≡ now (env .entry)) ⌝ }
+    requires { ⌜ ReadyC (now (now p)) (now index) (length (now st)) (now env) j × Noted (now (now p)) (now memo) × Known (now (now p)) (now (now rec)) (now st) (now env) (aAt (now (now p)) j) known ⌝ }
+    ensures { λ r. ⌜ (leftIn r (now (st .exit)) (now (memo .exit)) ≡ walked (now (now (rec .entry))) (now (env .entry)) (casesAt (now (now (p .entry))) j) (now (st .entry)) (memoryIn (now (memo .entry)))) × (now (env .exit) ≡ now (env .entry)) × Noted (now (now (p .entry))) (now (memo .exit)) ⌝ }
 {
     let n = node_by(*p, index, j);
-    let e = evaluated(p, index, rec, st, env, n.a);
+    let e = event_of(p, index, rec, st, env, n.a, known, memo);
     let Parts::Maybe(event, u) = apart(e) else {
         return 0;
     };
     let Event::Occurs(v) = event else {
-        let rest = walk_on(p, index, rec, st, env, j, n);
+        let rest = walk_on(p, index, rec, st, env, j, n, memo);
         return after(u, rest);
     };
     jump(n.c, v, u)
@@ -472,18 +533,19 @@ fn walk_on(
     env: &mut [u64; 1008],
     j: usize,
     n: Node,
+    memo: &mut [u64; 1008],
 ) -> u64
-    requires { ⌜ CaseAs (now (now p)) (now index) (length (now st)) (now env) j n ⌝ }
-    ensures { λ r. ⌜ (moved (movedIn r) (now (st .exit)) ≡ walkedOn (walked (now (now (rec .entry))) (now (env .entry)) (nextCases (now (now (p .entry))) j) (now (st .entry))) (λ s. stays (goS (now (now (rec .entry))) (now (env .entry)) (signalAt (now (now (p .entry))) (aAt (now (now (p .entry))) j)) s))) × (now (env .exit) ≡ now (env .entry)) ⌝ }
+    requires { ⌜ CaseAs (now (now p)) (now index) (length (now st)) (now env) j n × Noted (now (now p)) (now memo) ⌝ }
+    ensures { λ r. ⌜ (leftIn r (now (st .exit)) (now (memo .exit)) ≡ walkedOn (walked (now (now (rec .entry))) (now (env .entry)) (nextCases (now (now (p .entry))) j) (now (st .entry)) (memoryIn (now (memo .entry)))) (λ s m. onOutcome stays (recallS (now (now (rec .entry))) (now (env .entry)) (signalAt (now (now (p .entry))) (aAt (now (now (p .entry))) j)) s m))) × (now (env .exit) ≡ now (env .entry)) × Noted (now (now (p .entry))) (now (memo .exit)) ⌝ }
 {
-    if n.b == 65535 {
-        let last = goes(p, index, rec, st, env, n.a);
+    if n.b == LAST {
+        let last = goes(p, index, rec, st, env, n.a, memo);
         return stay(last);
     }
-    let rest = walk(p, index, rec, st, env, n.b);
+    let rest = walk(p, index, rec, st, env, n.b, memo);
     let Calm::Still(w) = settled(rest) else {
         return rest;
     };
-    let r = goes(p, index, rec, st, env, n.a);
+    let r = goes(p, index, rec, st, env, n.a, memo);
     after(w, stay(r))
 }

@@ -1,12 +1,12 @@
-/* The seven calls of Couplerfinch for C: check, start, run, explain, mend, tidy and paired.
+/* The eight calls of Couplerfinch for C: check, start, run, watch, explain, mend, tidy and paired.
  *
  * Every call ends and answers, whatever bytes and lengths it is handed; none has a precondition on the content. It writes the answer
  * to the room that is lent for it, and answers the code too: 0 where the call went through, or the first code that the rules
- * give. A refused call writes nothing else, but for a run: it keeps the whole steps done before the refused record, so a run of one record
- * that is refused changes nothing.
+ * give. A refused call writes nothing else, but for a run and a watched run: they keep the whole steps done before the refused record, so
+ * that a run of one record that is refused changes nothing.
  *
  * What C can't say, and the caller owes: a pointer is not NULL, even where its length is 0, and points to as many bytes as its
- * length says (explain's room, mend's list and a pairing: to as many 16-bit numbers as its entries say); no room that is written overlaps
+ * length says (explain's room, the lists of mend and watch and a pairing: to as many 16-bit numbers as its entries say); no room that is written overlaps
  * another. No call allocates, keeps a pointer or has memory of its own; each needs at most 512 KiB of stack.
  */
 #ifndef COUPLERFINCH_H
@@ -56,6 +56,10 @@ extern "C" {
 #define COUPLERFINCH_STATE(cells) (8u + 8u * (size_t)(cells))
 #define COUPLERFINCH_LONGEST_STATE COUPLERFINCH_STATE(COUPLERFINCH_NODES)
 
+/* How many nodes a watched run lists at most, and the length of its second room for so many entries and records. */
+#define COUPLERFINCH_WATCHED 8u
+#define COUPLERFINCH_SHOWN(entries,records) (8u * (size_t)(entries) * (size_t)(records))
+
 /* How many entries mend's list has room for with so many cells, and at most; and its first entry if the time changed. */
 #define COUPLERFINCH_LIST(cells) ((size_t)(cells) + 1u)
 #define COUPLERFINCH_LONGEST_LIST COUPLERFINCH_LIST(COUPLERFINCH_NODES)
@@ -63,7 +67,8 @@ extern "C" {
 
 /* The codes; docs/CODES.md says what each means, where its place is and what to do. A run tries a state by 9 for its length, then by 15 for a
  * sum that is not the program's, then by 9 for the rest, before 10. (14 was a code, and is not used again.) Mend tries 9 for the length alone,
- * then 15, then 16, a list that has not COUPLERFINCH_LIST(cells) entries. Tidy alone gives 19, a room that is shorter than the program.
+ * then 15, then 16, a list that has not COUPLERFINCH_LIST(cells) entries. Watch alone gives 17 and 18, for its list, after 8 and before 9, and
+ * gives 11 for either of its rooms. Tidy alone gives 19, a room that is shorter than the program.
  * Explain alone gives 25, no let to explain, and 26, a room that has not COUPLERFINCH_NODES entries. Paired alone gives 27 to 29, and 33 to 40:
  * 1 to 8 of the new program. */
 #define COUPLERFINCH_DONE 0u
@@ -97,6 +102,10 @@ extern "C" {
 #define COUPLERFINCH_OTHER_PROGRAM 15u
 /* the room for the list is not one entry for each cell and one more */
 #define COUPLERFINCH_LIST_LENGTH 16u
+/* the list of nodes to watch has not 1 to 8 entries */
+#define COUPLERFINCH_WATCH_LENGTH 17u
+/* this entry of the list is no signal node, or not above the one before */
+#define COUPLERFINCH_WATCH_ENTRY 18u
 /* the room for the new program is shorter than the old program */
 #define COUPLERFINCH_NEW_LENGTH 19u
 /* no let needs its own value of the same step: there is nothing to explain */
@@ -129,14 +138,14 @@ extern "C" {
 /* An answer: twelve numbers, those that its call does not give are 0. */
 typedef struct couplerfinch_answer {
     uint32_t code;    /* 0, or the first code that the rules give */
-    uint32_t place;   /* of a refusal: the block (2, 3), record (4), node (5-8), input record (12, 13) or entry (28); 34-40 as 2-8 */
-    uint32_t steps;   /* run: whole steps done, of a refusal too */
-    uint32_t work;    /* run: rules used by the steps done, of a refusal too */
+    uint32_t place;   /* of a refusal: the block (2, 3), record (4), node (5-8), input record (12, 13) or entry (18, 28); 34-40 as 2-8 */
+    uint32_t steps;   /* run, watch: whole steps done, of a refusal too */
+    uint32_t work;    /* run, watch: rules used by the steps done, of a refusal too */
     uint32_t nodes;   /* check: how many nodes the program has; tidy: how many the new one has */
     uint32_t cells;   /* check: how many cells its state has */
     uint32_t bound;   /* check: the most rules that a step uses */
     uint32_t type;    /* check: the type of the value of a step */
-    uint32_t wrapped; /* run: the first step, from 0, in which a number wrapped, of a refusal too; COUPLERFINCH_NO_STEP if none */
+    uint32_t wrapped; /* run, watch: the first step, from 0, in which a number wrapped, of a refusal too; COUPLERFINCH_NO_STEP if none */
     uint32_t length;  /* tidy: the length of the new program in bytes */
     uint32_t entries; /* explain: how many entries the chain has; mend: how many were listed */
     uint32_t node;    /* explain: the let */
@@ -155,6 +164,15 @@ uint32_t couplerfinch_start(const uint8_t *program, size_t program_length, uint8
  * where the lowest number is divided by -1. */
 uint32_t couplerfinch_run(const uint8_t *program, size_t program_length, uint8_t *state, size_t state_length, const uint8_t *records,
                           size_t records_length, uint8_t *output, size_t output_length, couplerfinch_answer *answer);
+
+/* Runs the records as couplerfinch_run does, with the same answer, output and state, and writes down what nodes inside the table gave: the list
+ * has 1 to COUPLERFINCH_WATCHED signal nodes (kinds 1-8), rising. For each step and in it for each entry, 8 bytes of the second room, shown,
+ * are the value that the node gave while the step's value was worked out, or zeros where that did not come to the node: in a part that is not
+ * current, inside a delay, in the event of a switch or an until. The room is COUPLERFINCH_SHOWN(entries, records) bytes long. Codes 1-8, 17,
+ * 18, then as run; 11 for either room. */
+uint32_t couplerfinch_watch(const uint8_t *program, size_t program_length, uint8_t *state, size_t state_length, const uint8_t *records,
+                            size_t records_length, const uint16_t *list, size_t list_entries, uint8_t *output, size_t output_length,
+                            uint8_t *shown, size_t shown_length, couplerfinch_answer *answer);
 
 /* Explains why a program is not ready, where the check refuses it by code 8: the let that the code names, and in the room, which has
  * COUPLERFINCH_NODES entries, the chain from the let's definition down to the use of its own variable, each node a child of the one

@@ -2,7 +2,7 @@
  * standard input, or a stream of them with the word `serve`.
  *
  * Every room that a call is lent is exactly as long as the request says and stands between guard bytes. A call that writes outside
- * its rooms, or to a program, records or a pairing that it only reads, or whose answer is not as couplerfinch.h says, ends this program with
+ * its rooms, or to a program, records, a list or a pairing that it only reads, or whose answer is not as couplerfinch.h says, ends this program with
  * status 3 and a line on standard error.
  */
 #include "couplerfinch.h"
@@ -16,10 +16,10 @@
 #define LINE 200         /* the most bytes that a request's line may have */
 #define GUARD 64         /* guard bytes on each side of a room */
 #define GUARD_BYTE 0xA5
-#define ROOMS 4          /* the most that a call is lent */
+#define ROOMS 6          /* the most that a call is lent */
 #define CHUNK (1u << 16) /* how much memory a length is trusted with before its bytes are there */
 
-enum call { CHECK, START, RUN, CHAIN, MEND, TIDY, PAIR };
+enum call { CHECK, START, RUN, WATCH, CHAIN, MEND, TIDY, PAIR };
 
 /* The calls: how many rooms each is lent, the program first; which of them it may write; which has entries, two bytes each (0: none). */
 static const struct {
@@ -31,6 +31,7 @@ static const struct {
     {"check", 1, {false}, 0},
     {"start", 2, {false, true}, 0},
     {"run", 4, {false, true, false, true}, 0},
+    {"watch", 6, {false, true, false, false, true, true}, 2},
     {"chain", 2, {false, true}, 1},
     {"mend", 3, {false, true, true}, 2},
     {"tidy", 2, {false, true}, 0},
@@ -219,6 +220,9 @@ static uint32_t call(const struct request *request, couplerfinch_answer *answer)
         return couplerfinch_check(r[0].bytes, r[0].length, answer);
     case START:
         return couplerfinch_start(r[0].bytes, r[0].length, r[1].bytes, r[1].length, answer);
+    case WATCH:
+        return couplerfinch_watch(r[0].bytes, r[0].length, r[1].bytes, r[1].length, r[3].bytes, r[3].length, entries(r[2]), r[2].length / 2,
+                                  r[4].bytes, r[4].length, r[5].bytes, r[5].length, answer);
     case CHAIN:
         return couplerfinch_explain(r[0].bytes, r[0].length, entries(r[1]), r[1].length / 2, answer);
     case MEND:
@@ -247,6 +251,8 @@ static bool may_give(enum call of, uint32_t code)
         return code <= COUPLERFINCH_NOT_READY;
     case START:
         return code <= COUPLERFINCH_STATE_FAULT;
+    case WATCH:
+        return code <= COUPLERFINCH_TIME_BACK || code == COUPLERFINCH_OTHER_PROGRAM || among(code, COUPLERFINCH_WATCH_LENGTH, COUPLERFINCH_WATCH_ENTRY);
     case CHAIN:
         return code <= COUPLERFINCH_TYPE_FAULT || among(code, COUPLERFINCH_NO_LET, COUPLERFINCH_ROOM_LENGTH);
     case MEND:
@@ -265,16 +271,16 @@ static bool may_give(enum call of, uint32_t code)
 static void hold_answer(enum call of, uint32_t code, const couplerfinch_answer *a)
 {
     bool checked = of == CHECK && code == 0, explained = of == CHAIN && code == 0;
-    bool mended = of == MEND && code == 0, tidied = of == TIDY && code == 0;
+    bool mended = of == MEND && code == 0, tidied = of == TIDY && code == 0, ran = of == RUN || of == WATCH;
     if (code != a->code || !may_give(of, code))
         fail("the code answered is not that of the answer, or not the call's");
-    if ((a->place != 0 && code == 0) || (of != RUN && (a->steps != 0 || a->work != 0)))
+    if ((a->place != 0 && code == 0) || (!ran && (a->steps != 0 || a->work != 0)))
         fail("a place, steps or work where there is none");
     if ((!checked && (a->cells != 0 || a->bound != 0 || a->type != 0)) || (!checked && !tidied && a->nodes != 0))
         fail("nodes, cells, bound or type where there is none");
-    if ((!explained && a->node != 0) || (!explained && !mended && a->entries != 0) || (!tidied && a->length != 0) || (of != RUN && a->wrapped != 0))
+    if ((!explained && a->node != 0) || (!explained && !mended && a->entries != 0) || (!tidied && a->length != 0) || (!ran && a->wrapped != 0))
         fail("wrapped, length, entries or a node where there is none");
-    if (of == RUN && a->wrapped != COUPLERFINCH_NO_STEP && a->wrapped >= a->steps)
+    if (ran && a->wrapped != COUPLERFINCH_NO_STEP && a->wrapped >= a->steps)
         fail("a wrapped step that was not done");
     if ((code == COUPLERFINCH_INPUT_FAULT || code == COUPLERFINCH_TIME_BACK) && a->steps != a->place)
         fail("a record refused is not the one after the steps done");
@@ -304,8 +310,8 @@ static couplerfinch_answer guarded(const struct request *request)
     for (size_t i = 0; i < request->count; i++) {
         bool same = memcmp(old[i].bytes, request->rooms[i].bytes, old[i].length) == 0;
         if (!same && !written[i])
-            fail("a program, records or a pairing were written");
-        if (!same && code != 0 && request->call != RUN)
+            fail("a program, records, a list or a pairing were written");
+        if (!same && code != 0 && request->call != RUN && request->call != WATCH)
             fail("a refused call wrote to a room");
         free_room(old[i]);
     }
@@ -333,7 +339,7 @@ static void print_hex(struct room room)
 /* Prints the answer's numbers and the memory that the call may write. */
 static void print_answer(const struct request *request, const couplerfinch_answer *a)
 {
-    if (a->code != COUPLERFINCH_DONE && request->call == RUN)
+    if (a->code != COUPLERFINCH_DONE && (request->call == RUN || request->call == WATCH))
         printf("REFUSED %" PRIu32 " %" PRIu32 " %" PRIu32 " %" PRIu32 "\n", a->code, a->place, a->work, a->wrapped);
     else if (a->code != COUPLERFINCH_DONE)
         printf("REFUSED %" PRIu32 " %" PRIu32 " %" PRIu32 "\n", a->code, a->place, a->work);

@@ -98,16 +98,21 @@ impl Walk<'_> {
 
     /// Makes the next step: tries 12 and 13, then answers the value and the step's work.
     pub fn next(&mut self, record: &[u8]) -> Result<(Value, u64), Refusal> {
+        self.next_seen(record).map(|(made, _)| (made.value, made.work))
+    }
+
+    /// The same, with what each node gave while the root was evaluated.
+    pub fn next_seen(&mut self, record: &[u8]) -> Result<(one::Made, Vec<Option<Value>>), Refusal> {
         let Done { steps, work, wrapped } = self.done;
         let refused = |code| Refusal::after(code, steps, work, wrapped);
         let record = Record::read(record).ok_or(refused(refusal::INPUT))?;
         if self.state.time.is_some_and(|last| record.time < last) {
             return Err(refused(refusal::BACKWARD));
         }
-        let made = one::make(self.program, &mut self.state, &record);
+        let (made, seen) = one::make_seen(self.program, &mut self.state, &record);
         let first = made.wrapped && wrapped == refusal::NO_STEP;
         let wrapped = if first { steps as u32 } else { wrapped };
         self.done = Done { steps: steps + 1, work: work + made.work, wrapped };
-        Ok((made.value, made.work))
+        Ok((made, seen))
     }
 }

@@ -5,8 +5,15 @@ use crate::step::Step;
 use crate::value::{Value, INT};
 
 impl Step<'_> {
-    /// Evaluates a signal or an expression, counting one for each rule used.
+    /// Evaluates a signal or an expression, and notes what it gave.
     pub fn evaluate(&mut self, number: usize) -> Value {
+        let value = self.by_rule(number);
+        self.gave[number] = Some(value);
+        value
+    }
+
+    /// The rule of a node's kind, counting one.
+    fn by_rule(&mut self, number: usize) -> Value {
         self.count();
         let node = self.program.node(number);
         match node.kind {

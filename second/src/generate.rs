@@ -15,6 +15,7 @@ use crate::request::{self, Request};
 use crate::state::{self, CELL, HEADER, LATEST};
 use crate::tangle;
 use crate::tidy;
+use crate::watch;
 use crate::wild;
 
 /// A program as nodes and as a file.
@@ -177,7 +178,7 @@ pub fn damaged(random: &mut Random, file: &mut Vec<u8>, nodes: &[Node]) {
 
 /// A request to any of the calls; many a run has one record.
 pub fn request(random: &mut Random) -> Request {
-    match random.weighted(&[22, 11, 25, 30, 3, 3, 3, 3]) {
+    match random.weighted(&[22, 11, 25, 26, 3, 3, 3, 3, 4]) {
         0 => check_request(random),
         1 => start_request(random),
         2 => run_request(random, true),
@@ -185,7 +186,8 @@ pub fn request(random: &mut Random) -> Request {
         4 => chain_request(random),
         5 => mend_request(random),
         6 => tidy_request(random),
-        _ => pair_request(random),
+        7 => pair_request(random),
+        _ => watch_request(random),
     }
 }
 
@@ -332,6 +334,26 @@ fn start_request(random: &mut Random) -> Request {
 }
 
 fn run_request(random: &mut Random, single: bool) -> Request {
+    let run = lent_run(random, single);
+    Request::Run {
+        program: run.program,
+        state: run.state,
+        records: run.records,
+        output: run.output,
+    }
+}
+
+/// What a run is lent.
+struct LentRun {
+    nodes: Vec<Node>,
+    program: Vec<u8>,
+    state: Vec<u8>,
+    records: Vec<u8>,
+    output: Vec<u8>,
+}
+
+/// A run's rooms: states reached and damaged, records in order and damaged, lengths right and wrong.
+fn lent_run(random: &mut Random, single: bool) -> LentRun {
     let (sample, program) = sample_for_call(random, 15);
     let (mut state, time) = reached_state(random, &sample);
     let count = if single { 1 } else { record_count(random, sample.nodes.len()) };
@@ -353,7 +375,53 @@ fn run_request(random: &mut Random, single: bool) -> Request {
     if random.chance(10) {
         wrong_lengths(random, &mut records, &mut output);
     }
-    Request::Run { program, state, records, output }
+    LentRun { nodes: sample.nodes, program, state, records, output }
+}
+
+/// A watch request: a run's rooms with a list of signal nodes, most of them right, and a second room.
+pub fn watch_request(random: &mut Random) -> Request {
+    let single = random.chance(30);
+    let run = lent_run(random, single);
+    let list = watch_list(random, &run.nodes);
+    // A list that is too long is refused before the second room is looked at.
+    let entries = list.len().min(watch::MOST_ENTRIES);
+    let right = run.records.len() / RECORD * entries * calls::OUTPUT;
+    let length = match random.chance(92) {
+        true => right,
+        false => random.one(&[0, 8, right + 1, right + 8, right.saturating_sub(8), 2 * right]),
+    };
+    let shown = vec![random.draw() as u8; length];
+    let LentRun { program, state, records, output, .. } = run;
+    Request::Watch { program, state, list: request::bytes(&list), records, output, shown }
+}
+
+/// A list to watch: signal nodes in order, now and then bent in one way.
+fn watch_list(random: &mut Random, nodes: &[Node]) -> Vec<u16> {
+    let signal = |&number: &u16| {
+        nodes
+            .get(number as usize)
+            .is_some_and(|it| (kinds::INPUT..=kinds::UNTIL).contains(&it.kind))
+    };
+    let signals: Vec<u16> = (0..nodes.len() as u16).filter(signal).collect();
+    let wanted = random.between(1, watch::MOST_ENTRIES);
+    let mut list: Vec<u16> = (0..wanted).map(|_| random.one(&signals)).collect();
+    list.sort_unstable();
+    list.dedup();
+    if random.chance(82) {
+        return list;
+    }
+    let place = random.below(list.len());
+    match random.below(8) {
+        0 => list.clear(),
+        1 => list.resize(random.between(9, 20), 0),
+        2 => list.push(list[place]),
+        3 => list.insert(place, list[place]),
+        4 => list.swap(0, place),
+        5 => list[place] = random.below(nodes.len()) as u16,
+        6 => list[place] = random.one(&[nodes.len() as u16, 1008, 65535]),
+        _ => list = signals.iter().copied().take(random.between(8, 9)).collect(),
+    }
+    list
 }
 
 /// How many records a run gets: few, and rarely the most where the program is small.

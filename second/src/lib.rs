@@ -2,7 +2,7 @@
 //!
 //! The modules follow the paper: `format` (codes 1-4), `shape` (5), `scope` (6), `types` (7),
 //! `ready` (8), `bound`, `state` (9, 15), `record` (12), `evaluate`, `update`, `calls`, and document 02's
-//! calls `chain` (25, 26), `mend` (16), `tidy` (19) and `pair` (27-29, 33-40). The tools around them are
+//! calls `chain` (25, 26), `mend` (16), `watch` (17, 18), `tidy` (19) and `pair` (27-29, 33-40). The tools around them are
 //! `assemble`, `generate`, `request` and `print`.
 
 pub mod assemble;
@@ -40,6 +40,7 @@ pub mod types;
 pub mod typist;
 pub mod update;
 pub mod value;
+pub mod watch;
 pub mod wild;
 pub mod words;
 
@@ -49,3 +50,4 @@ pub use mend::mend;
 pub use pair::paired;
 pub use refusal::Refusal;
 pub use tidy::{tidy, Tidied};
+pub use watch::watched;

@@ -17,6 +17,8 @@ pub const BACKWARD: u32 = 13;
 /// 14 was a code, and is not used again.
 pub const OTHER_PROGRAM: u32 = 15;
 pub const LIST: u32 = 16;
+pub const WATCH_LENGTH: u32 = 17;
+pub const WATCH_ENTRY: u32 = 18;
 pub const SHORT: u32 = 19;
 pub const WORD: u32 = 21;
 pub const NAME: u32 = 22;

@@ -8,21 +8,60 @@ use crate::printer;
 use crate::reader::{self, Table};
 use crate::refusal::Refusal;
 use crate::tidy::{self, Tidied};
+use crate::watch;
 use std::collections::{BTreeMap, BTreeSet};
 use std::io::{self, BufRead, Read, Write};
 
 /// One request with all its lent memory. Entries are two bytes each, little-endian.
 #[derive(Clone, Debug, PartialEq, Eq)]
 pub enum Request {
-    Check { program: Vec<u8> },
-    Start { program: Vec<u8>, state: Vec<u8> },
-    Run { program: Vec<u8>, state: Vec<u8>, records: Vec<u8>, output: Vec<u8> },
-    Chain { program: Vec<u8>, room: Vec<u8> },
-    Mend { program: Vec<u8>, state: Vec<u8>, list: Vec<u8> },
-    Tidy { program: Vec<u8>, room: Vec<u8> },
-    Pair { old: Vec<u8>, new: Vec<u8>, pairing: Vec<u8> },
-    Read { text: Vec<u8>, room: Vec<u8> },
-    Print { program: Vec<u8>, room: Vec<u8> },
+    Check {
+        program: Vec<u8>,
+    },
+    Start {
+        program: Vec<u8>,
+        state: Vec<u8>,
+    },
+    Run {
+        program: Vec<u8>,
+        state: Vec<u8>,
+        records: Vec<u8>,
+        output: Vec<u8>,
+    },
+    Watch {
+        program: Vec<u8>,
+        state: Vec<u8>,
+        list: Vec<u8>,
+        records: Vec<u8>,
+        output: Vec<u8>,
+        shown: Vec<u8>,
+    },
+    Chain {
+        program: Vec<u8>,
+        room: Vec<u8>,
+    },
+    Mend {
+        program: Vec<u8>,
+        state: Vec<u8>,
+        list: Vec<u8>,
+    },
+    Tidy {
+        program: Vec<u8>,
+        room: Vec<u8>,
+    },
+    Pair {
+        old: Vec<u8>,
+        new: Vec<u8>,
+        pairing: Vec<u8>,
+    },
+    Read {
+        text: Vec<u8>,
+        room: Vec<u8>,
+    },
+    Print {
+        program: Vec<u8>,
+        room: Vec<u8>,
+    },
 }
 
 /// The answer to a request, with the lent memory after it.
@@ -31,6 +70,7 @@ pub enum Answer {
     Check(Result<Accepted, Refusal>),
     Start(Result<(), Refusal>, Vec<u8>),
     Steps(Result<Done, Refusal>, Vec<u8>, Vec<u8>),
+    Watch(Result<Done, Refusal>, Vec<u8>, Vec<u8>, Vec<u8>),
     Chain(Result<Explained, Refusal>, Vec<u8>),
     Mend(Result<usize, Refusal>, Vec<u8>, Vec<u8>),
     Tidy(Result<Tidied, Refusal>, Vec<u8>),
@@ -69,6 +109,13 @@ impl Request {
                 let [program, state, records, output] = all(rooms)?;
                 Request::Run { program, state, records, output }
             }
+            "watch" => {
+                let [program, state, list, records, output, shown] = all(rooms)?;
+                if !list.len().is_multiple_of(2) {
+                    return None;
+                }
+                Request::Watch { program, state, list, records, output, shown }
+            }
             "chain" => {
                 let [program, room] = entries_last(rooms)?;
                 Request::Chain { program, room }
@@ -105,6 +152,9 @@ impl Request {
             Request::Run { program, state, records, output } => {
                 ("run", vec![program, state, records, output])
             }
+            Request::Watch { program, state, list, records, output, shown } => {
+                ("watch", vec![program, state, list, records, output, shown])
+            }
             Request::Chain { program, room } => ("chain", vec![program, room]),
             Request::Mend { program, state, list } => ("mend", vec![program, state, list]),
             Request::Tidy { program, room } => ("tidy", vec![program, room]),
@@ -136,6 +186,12 @@ impl Request {
             Request::Run { program, mut state, records, mut output } => {
                 let answer = calls::run(&program, &mut state, &records, &mut output);
                 Answer::Steps(answer, state, output)
+            }
+            Request::Watch { program, mut state, list, records, mut output, mut shown } => {
+                let list = entries(&list);
+                let answer =
+                    watch::watched(&program, &mut state, &records, &list, &mut output, &mut shown);
+                Answer::Watch(answer, state, output, shown)
             }
             Request::Chain { program, room } => {
                 let mut room = entries(&room);
@@ -201,6 +257,7 @@ impl Answer {
             Answer::Check(answer) => answer.err(),
             Answer::Start(answer, _) => answer.err(),
             Answer::Steps(answer, _, _) => answer.err(),
+            Answer::Watch(answer, _, _, _) => answer.err(),
             Answer::Chain(answer, _) => answer.err(),
             Answer::Mend(answer, _, _) => answer.err(),
             Answer::Tidy(answer, _) => answer.err(),
@@ -216,9 +273,9 @@ impl Answer {
         let (numbers, rooms): (_, Vec<&Vec<u8>>) = match self {
             Answer::Check(answer) => (answer.map(checked), vec![]),
             Answer::Start(answer, state) => (answer.map(|()| vec![]), vec![state]),
-            Answer::Steps(answer, state, output) => {
-                let numbers = |it: Done| vec![it.steps as u64, it.work, it.wrapped as u64];
-                (answer.map(numbers), vec![state, output])
+            Answer::Steps(answer, state, output) => (answer.map(ran), vec![state, output]),
+            Answer::Watch(answer, state, output, shown) => {
+                (answer.map(ran), vec![state, output, shown])
             }
             Answer::Chain(answer, room) => {
                 (answer.map(|it| vec![it.node as u64, it.entries as u64]), vec![room])
@@ -239,7 +296,8 @@ impl Answer {
             Ok(numbers) => line("OK", &numbers),
             Err(it) => {
                 let all = [it.code as u64, it.place as u64, it.work, it.wrapped as u64];
-                let count = if matches!(self, Answer::Steps(..)) { 4 } else { 3 };
+                let marked = matches!(self, Answer::Steps(..) | Answer::Watch(..));
+                let count = if marked { 4 } else { 3 };
                 line("REFUSED", &all[..count])
             }
         };
@@ -250,6 +308,11 @@ impl Answer {
 /// The numbers of an accepted check.
 fn checked(it: Accepted) -> Vec<u64> {
     vec![it.nodes as u64, it.cells as u64, it.bound, it.root_type as u64]
+}
+
+/// The numbers of a finished run.
+fn ran(it: Done) -> Vec<u64> {
+    vec![it.steps as u64, it.work, it.wrapped as u64]
 }
 
 /// A line of a word and numbers.
@@ -291,8 +354,8 @@ pub fn tally(input: &mut impl BufRead) -> Tally {
 }
 
 /// The calls in the papers' order.
-pub const CALLS: [&str; 9] =
-    ["check", "start", "run", "chain", "mend", "tidy", "pair", "read", "print"];
+pub const CALLS: [&str; 10] =
+    ["check", "start", "run", "watch", "chain", "mend", "tidy", "pair", "read", "print"];
 
 /// Counts by call and code.
 #[derive(Clone, Debug, Default, PartialEq, Eq)]

@@ -17,6 +17,8 @@ pub struct Step<'a> {
     pub work: u64,
     /// Whether an operation that was evaluated left the range of its numbers.
     pub wrapped: bool,
+    /// What each node gave when it was last evaluated in this step.
+    pub gave: Vec<Option<Value>>,
 }
 
 /// What a step made: the root's value, the work, and whether a number wrapped.
@@ -29,15 +31,27 @@ pub struct Made {
 
 /// Makes one step.
 pub fn make(program: &Program, state: &mut State, record: &Record) -> Made {
-    let bound = vec![Value::default(); program.tree.nodes.len()];
+    make_seen(program, state, record).0
+}
+
+/// Makes one step; beside it what each node gave while the root was evaluated, none where the evaluation
+/// did not come to it.
+pub fn make_seen(
+    program: &Program,
+    state: &mut State,
+    record: &Record,
+) -> (Made, Vec<Option<Value>>) {
+    let count = program.tree.nodes.len();
+    let (bound, gave) = (vec![Value::default(); count], vec![None; count]);
     let cells = &mut state.cells;
-    let mut step = Step { program, record, cells, bound, work: 0, wrapped: false };
+    let mut step = Step { program, record, cells, bound, work: 0, wrapped: false, gave };
     let root = program.tree.root();
     let value = step.evaluate(root);
+    let seen = step.gave.clone();
     step.update(root);
     let made = Made { value, work: step.work, wrapped: step.wrapped };
     state.time = Some(record.time);
-    made
+    (made, seen)
 }
 
 impl Step<'_> {

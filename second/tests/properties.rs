@@ -4,10 +4,10 @@ use second::format;
 use second::generate::{self, Sample};
 use second::kinds;
 use second::random::Random;
-use second::request::{Answer, Request};
+use second::request::{entries, Answer, Request};
 use second::typist;
 use second::value::Value;
-use second::{check, run, start};
+use second::{check, run, start, watched};
 
 #[test]
 fn grown_programs_are_accepted_and_have_their_size() {
@@ -125,6 +125,23 @@ fn keeps_memory(request: &Request, answer: &Answer) {
             }
             assert_eq!((&kept.0, &kept.1), (after, room));
         }
+        (
+            Request::Watch { program, state, list, records, output, shown },
+            Answer::Watch(Err(refusal), after, room, seen),
+        ) => {
+            let in_records = matches!(refusal.code, 12 | 13);
+            let steps = if in_records { refusal.place as usize } else { 0 };
+            let mut kept = (state.clone(), output.clone(), shown.clone());
+            if in_records {
+                let list = entries(list);
+                let records = &records[..steps * 40];
+                let room = &mut kept.1[..steps * 8];
+                let rows = &mut kept.2[..steps * 8 * list.len()];
+                let done = watched(program, &mut kept.0, records, &list, room, rows).unwrap();
+                assert_eq!((done.steps, done.work), (steps, refusal.work));
+            }
+            assert_eq!((&kept.0, &kept.1, &kept.2), (after, room, seen));
+        }
         _ => {}
     }
 }
@@ -135,6 +152,7 @@ fn own(call: &str, code: usize) -> bool {
         "check" => code <= 8,
         "start" => code <= 9,
         "run" => code <= 13 || code == 15,
+        "watch" => code <= 13 || code == 15 || code == 17 || code == 18,
         "chain" => code <= 7 || code == 25 || code == 26,
         "mend" => code <= 9 || code == 15 || code == 16,
         "tidy" => code <= 8 || code == 19,
@@ -147,15 +165,16 @@ fn own(call: &str, code: usize) -> bool {
 #[test]
 fn refusals_leave_memory_and_every_code_comes_up() {
     let mut random = Random::new(5);
-    let mut seen = [[0usize; 41]; 9];
-    for number in 0..18_000 {
-        let request = match number % 9 {
+    let mut seen = [[0usize; 41]; 10];
+    for number in 0..20_000 {
+        let request = match number % 10 {
             0..4 => generate::request(&mut random),
             4 => generate::mend_request(&mut random),
             5 => generate::tidy_request(&mut random),
             6 => generate::pair_request(&mut random),
             7 => typist::read_request(&mut random),
-            _ if number % 2 == 0 => generate::chain_request(&mut random),
+            8 => generate::watch_request(&mut random),
+            _ if number % 20 == 9 => generate::chain_request(&mut random),
             _ => typist::print_request(&mut random),
         };
         let answer = request.clone().answer();

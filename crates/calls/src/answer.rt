@@ -71,6 +71,33 @@ fn run_answer(
     hex_line(room, more, out)
 }
 
+// Puts three rooms in hex to the output, a line each.
+fn hex_lines(one: &[u8], two: &[u8], three: &[u8], full: usize, out: &mut [u8]) -> usize {
+    let waits = hex_line(one, full, out);
+    let more = hex_line(two, waits, out);
+    hex_line(three, more, out)
+}
+
+// Makes a watched run with a list of entries, and puts the answer, the state, the output and the second room to the output.
+fn watch_answer(
+    program: &[u8],
+    state: &mut [u8],
+    records: &[u8],
+    entries: &mut [u16],
+    list: &[u8],
+    room: &mut [u8],
+    shown: &mut [u8],
+    full: usize,
+    out: &mut [u8],
+) -> usize {
+    take(list, entries);
+    let mut line = [0u8; 64];
+    let found = peeking::watched(program, state, records, entries, room, shown);
+    let n = wire::watched_line(found, &mut line);
+    let waits = feed::append(&line[..n], out, full);
+    hex_lines(state, room, shown, waits, out)
+}
+
 // Explains in a room of entries, and puts the answer and the room's bytes to the output.
 fn chain_answer(
     program: &[u8],
@@ -156,6 +183,47 @@ fn run_call(
     run_answer(program, &mut state[..n], records, &mut room[..m], full, out)
 }
 
+// A watch with the first s bytes of state, the first n entries, and the first o and w bytes of its rooms.
+fn watch_call(
+    program: &[u8],
+    s: usize,
+    state: &mut [u8],
+    records: &[u8],
+    n: usize,
+    entries: &mut [u16],
+    list: &[u8],
+    o: usize,
+    room: &mut [u8],
+    w: usize,
+    shown: &mut [u8],
+    full: usize,
+    out: &mut [u8],
+) -> usize {
+    if s > state.len() {
+        return full;
+    }
+    if n > entries.len() {
+        return full;
+    }
+    if o > room.len() {
+        return full;
+    }
+    if w > shown.len() {
+        return full;
+    }
+    watch_answer(
+        program,
+        &mut state[..s],
+        records,
+        &mut entries[..n],
+        list,
+        &mut room[..o],
+        &mut shown[..w],
+        full,
+        out,
+    )
+}
+
 // A chain whose room is the first n entries, two bytes each.
 fn chain_call(
     program: &[u8],
@@ -236,6 +304,8 @@ pub fn call(
     records: &[u8],
     room: &mut [u8],
     entries: &mut [u16],
+    list: &[u8],
+    shown: &mut [u8],
     full: usize,
     out: &mut [u8],
 ) -> usize {
@@ -257,6 +327,24 @@ pub fn call(
                 feed::first(records, r as usize),
                 o as usize,
                 room,
+                full,
+                out,
+            )
+        }
+        Request::Watch(p, s, l, r, o, w) => {
+            let of = feed::first(program, p as usize);
+            watch_call(
+                of,
+                s as usize,
+                state,
+                feed::first(records, r as usize),
+                l as usize / 2,
+                entries,
+                list,
+                o as usize,
+                room,
+                w as usize,
+                shown,
                 full,
                 out,
             )

@@ -36,13 +36,36 @@ fn serve_one(
     records: &mut [u8],
     room: &mut [u8],
     entries: &mut [u16],
+    list: &mut [u8],
+    shown: &mut [u8],
     out: &mut [u8],
 ) -> After {
-    let filled = lent::read(request, place, input, program, state, records, room);
+    let filled = lent::read(
+        request,
+        place,
+        input,
+        program,
+        state,
+        records,
+        room,
+        list,
+        shown,
+    );
     if !filled.whole {
         return no_request(full, out);
     }
-    let waits = answer::call(request, program, state, records, room, entries, full, out);
+    let waits = answer::call(
+        request,
+        program,
+        state,
+        records,
+        room,
+        entries,
+        list,
+        shown,
+        full,
+        out,
+    );
     let after = filled.place;
     After {
         at: after.at,
@@ -62,6 +85,8 @@ fn turn(
     records: &mut [u8],
     room: &mut [u8],
     entries: &mut [u16],
+    list: &mut [u8],
+    shown: &mut [u8],
     out: &mut [u8],
 ) -> After {
     let full = feed::rested(place, out, waiting);
@@ -89,6 +114,8 @@ fn turn(
             records,
             room,
             entries,
+            list,
+            shown,
             out,
         ),
     }
@@ -102,6 +129,8 @@ fn serve(
     records: &mut [u8],
     room: &mut [u8],
     entries: &mut [u16],
+    list: &mut [u8],
+    shown: &mut [u8],
     out: &mut [u8],
 ) {
     let mut at = 0;
@@ -122,16 +151,14 @@ fn serve(
             records,
             room,
             entries,
+            list,
+            shown,
             out,
         );
         full = t.full;
-        if !t.more {
-            feed::flush(out, full);
-            return;
-        }
         at = t.at;
         end = t.end;
-        turns -= 1;
+        turns = if t.more { turns - 1 } else { 0 };
     }
     feed::flush(out, full);
 }
@@ -144,6 +171,8 @@ fn main() {
     let mut records = [0u8; 196608];
     let mut room = io::large_buffer();
     let mut entries = [0u16; 65536];
+    let mut list = io::large_buffer();
+    let mut shown = [0u8; 540672];
     let mut out = io::large_buffer();
     serve(
         &mut input,
@@ -152,6 +181,8 @@ fn main() {
         &mut records,
         &mut room,
         &mut entries,
+        &mut list,
+        &mut shown,
         &mut out,
     );
 }

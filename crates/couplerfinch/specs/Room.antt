@@ -1,5 +1,5 @@
 -- The twelve numbers of the room that a caller lends for an answer: code, place, steps, work, nodes, cells, bound, type, wrapped, length,
--- entries, node. Each call's are laid out from the paper's numbers of its answer (crates rules, chains, mends, rewritten, dropped), and those
+-- entries, node. Each call's are laid out from the paper's numbers of its answer (crates rules, chains, mends, rewritten, dropped, beside), and those
 -- that an answer does not give are 0. Assumes nothing: these are definitions.
 use Prim.Native.Nat.{ℕ}
 use mathlib.Core.List.{List, [], _∷_}
@@ -18,6 +18,8 @@ use Rattle.rewritten.specs.TidyCall.{tidiedNumbers}
 use Rattle.rewritten.specs.declared.Tidied.{Tidied}
 use Rattle.dropped.specs.PairedCall.{pairedNumbers}
 use Rattle.dropped.specs.declared.Paired.{Paired}
+use Rattle.beside.specs.Numbers.{watchedNumbers}
+use Rattle.watched.specs.declared.Watched.{Watched}
 
 -- Number k of an answer's numbers. Number 0 is the code, 0 where the call went through.
 abbrev pub number : List ℕ → ℕ → ℕ
@@ -44,7 +46,8 @@ refusedRoom ns = twelve (code ns) (number ns 1) (stepsDone (code ns) (number ns 
 abbrev pub laidOut : (List ℕ → List ℕ) → List ℕ → List ℕ
 laidOut done ns = if eqb (code ns) 0 then done ns else refusedRoom ns
 
--- What the numbers of a call that went through are: a check's nodes, cells, bound and type; a start has none; a run's steps, work and first wrapped step; the let
+-- What the numbers of a call that went through are: a check's nodes, cells, bound and type; a start has none; a run's, watched or
+-- not, steps, work and first wrapped step; the let
 -- that explain names and how many entries its chain has; how many entries mend lists; the new table's nodes and length, of tidy; a pairing that
 -- is accepted has none.
 abbrev pub checkedDone : List ℕ → List ℕ
@@ -90,6 +93,9 @@ tidiedRoom a = laidOut tidiedDone (tidiedNumbers a)
 abbrev pub pairedRoom : Paired → List ℕ
 pairedRoom a = laidOut pairedDone (pairedNumbers a)
 
+abbrev pub watchedRoom : Watched → List ℕ
+watchedRoom a = laidOut ranDone (watchedNumbers a)
+
 -- The code that a call answers besides.
 abbrev pub checkedCode : Checked → ℕ
 checkedCode a = code (checkedNumbers a)
@@ -111,3 +117,6 @@ tidiedCode a = code (tidiedNumbers a)
 
 abbrev pub pairedCode : Paired → ℕ
 pairedCode a = code (pairedNumbers a)
+
+abbrev pub watchedCode : Watched → ℕ
+watchedCode a = code (watchedNumbers a)

@@ -1,4 +1,4 @@
-// The seven calls for C and Rust: slices and numbers only, the answer in a lent room of twelve numbers (include/couplerfinch.h).
+// The eight calls for C and Rust: slices and numbers only, the answer in a lent room of twelve numbers (include/couplerfinch.h).
 ghost use mathlib.Core.Path.{_≡_};
 ghost use mathlib.Core.List.{[], _∷_};
 ghost use Rattle.rules.specs.Calls.{checkCall, startCall, runCall};
@@ -6,7 +6,8 @@ ghost use Rattle.chains.specs.Explain.{explainCall};
 ghost use Rattle.mends.specs.MendCall.{mendCall};
 ghost use Rattle.rewritten.specs.TidyCall.{tidyCall};
 ghost use Rattle.dropped.specs.PairedCall.{pairedCall};
-ghost use Rattle.couplerfinch.specs.Room.{stepsDone, refusedRoom, checkedRoom, startedRoom, ranRoom, explainedRoom, mendedRoom, tidiedRoom, pairedRoom, checkedCode, startedCode, ranCode, explainedCode, mendedCode, tidiedCode, pairedCode};
+ghost use Rattle.watched.specs.Watch.{watchCall};
+ghost use Rattle.couplerfinch.specs.Room.{stepsDone, refusedRoom, checkedRoom, startedRoom, ranRoom, explainedRoom, mendedRoom, tidiedRoom, pairedRoom, watchedRoom, checkedCode, startedCode, ranCode, explainedCode, mendedCode, tidiedCode, pairedCode, watchedCode};
 use chains::Explained;
 use dropped::Paired;
 use mends::Mended;
@@ -16,6 +17,7 @@ use rules::Ran;
 use rules::Started;
 use rules::code_of;
 use rules::place_of;
+use watched::Watched;
 
 // Whole steps done before a refusal.
 fn steps_done(code: u32, place: u32) -> u32
@@ -153,6 +155,17 @@ fn put_paired(found: Paired, answer: &mut [u32; 12]) -> u32
     }
 }
 
+// The answer of watched, as numbers: a run's, or its list's refusal.
+fn put_watched(found: Watched, answer: &mut [u32; 12]) -> u32
+    ensures { λ r. ⌜ (r ≡ watchedCode found) × (now (answer .exit) ≡ watchedRoom found) ⌝ }
+{
+    match found {
+        Watched::AsRun(ran) => put_ran(ran, answer),
+        Watched::ListLength => put_stopped(17, 0, 0, 65535, answer),
+        Watched::ListEntry(j) => put_stopped(18, j, 0, 65535, answer),
+    }
+}
+
 // Checks a program.
 #[no_mangle]
 pub extern "C" fn couplerfinch_check(program: &[u8], answer: &mut [u32; 12]) -> u32
@@ -231,4 +244,23 @@ pub extern "C" fn couplerfinch_paired(
     ensures { λ r. ⌜ (r ≡ pairedCode (pairedCall (now (old .entry)) (now (new .entry)) (now (pairing .entry)))) × (now (answer .exit) ≡ pairedRoom (pairedCall (now (old .entry)) (now (new .entry)) (now (pairing .entry)))) ⌝ }
 {
     put_paired(pairing::paired(old, new, pairing), answer)
+}
+
+// Makes a step for each record, and writes down what listed nodes give.
+#[no_mangle]
+pub extern "C" fn couplerfinch_watch(
+    program: &[u8],
+    state: &mut [u8],
+    records: &[u8],
+    list: &[u16],
+    output: &mut [u8],
+    shown: &mut [u8],
+    answer: &mut [u32; 12],
+) -> u32
+    ensures { λ r. ⌜ (r ≡ watchedCode (watchCall (now (program .entry)) (now (state .entry)) (now (records .entry)) (now (list .entry)) (now (output .entry)) (now (shown .entry)) .answer)) × (now (answer .exit) ≡ watchedRoom (watchCall (now (program .entry)) (now (state .entry)) (now (records .entry)) (now (list .entry)) (now (output .entry)) (now (shown .entry)) .answer)) × (now (state .exit) ≡ watchCall (now (program .entry)) (now (state .entry)) (now (records .entry)) (now (list .entry)) (now (output .entry)) (now (shown .entry)) .state) × (now (output .exit) ≡ watchCall (now (program .entry)) (now (state .entry)) (now (records .entry)) (now (list .entry)) (now (output .entry)) (now (shown .entry)) .output) × (now (shown .exit) ≡ watchCall (now (program .entry)) (now (state .entry)) (now (records .entry)) (now (list .entry)) (now (output .entry)) (now (shown .entry)) .room) ⌝ }
+{
+    put_watched(
+        peeking::watched(program, state, records, list, output, shown),
+        answer,
+    )
 }

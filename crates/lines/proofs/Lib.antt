@@ -1,1 +1,2 @@
 pub mod PrintLaws
+pub mod ShownLaws

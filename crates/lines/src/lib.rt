@@ -1,6 +1,7 @@
-// The lines that watchrun prints, as bytes.
+// The lines that watchrun prints, as bytes, and those of tables' own.
 mod line;
 mod named;
+mod shown;
 mod wording;
 
 pub use line::end_line;
@@ -8,3 +9,4 @@ pub use line::first_line;
 pub use line::refused_line;
 pub use line::step_line;
 pub use named::channels_line;
+pub use shown::shown_line;

@@ -176,20 +176,26 @@ module _ {p : Bytes} {index : List ℕ} {size : ℕ} {env : Env} {count : ℕ} (
     evaluated-at : r ≡ evalS rec st (unbound mostNodes) (root p)
     evaluated-at = e ∙ (λ i. evalS rec st (g .blank i) (root-at p count (g .counted) i))
 
-    -- what is shown of it
-    pub shows-none : r ≡ Stuck → (out : Bytes) (place : ℕ) → Displayed (evalS rec st (unbound mostNodes) (root p)) out out place (record { work = 0; wrapped = false })
-    unfolding displayedIn nothing
-    shows-none f out place = rw (sym evaluated-at ∙ f) (record { written = refl; counted = refl; below = omega arith })
+    -- it counts no more than any bound
+    pub root-small : workOf r ≤ mostWork
+    root-small =
+        omega (arith, bound-parts p .0, small-bound p (g .accepted), work-within _ (evalS-within rec st (unbound mostNodes) (root p)), ap workOf evaluated-at)
 
-    pub evaluation-small : {v : Value} {u : Tally} → r ≡ Done v u → u .work ≤ mostWork
-    evaluation-small f =
-        omega (arith, bound-parts p .0, small-bound p (g .accepted), work-within _ (evalS-within rec st (unbound mostNodes) (root p)), ap workOf (sym evaluated-at ∙ f))
+    -- what is displayed of it is displayed of the root's evaluation
+    pub displayed-root : {out out₁ : Bytes} {place : ℕ} {w : Tally} → Displayed r out out₁ place w
+        → Displayed (evalS rec st (unbound mostNodes) (root p)) out out₁ place w
+    displayed-root {out} {out₁} {place} {w} d = subst (λ (x : Evaluated). Displayed x out out₁ place w) evaluated-at d
 
-    pub shows : {v : Value} {u : Tally} → r ≡ Done v u → {out out₁ : Bytes} {place m : ℕ} → out₁ ≡ writeAt out place (bytesOf 8 m) → m ≡ packed v
-        → Displayed (evalS rec st (unbound mostNodes) (root p)) out out₁ place u
-    unfolding displayedIn valueBytes
-    shows f {out} {out₁} {place} a b =
-        rw (sym evaluated-at ∙ f) (record { written = a ∙ ap (λ (n : ℕ). writeAt out place (bytesOf 8 n)) b; counted = refl; below = evaluation-small f })
+-- what is displayed of an evaluation: nothing where it is stuck, and its value
+pub displays-none : {r : Evaluated} → r ≡ Stuck → (out : Bytes) (place : ℕ) → Displayed r out out place (record { work = 0; wrapped = false })
+unfolding displayedIn nothing
+displays-none f out place = rw f (record { written = refl; counted = refl; below = omega arith })
+
+pub displays : {r : Evaluated} → workOf r ≤ mostWork → {v : Value} {u : Tally} → r ≡ Done v u → {out out₁ : Bytes} {place m : ℕ}
+    → out₁ ≡ writeAt out place (bytesOf 8 m) → m ≡ packed v → Displayed r out out₁ place u
+unfolding displayedIn valueBytes
+displays h f {out} {out₁} {place} a b =
+    rw f (record { written = a ∙ ap (λ (n : ℕ). writeAt out place (bytesOf 8 n)) b; counted = refl; below = omega (arith, h, ap workOf f) })
 
 -- an update that is calm stays
 still-stay : (x : Moved) {t : Tally} → calmOf x ≡ Still t → x ≡ Moved.Stay t

@@ -8,6 +8,8 @@ ghost use Rattle.rules.specs.Evaluate.{unbound, evalS};
 ghost use Rattle.rules.specs.Calls.{recordVerdict, noStep, firstWrapped, runFrom};
 ghost use Rattle.steps.specs.Going.{Going, Held, Told, Displayed, Advanced, Taken, Leaves, mostWork};
 ghost use Rattle.noted.specs.Noted.{Noted};
+ghost use Rattle.outcomes.specs.Combine.{workOf};
+ghost use Rattle.outcomes.specs.Outcome.{outcomeIn, IsOutcome};
 ghost use Rattle.promises.specs.Run.{workIn};
 use answers::otherwise;
 use answers::refuse_if;
@@ -28,13 +30,31 @@ use rules::Verdict;
 use update::update_s;
 
 // The verdict on one record, after so many steps: 12, then 13.
-fn record_verdict(st: &[u8], rec: &[u8], done: u32) -> Verdict
+pub fn record_verdict(st: &[u8], rec: &[u8], done: u32) -> Verdict
     requires { ⌜ (headerLength ≤ length (now st)) × (inputLength ≤ length (now rec)) ⌝ }
     ensures { λ r. ⌜ r ≡ recordVerdict done (now (st .entry)) (now (rec .entry)) ⌝ }
 {
     let input = refuse_if(input_wrong(rec), Refusal::InputFault(done));
     let time = refuse_if(time_wrong(st, rec), Refusal::TimeBack(done));
     otherwise(input, time)
+}
+
+// The value of an outcome, at a place of the output room. The answer is what was counted.
+pub fn display(outcome: u64, out: &mut [u8], at: usize) -> Tally
+    requires { ⌜ IsOutcome outcome × (workOf (outcomeIn outcome) ≤ mostWork) × (at + 8 ≤ length (now out)) ⌝ }
+    ensures { λ w. ⌜ Displayed (outcomeIn outcome) (now (out .entry)) (now (out .exit)) at w ⌝ }
+{
+    let shown = outcomes::show(outcome);
+    match shown {
+        Shown::Stuck => Tally {
+            work: 0,
+            wrapped: false,
+        },
+        Shown::Value(v, u) => {
+            put64(out, at, v);
+            u
+        }
+    }
 }
 
 // The output of a step: the root is evaluated, and its value goes to the output room. The answer is what was counted.
@@ -53,22 +73,12 @@ fn show(
     ensures { λ w. ⌜ Displayed (evalS (now (rec .entry)) (now (st .entry)) (unbound mostNodes) (root (now (p .entry)))) (now (out .entry)) (now (out .exit)) at w × (now (env .exit) ≡ now (env .entry)) × Told (now (p .entry)) (now (rec .entry)) (now (st .entry)) (now (memo .exit)) ⌝ }
 {
     let outcome = evaluated(&p, index, &rec, st, env, count - 1, memo);
-    let shown = outcomes::show(outcome);
-    match shown {
-        Shown::Stuck => Tally {
-            work: 0,
-            wrapped: false,
-        },
-        Shown::Value(v, u) => {
-            put64(out, at, v);
-            u
-        }
-    }
+    display(outcome, out, at)
 }
 
 // The state after a step: the root is updated, and the time becomes the record's. The answer is what was counted. (No accepted program halts in a
 // well-formed state, nor jumps out of its root: that arm is never taken.)
-fn advance(
+pub fn advance(
     p: &[u8],
     index: &[u16; 2016],
     rec: &[u8],
@@ -115,7 +125,7 @@ fn make_step(
 }
 
 // The first step in which a number wrapped, after one more step that counted so much.
-fn first_wrapped(mark: u32, done: u32, w: Tally) -> u32
+pub fn first_wrapped(mark: u32, done: u32, w: Tally) -> u32
     ensures { λ r. ⌜ r ≡ firstWrapped mark done w ⌝ }
 {
     if w.wrapped {

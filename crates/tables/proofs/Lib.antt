@@ -1,1 +1,3 @@
 pub mod LetLaws
+pub mod NamedLaws
+pub mod TurnLaws

@@ -1,3 +1,4 @@
 pub mod Fields
 pub mod Lets
 pub mod Owners
+pub mod Named

@@ -6,6 +6,7 @@ mod mended;
 mod paired;
 mod say;
 mod tidying;
+mod watching;
 mod why;
 
 // Does what a word names. (Twelve such tests are proved with no proof file; the same tests on a part of main's array are not, from the eighth on.)
@@ -28,6 +29,10 @@ fn chosen(word: &[u8]) {
     }
     if check::same(word, b"tidy") {
         tidying::tidy();
+        return;
+    }
+    if check::same(word, b"watch") {
+        watching::watch_nodes();
         return;
     }
     if check::same(word, b"codes") {

@@ -90,7 +90,7 @@ fn of_new(code: u8) -> u32 {
 }
 
 // An entry, where there is one.
-fn entry(pairs: &[u16], i: usize) -> u32 {
+pub(crate) fn entry(pairs: &[u16], i: usize) -> u32 {
     if i < pairs.len() {
         return wide(pairs[i]);
     }

@@ -52,6 +52,7 @@ pub fn help() -> bool {
     put(
         b"tables check FILE                  checks a table, and prints the channels that it names; - is standard input
 tables run [FILE..]                prints a run of blocks and records, one file behind the other or standard input, as watchrun does
+tables watch NODE..                prints a run of standard input as tables run does, with what up to eight nodes gave behind each line
 tables why FILE                    prints why the let that code 8 names is not ready: the nodes from its definition to its own variable
 tables pair OLD NEW PAIRING        checks that a table that others tidied is the old one with unused lets dropped, as their pairing says
 tables tidy [OLD [NEW [PAIRING]]]  drops the lets that nobody uses; without NEW the new table goes to standard output
@@ -93,5 +94,12 @@ pub fn no_file() {
     io::write_all(
         libc::STDERR_FILENO,
         b"tables: mend writes the state back in its file, and takes none from standard input\n",
+    );
+}
+
+pub fn no_node() {
+    io::write_all(
+        libc::STDERR_FILENO,
+        b"tables: a node is a number from 0 to 65535\n",
     );
 }

@@ -25,15 +25,18 @@ use Rattle.rules.proofs.Rooted.{some-node}
 use Rattle.rooms.specs.Walk.{Walk, walk, inRoom}
 use Rattle.rooms.proofs.WalkLaws.{SameRecord, walk-agree, run-walk, not-finished, whole, write-all}
 use Rattle.unplugged.specs.Alike.{Alike, AllAlike, SameRuns}
-use Rattle.unplugged.proofs.SameSteps.{step-same}
+use Rattle.unplugged.proofs.SameSteps.{EachS, step-same}
 use Rattle.unplugged.proofs.FromTable.{root-each}
 
--- Alike records make the same step.
+-- Alike records agree on each channel of the root.
+pub alike-each : (p rec₁ rec₂ : Bytes) → 0 < nodes p → Alike p rec₁ rec₂ → EachS (λ c. channelValue rec₁ c ≡ channelValue rec₂ c) (root p)
+alike-each p rec₁ rec₂ h a =
+    root-each p (λ c. channelValue rec₁ c ≡ channelValue rec₂ c) h
+    λ i l e. a .channels (aAt p i) (record { node = i; within = omega (arith, l); input = e; channel = refl })
+
+-- They make the same step.
 alike-step : (p st rec₁ rec₂ : Bytes) → 0 < nodes p → Alike p rec₁ rec₂ → stepOf p rec₁ st ≡ stepOf p rec₂ st
-alike-step p st rec₁ rec₂ h a =
-    step-same rec₁ rec₂ (a .moment) p st
-    (root-each p (λ c. channelValue rec₁ c ≡ channelValue rec₂ c) h
-    λ i l e. a .channels (aAt p i) (record { node = i; within = omega (arith, l); input = e; channel = refl }))
+alike-step p st rec₁ rec₂ h a = step-same rec₁ rec₂ (a .moment) p st (alike-each p rec₁ rec₂ h a)
 
 -- And are refused alike.
 alike-verdict : (p : Bytes) (done : ℕ) (st rec₁ rec₂ : Bytes) → Alike p rec₁ rec₂ → recordVerdict done st rec₁ ≡ recordVerdict done st rec₂
@@ -44,7 +47,7 @@ alike-verdict p done st rec₁ rec₂ a =
     rw (first, second, a .moment)
 
 -- So a run cannot tell them apart.
-alike : (p rec₁ rec₂ : Bytes) (k : ℕ) → 0 < nodes p → Alike p rec₁ rec₂ → SameRecord p k rec₁ rec₂
+pub alike : (p rec₁ rec₂ : Bytes) (k : ℕ) → 0 < nodes p → Alike p rec₁ rec₂ → SameRecord p k rec₁ rec₂
 alike p rec₁ rec₂ k h a = record { verdict = λ st. alike-verdict p k st rec₁ rec₂ a; step = λ st. alike-step p st rec₁ rec₂ h a }
 
 -- The records fit a run.

@@ -107,7 +107,7 @@ fn lent_verdict(
 }
 
 // A run has 0 to 4,096 records of 40 bytes.
-fn run_fits(recs: &[u8]) -> bool
+pub fn run_fits(recs: &[u8]) -> bool
     ensures { λ r. ⌜ r ≡ runFits (now (recs .entry)) ⌝ }
 {
     if recs.len() % 40 == 0 {

@@ -51,6 +51,12 @@ short n k w h =
     let lt : k < 11 = lt-of-not-le (λ (le : 11 ≤ k). omega (arith, w .2 (omega arith), pow-le-pow-right {n = 10} (omega arith) {i = 10} {j = k - 1} (omega arith))) in
     omega arith
 
+-- a number of 16 bits has at most five
+pub shortest : (n k : ℕ) → Fewest 10 1 n k → n < 2 ^ 16 → k ≤ 5
+shortest n k w h =
+    let lt : k < 6 = lt-of-not-le (λ (le : 6 ≤ k). omega (arith, w .2 (omega arith), pow-le-pow-right {n = 10} (omega arith) {i = 5} {j = k - 1} (omega arith))) in
+    omega arith
+
 -- the fewest digits of a u32, put into a line, are its decimal
 pub number-put : {at here n k : ℕ} {line mid : List ℕ} (digs : List ℕ) → Fewest 10 1 n k → n < 2 ^ 32 → take k digs ≡ digits 10 k n
     → Put at (take k digs) line mid here → Put at (decimal n) line mid here

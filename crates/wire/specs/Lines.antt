@@ -18,6 +18,8 @@ use Rattle.rewritten.specs.declared.Tidied.{Tidied}
 use Rattle.rewritten.specs.declared.Tidied.the-variants.{Table, RoomShort}
 use Rattle.dropped.specs.declared.Paired.{Paired}
 use Rattle.dropped.specs.declared.Paired.the-variants.{OldRefused, NewRefused, EditionsDiffer, PairingLength, EntryWrong}
+use Rattle.watched.specs.declared.Watched.{Watched}
+use Rattle.watched.specs.declared.Watched.the-variants.{AsRun, ListEntry}
 use Rattle.wire.specs.declared.Request.the-variants.{Check, Start, Run, Broken}
 use Rattle.wire.specs.Text.{field}
 
@@ -68,6 +70,16 @@ unfoldable pub ranLine : Ran → List ℕ
 ranLine (Finished steps work wrapped) = stepsLine steps work wrapped
 ranLine (Ran.Refused r work wrapped) = stoppedLine r work wrapped
 
+-- REFUSED code place 0 65535: a list that is refused; no step is done
+unfoldable pub unlistedLine : ℕ → ℕ → List ℕ
+unlistedLine code place = refused ++ field code 32 ++ field place 32 ++ field 0 32 ++ field 65535 10
+
+-- the answer of watched: as run, or the refusal of the list
+unfoldable pub watchedLine : Watched → List ℕ
+watchedLine (AsRun r) = ranLine r
+watchedLine Watched.ListLength = unlistedLine 17 0
+watchedLine (ListEntry j) = unlistedLine 18 j
+
 -- the answer of explain: OK let entries, or the refusal with no work
 unfoldable pub explainedLine : Explained → List ℕ
 explainedLine (Explained.Chain node entries) = finishedLine node entries
@@ -116,6 +128,10 @@ start = 115 ∷ 116 ∷ 97 ∷ 114 ∷ 116 ∷ 32 ∷ []
 abbrev pub run : List ℕ
 run = 114 ∷ 117 ∷ 110 ∷ 32 ∷ []
 
+-- "watch "
+abbrev pub watchWord : List ℕ
+watchWord = 119 ∷ 97 ∷ 116 ∷ 99 ∷ 104 ∷ 32 ∷ []
+
 -- "chain "
 abbrev pub chainWord : List ℕ
 chainWord = 99 ∷ 104 ∷ 97 ∷ 105 ∷ 110 ∷ 32 ∷ []
@@ -144,6 +160,10 @@ startLine p s = start ++ field p 32 ++ field s 10
 unfoldable pub runLine : ℕ → ℕ → ℕ → ℕ → List ℕ
 runLine p s r o = run ++ field p 32 ++ field s 32 ++ field r 32 ++ field o 10
 
+-- watch PLEN SLEN LLEN RLEN OLEN WLEN
+unfoldable pub watchLine : ℕ → ℕ → ℕ → ℕ → ℕ → ℕ → List ℕ
+watchLine p s l r o w = watchWord ++ field p 32 ++ field s 32 ++ field l 32 ++ field r 32 ++ field o 32 ++ field w 10
+
 -- chain PLEN CLEN
 unfoldable pub chainLine : ℕ → ℕ → List ℕ
 chainLine p c = chainWord ++ field p 32 ++ field c 10
@@ -165,6 +185,7 @@ unfoldable pub headerLine : Request → List ℕ
 headerLine (Check p) = checkLine p
 headerLine (Start p s) = startLine p s
 headerLine (Run p s r o) = runLine p s r o
+headerLine (Request.Watch p s l r o w) = watchLine p s l r o w
 headerLine (Request.Chain p n) = chainLine p (2 * n)
 headerLine (Request.Mend p s n) = mendLine p s (2 * n)
 headerLine (Request.Tidy p b) = tidyLine p b

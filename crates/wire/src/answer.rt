@@ -3,7 +3,7 @@ ghost use mathlib.Core.Path.{_≡_};
 ghost use lib.ListN.{take};
 ghost use Rattle.io.specs.Counts.{Counts};
 ghost use Rattle.rules.specs.declared.Started.the-variants.{Ready};
-ghost use Rattle.wire.specs.Lines.{acceptedLine, checkedLine, codedLine, explainedLine, finishedLine, listedLine, mendedLine, newLine, pairedLine, ranLine, refusedLine, startedLine, stepsLine, stoppedLine, tidiedLine};
+ghost use Rattle.wire.specs.Lines.{acceptedLine, checkedLine, codedLine, explainedLine, finishedLine, listedLine, mendedLine, newLine, pairedLine, ranLine, refusedLine, startedLine, stepsLine, stoppedLine, tidiedLine, unlistedLine, watchedLine};
 use crate::text::put;
 use crate::text::put_field;
 use chains::Explained;
@@ -14,6 +14,7 @@ use rules::Checked;
 use rules::Ran;
 use rules::Refusal;
 use rules::Started;
+use watched::Watched;
 
 // Puts `REFUSED code place work` at the start of line, and answers its length.
 fn coded_line(code: u32, place: u32, work: u32, line: &mut [u8; 64]) -> usize
@@ -122,6 +123,30 @@ pub fn ran_line(answer: Ran, line: &mut [u8; 64]) -> usize
     match answer {
         Ran::Finished(steps, work, wrapped) => steps_line(steps, work, wrapped, line),
         Ran::Refused(r, work, wrapped) => stopped_line(r, work, wrapped, line),
+    }
+}
+
+// Puts the refusal of a list, `REFUSED code place 0 65535`, at the start of line, and answers its length: no step is done.
+fn unlisted_line(code: u32, place: u32, line: &mut [u8; 64]) -> usize
+    ensures { λ n. ⌜ Counts n (now (line .exit)) ⌝ }
+    ensures { λ n. ⌜ take n (now (line .exit)) ≡ unlistedLine code place ⌝ }
+{
+    let a = put(b"REFUSED ", line, 0);
+    let b = put_field(code, b' ', line, a);
+    let c = put_field(place, b' ', line, b);
+    let d = put_field(0, b' ', line, c);
+    put_field(65535, b'\n', line, d)
+}
+
+// Puts the answer of watched at the start of line, and answers its length.
+pub fn watched_line(answer: Watched, line: &mut [u8; 64]) -> usize
+    ensures { λ r. ⌜ Counts r (now (line .exit)) ⌝ }
+    ensures { λ r. ⌜ take r (now (line .exit)) ≡ watchedLine answer ⌝ }
+{
+    match answer {
+        Watched::AsRun(ran) => ran_line(ran, line),
+        Watched::ListLength => unlisted_line(17, 0, line),
+        Watched::ListEntry(j) => unlisted_line(18, j, line),
     }
 }
 

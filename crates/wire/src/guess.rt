@@ -72,6 +72,27 @@ fn guess_run(line: &[u8]) -> Request {
     Request::Run(p.value, s.value, r.value, o.value)
 }
 
+// A watch with the six numbers that stand behind `watch `: the third is of bytes, two for each entry.
+fn guess_watch(line: &[u8]) -> Request {
+    let p = number(line, 6);
+    let s = number(line, p.next);
+    let l = number(line, s.next);
+    let r = number(line, l.next);
+    let o = number(line, r.next);
+    let w = number(line, o.next);
+    if l.value % 2 != 0 {
+        return Request::Broken;
+    }
+    Request::Watch(
+        p.value,
+        (s.value % 65536) as u16,
+        (l.value % 65536) as u16,
+        r.value,
+        o.value,
+        w.value,
+    )
+}
+
 // A chain with the two numbers that stand behind `chain `: the second is of bytes, two for each entry.
 fn guess_chain(line: &[u8]) -> Request {
     let p = number(line, 6);
@@ -118,6 +139,9 @@ fn guess_later(line: &[u8], first: u8) -> Request {
     }
     if first == b't' {
         return guess_tidy(line);
+    }
+    if first == b'w' {
+        return guess_watch(line);
     }
     guess_pair(line)
 }

@@ -3,11 +3,12 @@ ghost use mathlib.Core.Path.{_≡_};
 ghost use lib.ListN.{take};
 ghost use Rattle.io.specs.Counts.{Counts};
 ghost use Rattle.wire.specs.declared.Request.the-variants.{Broken};
-ghost use Rattle.wire.specs.Lines.{headerLine, checkLine, startLine, runLine, chainLine, mendLine, tidyLine, pairLine};
+ghost use Rattle.wire.specs.Lines.{headerLine, checkLine, startLine, runLine, chainLine, mendLine, tidyLine, pairLine, watchLine};
 use crate::Request;
 use crate::guess::guess;
 use crate::text::put;
 use crate::text::put_field;
+use crate::text::put_short;
 
 // The header line of a check, at the start of line; answers its length, as the others do.
 fn check_header(p: u32, line: &mut [u8; 64]) -> usize
@@ -38,6 +39,20 @@ fn run_header(p: u32, s: u32, r: u32, o: u32, line: &mut [u8; 64]) -> usize
     let c = put_field(s, b' ', line, b);
     let d = put_field(r, b' ', line, c);
     put_field(o, b'\n', line, d)
+}
+
+// The header line of a watch, with the list's length in bytes.
+fn watch_header(p: u32, s: u16, l: u16, r: u32, o: u32, w: u32, line: &mut [u8; 64]) -> usize
+    ensures { λ n. ⌜ Counts n (now (line .exit)) ⌝ }
+    ensures { λ n. ⌜ take n (now (line .exit)) ≡ watchLine p s l r o w ⌝ }
+{
+    let a = put(b"watch ", line, 0);
+    let b = put_field(p, b' ', line, a);
+    let c = put_short(s, b' ', line, b);
+    let d = put_short(l, b' ', line, c);
+    let e = put_field(r, b' ', line, d);
+    let f = put_field(o, b' ', line, e);
+    put_field(w, b'\n', line, f)
 }
 
 // The header line of a chain, with the room's length in bytes.
@@ -91,6 +106,7 @@ pub fn header(request: Request, line: &mut [u8; 64]) -> usize
         Request::Check(p) => check_header(p, line),
         Request::Start(p, s) => start_header(p, s, line),
         Request::Run(p, s, r, o) => run_header(p, s, r, o, line),
+        Request::Watch(p, s, l, r, o, w) => watch_header(p, s, l, r, o, w, line),
         Request::Chain(p, n) => chain_header(p, 2 * (n as u32), line),
         Request::Mend(p, s, n) => mend_header(p, s, 2 * (n as u32), line),
         Request::Tidy(p, r) => tidy_header(p, r, line),

@@ -37,3 +37,17 @@ pub fn put_field(n: u32, end: u8, line: &mut [u8; 64], at: usize) -> usize
     line[here] = end;
     here + 1
 }
+
+// The same of a number of 16 bits: at most 6 further.
+pub(crate) fn put_short(n: u16, end: u8, line: &mut [u8; 64], at: usize) -> usize
+    requires { ⌜ at + 6 ≤ 64 ⌝ }
+    ensures { λ r. ⌜ Put at (field n end) (now (line .entry)) (now (line .exit)) r ⌝ }
+    ensures { λ r. ⌜ r ≤ at + 6 ⌝ }
+    ensures { λ _. ⌜ length (now (line .exit)) ≡ 64 ⌝ }
+{
+    let mut digits = [0u8; 20];
+    let k = io::decimal(n as u64, &mut digits);
+    let here = put(&digits[..k], line, at);
+    line[here] = end;
+    here + 1
+}

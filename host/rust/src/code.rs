@@ -40,6 +40,10 @@ pub enum Code {
     OtherProgram = raw::OTHER_PROGRAM,
     /// The room for the list is not one entry for each cell and one more.
     ListLength = raw::LIST_LENGTH,
+    /// The list of nodes to watch has not 1 to 8 entries.
+    WatchLength = raw::WATCH_LENGTH,
+    /// This entry of the list is no signal node, or not above the one before. The place: entry.
+    WatchEntry = raw::WATCH_ENTRY,
     /// The room for the new program is shorter than the old program.
     NewLength = raw::NEW_LENGTH,
     /// No let needs its own value of the same step: there is nothing to explain.
@@ -78,7 +82,7 @@ pub enum Code {
 
 impl Code {
     /// All codes, from 1 on.
-    pub const ALL: [Code; 29] = [
+    pub const ALL: [Code; 31] = [
         Code::ProgramLength,
         Code::CheckSum,
         Code::BlockNumber,
@@ -94,6 +98,8 @@ impl Code {
         Code::TimeBack,
         Code::OtherProgram,
         Code::ListLength,
+        Code::WatchLength,
+        Code::WatchEntry,
         Code::NewLength,
         Code::NoLet,
         Code::RoomLength,
@@ -138,6 +144,8 @@ impl Code {
             13 => "the time of this record is before the time of the state",
             15 => "the state is that of another program",
             16 => "the room for the list is not one entry for each cell and one more",
+            17 => "the list of nodes to watch has not 1 to 8 entries",
+            18 => "this entry of the list is no signal node, or not above the one before",
             19 => "the room for the new program is shorter than the old program",
             25 => "no let needs its own value of the same step: there is nothing to explain",
             26 => "the room for the chain is not 1,008 entries",

@@ -1,5 +1,5 @@
-//! The calls of Couplerfinch for Rust: [`check`], [`start`], [`run`], [`explain`], [`mend`], [`tidy`] and
-//! [`paired`].
+//! The calls of Couplerfinch for Rust: [`check`], [`start`], [`run`], [`watch`], [`explain`], [`mend`],
+//! [`tidy`] and [`paired`].
 //!
 //! They stand over the static library `libcouplerfinch.a`, whose answers are proved: every call ends
 //! and answers, whatever bytes and lengths it is handed. What a caller in C owes (a pointer to as
@@ -37,8 +37,8 @@ pub mod raw;
 
 pub use code::{Code, Type};
 pub use raw::{
-    list_entries, state_length, BLOCK, BLOCKS, LONGEST_LIST, LONGEST_PROGRAM, LONGEST_STATE, NODES,
-    NO_ENTRY, NO_STEP, RECORD, RECORDS, TIME_ENTRY, VALUE,
+    list_entries, shown_length, state_length, BLOCK, BLOCKS, LONGEST_LIST, LONGEST_PROGRAM,
+    LONGEST_STATE, NODES, NO_ENTRY, NO_STEP, RECORD, RECORDS, TIME_ENTRY, VALUE, WATCHED,
 };
 
 use core::fmt;
@@ -164,6 +164,49 @@ pub fn run(
                 records_length,
                 output,
                 length,
+                answer,
+            )
+        }
+    });
+    answer.map(|answer| ran(&answer))
+}
+
+/// Runs the records as [`run`] does, with the same answer, output and state, and writes down what nodes
+/// inside the table gave: the list has 1 to [`WATCHED`] signal nodes (kinds 1-8), rising. For each step and
+/// in it for each entry, 8 bytes of the second room are the value that the node gave while the step's value
+/// was worked out, or zeros where that did not come to the node: in a part that is not current, inside a
+/// delay, in the event of a switch or an until. The second room is [`shown_length`] long. A refused watched
+/// run keeps the steps done before the refused record, in both rooms.
+pub fn watch(
+    program: &[u8],
+    state: &mut [u8],
+    records: &[u8],
+    list: &[u16],
+    output: &mut [u8],
+    shown: &mut [u8],
+) -> Result<Ran, Refusal> {
+    let answer = ran_or_refused(|answer| {
+        let (program, program_length) = (program.as_ptr(), program.len());
+        let (state, state_length) = (state.as_mut_ptr(), state.len());
+        let (records, records_length) = (records.as_ptr(), records.len());
+        let (list, entries) = (list.as_ptr(), list.len());
+        let (output, length) = (output.as_mut_ptr(), output.len());
+        let (shown, shown_length) = (shown.as_mut_ptr(), shown.len());
+        // Safety: as for `check`; state, output and second room are lent alone, so they overlap nothing.
+        unsafe {
+            raw::couplerfinch_watch(
+                program,
+                program_length,
+                state,
+                state_length,
+                records,
+                records_length,
+                list,
+                entries,
+                output,
+                length,
+                shown,
+                shown_length,
                 answer,
             )
         }

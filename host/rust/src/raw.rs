@@ -20,6 +20,13 @@ pub const fn state_length(cells: usize) -> usize {
 }
 pub const LONGEST_STATE: usize = state_length(NODES);
 
+pub const WATCHED: usize = 8;
+
+/// The length of a watched run's second room for so many entries and records.
+pub const fn shown_length(entries: usize, records: usize) -> usize {
+    8 * entries * records
+}
+
 /// How many entries mend's list has room for with so many cells.
 pub const fn list_entries(cells: usize) -> usize {
     cells + 1
@@ -43,6 +50,8 @@ pub const INPUT_FAULT: u32 = 12;
 pub const TIME_BACK: u32 = 13;
 pub const OTHER_PROGRAM: u32 = 15;
 pub const LIST_LENGTH: u32 = 16;
+pub const WATCH_LENGTH: u32 = 17;
+pub const WATCH_ENTRY: u32 = 18;
 pub const NEW_LENGTH: u32 = 19;
 pub const NO_LET: u32 = 25;
 pub const ROOM_LENGTH: u32 = 26;
@@ -98,6 +107,21 @@ extern "C" {
         records_length: usize,
         output: *mut u8,
         output_length: usize,
+        answer: *mut Answer,
+    ) -> u32;
+    pub fn couplerfinch_watch(
+        program: *const u8,
+        program_length: usize,
+        state: *mut u8,
+        state_length: usize,
+        records: *const u8,
+        records_length: usize,
+        list: *const u16,
+        list_entries: usize,
+        output: *mut u8,
+        output_length: usize,
+        shown: *mut u8,
+        shown_length: usize,
         answer: *mut Answer,
     ) -> u32;
     pub fn couplerfinch_explain(

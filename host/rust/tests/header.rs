@@ -94,6 +94,7 @@ fn header(text: &str) -> Declared {
                 let name = match name {
                     "STATE(cells)" => "state_length",
                     "LIST(cells)" => "list_entries",
+                    "SHOWN(entries,records)" => "shown_length",
                     _ => name,
                 };
                 all.numbers.push(format!("{name} = {}", formula(value)));
@@ -130,7 +131,7 @@ fn rust(text: &str) -> Declared {
     while let Some(line) = lines.next() {
         let end = |mark| line.strip_suffix(mark).unwrap_or_else(|| panic!("{line}"));
         if let Some(function) = line.strip_prefix("pub const fn ") {
-            let name = function.strip_suffix("(cells: usize) -> usize {").expect("of the cells");
+            let (name, _) = function.split_once('(').expect("a function of numbers");
             let body = lines.next().expect("a body");
             all.numbers.push(format!("{name} = {}", formula(body)));
         } else if line.starts_with("pub const ") {
@@ -157,7 +158,7 @@ const SILENT: [&str; 4] = [
 #[test]
 fn declarations_are_the_headers() {
     let (one, other) = (header(HEADER), rust(RAW));
-    assert_eq!((one.numbers.len(), one.fields.len(), one.functions.len()), (44, 12, 7));
+    assert_eq!((one.numbers.len(), one.fields.len(), one.functions.len()), (48, 12, 8));
     assert_eq!(one, other);
     assert!(RAW.contains("#[repr(C)]\n#[derive"), "C's layout");
 }

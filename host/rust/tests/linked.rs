@@ -3,8 +3,8 @@
 #![cfg(linked)]
 
 use couplerfinch::{
-    check, explain, mend, paired, run, start, tidy, Checked, Code, Explained, Ran, Refusal, Tidied,
-    Type, BLOCK, NODES, NO_ENTRY, RECORD, TIME_ENTRY,
+    check, explain, mend, paired, run, start, tidy, watch, Checked, Code, Explained, Ran, Refusal,
+    Tidied, Type, BLOCK, NODES, NO_ENTRY, RECORD, TIME_ENTRY,
 };
 
 /// A record of a table: kind, type, a, b, c and word.
@@ -113,6 +113,51 @@ fn reading_d_by_a_run() {
     let ran = run(&program, &mut state, &records, &mut output);
     assert_eq!(ran, Ok(Ran { steps: 4, work: 26, wrapped: None }));
     assert_eq!(output.to_vec(), [0, 5, 5, 6].map(int).concat());
+}
+
+#[test]
+fn reading_d_watched() {
+    let program = block(&D);
+    let records = [record(0, Some(5)), record(1, None)].concat();
+    let (mut state, mut output, mut shown) = ([0; 16], [9; 16], [9; 48]);
+    start(&program, &mut state).unwrap();
+    let ran = watch(&program, &mut state, &records, &[1, 2, 4], &mut output, &mut shown);
+    assert_eq!(ran, Ok(Ran { steps: 2, work: 13, wrapped: None }));
+    assert_eq!(output.to_vec(), [0, 5].map(int).concat());
+    // First until the switch has switched, second from then on, the event never.
+    let none = [0; 8];
+    assert_eq!(shown.to_vec(), [int(0), none, none, none, none, int(5)].concat());
+}
+
+#[test]
+fn refused_watches() {
+    let program = block(&A);
+    let (mut state, mut output, mut shown) = ([7; 16], [9; 16], [9; 16]);
+    let lists: [(&[u16], Code, u32); 5] = [
+        (&[], Code::WatchLength, 0),
+        (&[4; 9], Code::WatchLength, 0),
+        (&[4, 3], Code::WatchEntry, 1),
+        (&[0], Code::WatchEntry, 0),
+        (&[4, 7, 8], Code::WatchEntry, 2),
+    ];
+    for (list, code, place) in lists {
+        let refused = watch(&program, &mut state, &[], list, &mut output, &mut shown);
+        assert_eq!(refused, Err(refusal(code, place)));
+    }
+    assert_eq!((state, output, shown), ([7; 16], [9; 16], [9; 16]));
+    start(&program, &mut state).unwrap();
+    let records = [record(100, None), record(0, None)].concat();
+    let short = watch(&program, &mut state, &records, &[4], &mut output, &mut shown[..8]);
+    assert_eq!(short, Err(refusal(Code::OutputLength, 0)));
+    // The second record is before the first: the first one's row is kept.
+    let ran = Ran { steps: 1, work: 13, wrapped: None };
+    let refused = watch(&program, &mut state, &records, &[4], &mut output, &mut shown);
+    assert_eq!(refused, Err(Refusal { code: Code::TimeBack, place: 1, ran }));
+    assert_eq!(
+        (output.to_vec(), shown.to_vec()),
+        ([int(0), [9; 8]].concat(), [int(0), [9; 8]].concat())
+    );
+    assert_eq!(state.to_vec(), state_of(&program, 100, int(1)));
 }
 
 #[test]

@@ -7,7 +7,7 @@ use std::io::{self, stdout, BufWriter, Write};
 use std::path::Path;
 
 const USAGE: &str =
-    "generate requests|checks|long|chains|mends|tidies|pairs|texts|prints SEED COUNT, or programs SEED COUNT DIR";
+    "generate requests|checks|long|watches|chains|mends|tidies|pairs|texts|prints SEED COUNT, or programs SEED COUNT DIR";
 
 fn main() {
     let words: Vec<String> = std::env::args().skip(1).collect();
@@ -20,6 +20,7 @@ fn main() {
         ("requests", _) => stream(seed, count, generate::request),
         ("checks", _) => stream(seed, count, generate::check_request),
         ("long", _) => stream(seed, count, generate::long_request),
+        ("watches", _) => stream(seed, count, generate::watch_request),
         ("chains", _) => stream(seed, count, generate::chain_request),
         ("mends", _) => stream(seed, count, generate::mend_request),
         ("tidies", _) => stream(seed, count, generate::tidy_request),

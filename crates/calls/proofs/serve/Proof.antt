@@ -6,11 +6,11 @@ use Rattle.calls.proofs.serve.Statement.{statement}
 use Rattle.calls.proofs.serve.Tie as tie
 
 abbrev Inv-loop : tie.InvT-loop
-Inv-loop input₀ program₀ state₀ records₀ room₀ entries₀ out₀ at₀ end₀ full₀ turns₀ input program state records room entries out at end full turns =
-    (length input ≡ length input₀) × (length program ≡ length program₀) × (length state ≡ length state₀) × (length records ≡ length records₀) × (length room ≡ length room₀) × (length entries ≡ length entries₀) × (length out ≡ length out₀)
+Inv-loop input₀ program₀ state₀ records₀ room₀ entries₀ list₀ shown₀ out₀ at₀ end₀ full₀ turns₀ input program state records room entries list shown out at end full turns =
+    (length input ≡ length input₀) × (length program ≡ length program₀) × (length state ≡ length state₀) × (length records ≡ length records₀) × (length room ≡ length room₀) × (length entries ≡ length entries₀) × (length list ≡ length list₀) × (length shown ≡ length shown₀) × (length out ≡ length out₀)
 
 abbrev μ-loop : tie.MeasureT-loop
-μ-loop input₀ program₀ state₀ records₀ room₀ entries₀ out₀ at₀ end₀ full₀ turns₀ input program state records room entries out at end full turns =
+μ-loop input₀ program₀ state₀ records₀ room₀ entries₀ list₀ shown₀ out₀ at₀ end₀ full₀ turns₀ input program state records room entries list shown out at end full turns =
     turns
 
 loop-holds : tie.Need-loop-holds Inv-loop μ-loop
@@ -18,6 +18,21 @@ loop-holds c = search needs
 
 turn-requires : tie.Need-turn-requires Inv-loop μ-loop
 turn-requires c κs = search needs
+
+sub-turns : tie.Need-sub-turns Inv-loop μ-loop
+sub-turns c = search needs
+
+loop-less : tie.Need-loop-less Inv-loop μ-loop
+loop-less c = search needs
+
+loop-again : tie.Need-loop-again Inv-loop μ-loop
+loop-again c = search needs
+
+loop-less-2 : tie.Need-loop-less-2 Inv-loop μ-loop
+loop-less-2 c = search needs
+
+loop-again-2 : tie.Need-loop-again-2 Inv-loop μ-loop
+loop-again-2 c = search needs
 
 flush-requires : tie.Need-flush-requires Inv-loop μ-loop
 flush-requires c κs = search needs
@@ -43,44 +58,14 @@ same-length-6 c = search needs
 same-length-7 : tie.Need-same-length-7 Inv-loop μ-loop
 same-length-7 c = search needs
 
-returns : tie.Need-returns Inv-loop μ-loop
-returns c = search needs
-
-sub-turns : tie.Need-sub-turns Inv-loop μ-loop
-sub-turns c = search needs
-
-loop-less : tie.Need-loop-less Inv-loop μ-loop
-loop-less c = search needs
-
-loop-again : tie.Need-loop-again Inv-loop μ-loop
-loop-again c = search needs
-
-flush-requires-2 : tie.Need-flush-requires-2 Inv-loop μ-loop
-flush-requires-2 c κs = search needs
-
 same-length-8 : tie.Need-same-length-8 Inv-loop μ-loop
 same-length-8 c = search needs
 
 same-length-9 : tie.Need-same-length-9 Inv-loop μ-loop
 same-length-9 c = search needs
 
-same-length-10 : tie.Need-same-length-10 Inv-loop μ-loop
-same-length-10 c = search needs
-
-same-length-11 : tie.Need-same-length-11 Inv-loop μ-loop
-same-length-11 c = search needs
-
-same-length-12 : tie.Need-same-length-12 Inv-loop μ-loop
-same-length-12 c = search needs
-
-same-length-13 : tie.Need-same-length-13 Inv-loop μ-loop
-same-length-13 c = search needs
-
-same-length-14 : tie.Need-same-length-14 Inv-loop μ-loop
-same-length-14 c = search needs
-
-returns-2 : tie.Need-returns-2 Inv-loop μ-loop
-returns-2 c = search needs
+returns : tie.Need-returns Inv-loop μ-loop
+returns c = search needs
 
 pub serve-spec : {M : Type 1} → statement M
 serve-spec =
@@ -90,6 +75,11 @@ serve-spec =
     μ-loop
     loop-holds
     turn-requires
+    sub-turns
+    loop-less
+    loop-again
+    loop-less-2
+    loop-again-2
     flush-requires
     same-length
     same-length-2
@@ -98,16 +88,6 @@ serve-spec =
     same-length-5
     same-length-6
     same-length-7
-    returns
-    sub-turns
-    loop-less
-    loop-again
-    flush-requires-2
     same-length-8
     same-length-9
-    same-length-10
-    same-length-11
-    same-length-12
-    same-length-13
-    same-length-14
-    returns-2)
+    returns)

@@ -27,6 +27,12 @@ run-header-requires c κs = search needs
 enum-known-request-4 : tie.Need-enum-known-request-4
 enum-known-request-4 c = search needs
 
+watch-header-requires : tie.Need-watch-header-requires
+watch-header-requires c κs = search needs
+
+enum-known-request-5 : tie.Need-enum-known-request-5
+enum-known-request-5 c = search needs
+
 cast-chain-header : tie.Need-cast-chain-header
 cast-chain-header c = search needs
 
@@ -36,8 +42,8 @@ mul-chain-header c = search needs
 chain-header-requires : tie.Need-chain-header-requires
 chain-header-requires c κs = search needs
 
-enum-known-request-5 : tie.Need-enum-known-request-5
-enum-known-request-5 c = search needs
+enum-known-request-6 : tie.Need-enum-known-request-6
+enum-known-request-6 c = search needs
 
 cast-mend-header : tie.Need-cast-mend-header
 cast-mend-header c = search needs
@@ -48,14 +54,14 @@ mul-mend-header c = search needs
 mend-header-requires : tie.Need-mend-header-requires
 mend-header-requires c κs = search needs
 
-enum-known-request-6 : tie.Need-enum-known-request-6
-enum-known-request-6 c = search needs
+enum-known-request-7 : tie.Need-enum-known-request-7
+enum-known-request-7 c = search needs
 
 tidy-header-requires : tie.Need-tidy-header-requires
 tidy-header-requires c κs = search needs
 
-enum-known-request-7 : tie.Need-enum-known-request-7
-enum-known-request-7 c = search needs
+enum-known-request-8 : tie.Need-enum-known-request-8
+enum-known-request-8 c = search needs
 
 cast-pair-header : tie.Need-cast-pair-header
 cast-pair-header c = search needs
@@ -83,23 +89,27 @@ returns-3 c = let e = c .run-header .ensures in (e .0, e .1 ∙ sym (ap headerLi
 
 returns-4 : tie.Need-returns-4
 unfolding headerLine
-returns-4 c = let e = c .chain-header .ensures in (e .0, e .1 ∙ sym (ap headerLine (c .before .before .before .request4 .given .1)))
+returns-4 c = let e = c .watch-header .ensures in (e .0, e .1 ∙ sym (ap headerLine (c .before .before .before .request4 .given .1)))
 
 returns-5 : tie.Need-returns-5
 unfolding headerLine
-returns-5 c = let e = c .mend-header .ensures in (e .0, e .1 ∙ sym (ap headerLine (c .before .before .before .request5 .given .1)))
+returns-5 c = let e = c .chain-header .ensures in (e .0, e .1 ∙ sym (ap headerLine (c .before .before .before .request5 .given .1)))
 
 returns-6 : tie.Need-returns-6
 unfolding headerLine
-returns-6 c = let e = c .tidy-header .ensures in (e .0, e .1 ∙ sym (ap headerLine (c .before .before .before .request6 .given .1)))
+returns-6 c = let e = c .mend-header .ensures in (e .0, e .1 ∙ sym (ap headerLine (c .before .before .before .request6 .given .1)))
 
 returns-7 : tie.Need-returns-7
 unfolding headerLine
-returns-7 c = let e = c .pair-header .ensures in (e .0, e .1 ∙ sym (ap headerLine (c .before .before .before .request7 .given .1)))
+returns-7 c = let e = c .tidy-header .ensures in (e .0, e .1 ∙ sym (ap headerLine (c .before .before .before .request7 .given .1)))
 
 returns-8 : tie.Need-returns-8
 unfolding headerLine
-returns-8 c = ((zero-le, refl), sym (ap headerLine (c .enum-told .given .1)))
+returns-8 c = let e = c .pair-header .ensures in (e .0, e .1 ∙ sym (ap headerLine (c .before .before .before .request8 .given .1)))
+
+returns-9 : tie.Need-returns-9
+unfolding headerLine
+returns-9 c = ((zero-le, refl), sym (ap headerLine (c .enum-told .given .1)))
 
 pub header-spec : {M : Type 1} → statement M
 header-spec =
@@ -112,16 +122,18 @@ header-spec =
     enum-known-request-3
     run-header-requires
     enum-known-request-4
+    watch-header-requires
+    enum-known-request-5
     cast-chain-header
     mul-chain-header
     chain-header-requires
-    enum-known-request-5
+    enum-known-request-6
     cast-mend-header
     mul-mend-header
     mend-header-requires
-    enum-known-request-6
-    tidy-header-requires
     enum-known-request-7
+    tidy-header-requires
+    enum-known-request-8
     cast-pair-header
     mul-pair-header
     pair-header-requires
@@ -133,4 +145,5 @@ header-spec =
     returns-5
     returns-6
     returns-7
-    returns-8)
+    returns-8
+    returns-9)

@@ -1,0 +1,4 @@
+pub mod Seen
+pub mod Rows
+pub mod Numbers
+pub mod Says

@@ -1,0 +1,2 @@
+pub mod RoomNoted
+pub mod RowsHold

@@ -1,0 +1,4 @@
+pub mod Gave
+pub mod Note
+pub mod Watch
+pub mod WatchRows

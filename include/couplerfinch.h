@@ -1,4 +1,4 @@
-/* The eight calls of Couplerfinch for C: check, start, run, watch, explain, mend, tidy and paired.
+/* The ten calls of Couplerfinch for C: check, start, run, watch, explain, mend, tidy, paired, read and print.
  *
  * Every call ends and answers, whatever bytes and lengths it is handed; none has a precondition on the content. It writes the answer
  * to the room that is lent for it, and answers the code too: 0 where the call went through, or the first code that the rules
@@ -42,8 +42,11 @@ extern "C" {
 #define COUPLERFINCH_VALUE 8u
 #define COUPLERFINCH_RECORDS 4096u
 
-/* The length of the longest program: a room for tidy that is long enough for any. */
+/* The length of the longest program: a room for tidy and read that is long enough for any. */
 #define COUPLERFINCH_LONGEST_PROGRAM (COUPLERFINCH_BLOCK * COUPLERFINCH_BLOCKS)
+
+/* No printed text is longer: a room for print that is long enough for any. */
+#define COUPLERFINCH_LONGEST_TEXT 107868u
 
 /* An entry of explain's room behind the chain. */
 #define COUPLERFINCH_NO_ENTRY 65535u
@@ -69,6 +72,7 @@ extern "C" {
  * sum that is not the program's, then by 9 for the rest, before 10. (14 was a code, and is not used again.) Mend tries 9 for the length alone,
  * then 15, then 16, a list that has not COUPLERFINCH_LIST(cells) entries. Watch alone gives 17 and 18, for its list, after 8 and before 9, and
  * gives 11 for either of its rooms. Tidy alone gives 19, a room that is shorter than the program.
+ * Read alone gives 21 to 23, a word that does not fit at its position in the text, and with print 24, a room that is shorter than the result.
  * Explain alone gives 25, no let to explain, and 26, a room that has not COUPLERFINCH_NODES entries. Paired alone gives 27 to 29, and 33 to 40:
  * 1 to 8 of the new program. */
 #define COUPLERFINCH_DONE 0u
@@ -108,6 +112,14 @@ extern "C" {
 #define COUPLERFINCH_WATCH_ENTRY 18u
 /* the room for the new program is shorter than the old program */
 #define COUPLERFINCH_NEW_LENGTH 19u
+/* this word or parenthesis does not fit here */
+#define COUPLERFINCH_TEXT_WORD 21u
+/* this name is unknown here, or bound twice */
+#define COUPLERFINCH_TEXT_NAME 22u
+/* this constant or channel is out of range */
+#define COUPLERFINCH_TEXT_NUMBER 23u
+/* the result is longer than the room for it */
+#define COUPLERFINCH_TEXT_ROOM 24u
 /* no let needs its own value of the same step: there is nothing to explain */
 #define COUPLERFINCH_NO_LET 25u
 /* the room for the chain is not 1,008 entries */
@@ -138,15 +150,15 @@ extern "C" {
 /* An answer: twelve numbers, those that its call does not give are 0. */
 typedef struct couplerfinch_answer {
     uint32_t code;    /* 0, or the first code that the rules give */
-    uint32_t place;   /* of a refusal: the block (2, 3), record (4), node (5-8), input record (12, 13) or entry (18, 28); 34-40 as 2-8 */
+    uint32_t place;   /* of a refusal: the block (2, 3), record (4), node (5-8), input record (12, 13), position (21-23) or entry (18, 28); 34-40 as 2-8 */
     uint32_t steps;   /* run, watch: whole steps done, of a refusal too */
     uint32_t work;    /* run, watch: rules used by the steps done, of a refusal too */
-    uint32_t nodes;   /* check: how many nodes the program has; tidy: how many the new one has */
+    uint32_t nodes;   /* check: how many nodes the program has; tidy, read: how many the new one has */
     uint32_t cells;   /* check: how many cells its state has */
     uint32_t bound;   /* check: the most rules that a step uses */
     uint32_t type;    /* check: the type of the value of a step */
     uint32_t wrapped; /* run, watch: the first step, from 0, in which a number wrapped, of a refusal too; COUPLERFINCH_NO_STEP if none */
-    uint32_t length;  /* tidy: the length of the new program in bytes */
+    uint32_t length;  /* tidy, read: the length of the new program in bytes; print: of the text */
     uint32_t entries; /* explain: how many entries the chain has; mend: how many were listed */
     uint32_t node;    /* explain: the let */
 } couplerfinch_answer;
@@ -200,6 +212,16 @@ uint32_t couplerfinch_tidy(const uint8_t *program, size_t program_length, uint8_
  * node, 28 at its first wrong entry. Nothing but the answer is written. */
 uint32_t couplerfinch_paired(const uint8_t *old_program, size_t old_length, const uint8_t *new_program, size_t new_length,
                              const uint16_t *pairing, size_t pairing_entries, couplerfinch_answer *answer);
+
+/* Reads a table as it is typed (docs/TEXT.md) and writes its blocks to the front of the room; what is behind is left. Codes 21 to
+ * 23 at the first word that does not fit, whose position in bytes from 0 is the place (the text's length, where it ends too early); then 24 if
+ * the blocks are longer than the room; then 6 to 8 as the check, with the nodes of the text's own numbering: children first, in field order. */
+uint32_t couplerfinch_read(const uint8_t *text, size_t text_length, uint8_t *room, size_t room_length, couplerfinch_answer *answer);
+
+/* Prints a program as text to the front of the room; what is behind is left. Reading the text gives the program numbered children first, and
+ * printing that gives the text again. Codes 1-8, then 24 if the text is longer than the room; none is longer than
+ * COUPLERFINCH_LONGEST_TEXT. */
+uint32_t couplerfinch_print(const uint8_t *program, size_t program_length, uint8_t *room, size_t room_length, couplerfinch_answer *answer);
 
 #ifdef __cplusplus
 }

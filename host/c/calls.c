@@ -19,9 +19,9 @@
 #define ROOMS 6          /* the most that a call is lent */
 #define CHUNK (1u << 16) /* how much memory a length is trusted with before its bytes are there */
 
-enum call { CHECK, START, RUN, WATCH, CHAIN, MEND, TIDY, PAIR };
+enum call { CHECK, START, RUN, WATCH, CHAIN, MEND, TIDY, PAIR, READ, PRINT };
 
-/* The calls: how many rooms each is lent, the program first; which of them it may write; which has entries, two bytes each (0: none). */
+/* The calls: how many rooms each is lent, the program or text first; which of them it may write; which has entries, two bytes each (0: none). */
 static const struct {
     const char *name;
     size_t rooms;
@@ -36,6 +36,8 @@ static const struct {
     {"mend", 3, {false, true, true}, 2},
     {"tidy", 2, {false, true}, 0},
     {"pair", 3, {false}, 2},
+    {"read", 2, {false, true}, 0},
+    {"print", 2, {false, true}, 0},
 };
 
 /* Bytes lent to a call: `bytes` points behind the first guard. */
@@ -160,7 +162,7 @@ static bool number(struct word word, uint64_t *value)
 
 static bool call_named(struct word word, enum call *call)
 {
-    for (int i = CHECK; i <= PAIR; i++) {
+    for (int i = CHECK; i <= PRINT; i++) {
         if (strlen(calls[i].name) == word.length && memcmp(calls[i].name, word.at, word.length) == 0) {
             *call = (enum call)i;
             return true;
@@ -229,6 +231,10 @@ static uint32_t call(const struct request *request, couplerfinch_answer *answer)
         return couplerfinch_mend(r[0].bytes, r[0].length, r[1].bytes, r[1].length, entries(r[2]), r[2].length / 2, answer);
     case TIDY:
         return couplerfinch_tidy(r[0].bytes, r[0].length, r[1].bytes, r[1].length, answer);
+    case READ:
+        return couplerfinch_read(r[0].bytes, r[0].length, r[1].bytes, r[1].length, answer);
+    case PRINT:
+        return couplerfinch_print(r[0].bytes, r[0].length, r[1].bytes, r[1].length, answer);
     case PAIR:
         return couplerfinch_paired(r[0].bytes, r[0].length, r[1].bytes, r[1].length, entries(r[2]), r[2].length / 2, answer);
     default:
@@ -259,6 +265,11 @@ static bool may_give(enum call of, uint32_t code)
         return code <= COUPLERFINCH_STATE_FAULT || among(code, COUPLERFINCH_OTHER_PROGRAM, COUPLERFINCH_LIST_LENGTH);
     case TIDY:
         return code <= COUPLERFINCH_NOT_READY || code == COUPLERFINCH_NEW_LENGTH;
+    case READ:
+        return code == 0 || among(code, COUPLERFINCH_SCOPE_FAULT, COUPLERFINCH_NOT_READY) ||
+               among(code, COUPLERFINCH_TEXT_WORD, COUPLERFINCH_TEXT_ROOM);
+    case PRINT:
+        return code <= COUPLERFINCH_NOT_READY || code == COUPLERFINCH_TEXT_ROOM;
     case PAIR:
         return code <= COUPLERFINCH_NOT_READY || among(code, COUPLERFINCH_PAIRING_LENGTH, COUPLERFINCH_OTHER_EDITION) ||
                among(code, COUPLERFINCH_NEW_PROGRAM_LENGTH, COUPLERFINCH_NEW_NOT_READY);
@@ -271,14 +282,15 @@ static bool may_give(enum call of, uint32_t code)
 static void hold_answer(enum call of, uint32_t code, const couplerfinch_answer *a)
 {
     bool checked = of == CHECK && code == 0, explained = of == CHAIN && code == 0;
-    bool mended = of == MEND && code == 0, tidied = of == TIDY && code == 0, ran = of == RUN || of == WATCH;
+    bool mended = of == MEND && code == 0, made = (of == TIDY || of == READ) && code == 0, printed = of == PRINT && code == 0;
+    bool ran = of == RUN || of == WATCH;
     if (code != a->code || !may_give(of, code))
         fail("the code answered is not that of the answer, or not the call's");
     if ((a->place != 0 && code == 0) || (!ran && (a->steps != 0 || a->work != 0)))
         fail("a place, steps or work where there is none");
-    if ((!checked && (a->cells != 0 || a->bound != 0 || a->type != 0)) || (!checked && !tidied && a->nodes != 0))
+    if ((!checked && (a->cells != 0 || a->bound != 0 || a->type != 0)) || (!checked && !made && a->nodes != 0))
         fail("nodes, cells, bound or type where there is none");
-    if ((!explained && a->node != 0) || (!explained && !mended && a->entries != 0) || (!tidied && a->length != 0) || (!ran && a->wrapped != 0))
+    if ((!explained && a->node != 0) || (!explained && !mended && a->entries != 0) || (!made && !printed && a->length != 0) || (!ran && a->wrapped != 0))
         fail("wrapped, length, entries or a node where there is none");
     if (ran && a->wrapped != COUPLERFINCH_NO_STEP && a->wrapped >= a->steps)
         fail("a wrapped step that was not done");
@@ -310,7 +322,7 @@ static couplerfinch_answer guarded(const struct request *request)
     for (size_t i = 0; i < request->count; i++) {
         bool same = memcmp(old[i].bytes, request->rooms[i].bytes, old[i].length) == 0;
         if (!same && !written[i])
-            fail("a program, records, a list or a pairing were written");
+            fail("a program, a text, records, a list or a pairing were written");
         if (!same && code != 0 && request->call != RUN && request->call != WATCH)
             fail("a refused call wrote to a room");
         free_room(old[i]);
@@ -351,7 +363,9 @@ static void print_answer(const struct request *request, const couplerfinch_answe
         printf("OK %" PRIu32 " %" PRIu32 "\n", a->node, a->entries);
     else if (request->call == MEND)
         printf("OK %" PRIu32 "\n", a->entries);
-    else if (request->call == TIDY)
+    else if (request->call == PRINT)
+        printf("OK %" PRIu32 "\n", a->length);
+    else if (request->call == TIDY || request->call == READ)
         printf("OK %" PRIu32 " %" PRIu32 "\n", a->nodes, a->length);
     else
         printf("OK %" PRIu32 " %" PRIu32 " %" PRIu32 "\n", a->steps, a->work, a->wrapped);

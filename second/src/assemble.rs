@@ -95,11 +95,21 @@ pub fn program(text: &str) -> Result<Vec<u8>, Mistake> {
         nodes.push(node(words, &labels).map_err(says)?);
     }
     let mut bytes = format::write(&nodes);
-    for (line, words) in lines(text).filter(is_override) {
-        let says = |says| Mistake { line, says };
-        override_bytes(&mut bytes, words).map_err(says)?;
-    }
+    damage(&mut bytes, lines(text).filter(is_override))?;
     Ok(bytes)
+}
+
+/// Blocks with the raw overrides of a text, which has nothing else, in their order.
+pub fn damaged(mut bytes: Vec<u8>, text: &str) -> Result<Vec<u8>, Mistake> {
+    damage(&mut bytes, lines(text))?;
+    Ok(bytes)
+}
+
+fn damage<'a>(bytes: &mut Vec<u8>, lines: impl Iterator<Item = Line<'a>>) -> Result<(), Mistake> {
+    for (line, words) in lines {
+        override_bytes(bytes, words).map_err(|says| Mistake { line, says })?;
+    }
+    Ok(())
 }
 
 /// The lines of a text, from 1, on which its nodes stand and on which its records do, in their order.
@@ -257,10 +267,13 @@ fn value(word: &str) -> Outcome<Value> {
 }
 
 /// A raw override: `.edition` of all blocks (the number in their byte 3), `.number`, `.count`,
-/// `.check` of a block, `.byte`, `.seal` or `.length`.
+/// `.check` of a block, `.node`, `.byte`, `.seal` or `.length`.
 fn override_bytes(bytes: &mut Vec<u8>, line: &str) -> Outcome<()> {
     let mut words = line.split_whitespace();
     let name = words.next().unwrap_or("");
+    if name == ".node" {
+        return override_node(bytes, words);
+    }
     let numbers = words.map(number).collect::<Outcome<Vec<i64>>>()?;
     let size = |i: usize| numbers.get(i).map(|&n| n as usize).ok_or("a number is missing");
     match name {
@@ -276,6 +289,23 @@ fn override_bytes(bytes: &mut Vec<u8>, line: &str) -> Outcome<()> {
         }
         _ => return Err(format!("no override is called {name}")),
     }
+    Ok(())
+}
+
+/// `.node N field=..`: fields of a node by their letters, or `kind`, `type`, `word` or `value`, and its
+/// block's check right again.
+fn override_node<'a>(bytes: &mut [u8], mut words: impl Iterator<Item = &'a str>) -> Outcome<()> {
+    let number = within(words.next().ok_or("a number is missing")?, 16)? as usize;
+    let block = bytes.chunks_exact_mut(format::BLOCK).nth(number / format::RECORDS);
+    let block = block.ok_or("that place is beyond the end")?;
+    let at = format::HEAD + number % format::RECORDS * format::RECORD;
+    let mut node = format::node_of(&block[at..at + format::RECORD]);
+    for field in words {
+        let (name, content) = field.split_once('=').ok_or(format!("{field} has no ="))?;
+        set_field(&mut node, &["", "", ""], name, content, &HashMap::new())?;
+    }
+    put(block, at, &format::record_of(&node))?;
+    format::seal(block);
     Ok(())
 }
 

@@ -2,8 +2,8 @@
 //!
 //! The modules follow the paper: `format` (codes 1-4), `shape` (5), `scope` (6), `types` (7),
 //! `ready` (8), `bound`, `state` (9, 15), `record` (12), `evaluate`, `update`, `calls`, and document 02's
-//! calls `chain` (25, 26), `mend` (16), `watch` (17, 18), `tidy` (19) and `pair` (27-29, 33-40). The tools around them are
-//! `assemble`, `generate`, `request` and `print`.
+//! calls `chain` (25, 26), `mend` (16), `watch` (17, 18), `tidy` (19), `pair` (27-29, 33-40), `reader` (21-24) and
+//! `printer` (24). The tools around them are `assemble`, `generate`, `request` and `print`.
 
 pub mod assemble;
 pub mod bound;
@@ -15,6 +15,7 @@ pub mod evaluate;
 pub mod format;
 pub mod generate;
 pub mod grow;
+pub mod hostile;
 pub mod kinds;
 pub mod mend;
 pub mod number;

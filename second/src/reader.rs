@@ -23,15 +23,28 @@ pub struct Table {
 /// 24 if the blocks are longer than the room, then 6 to 8 as the check. It answers the nodes and the
 /// length.
 pub fn read(text: &[u8], room: &mut [u8]) -> Result<Table, Refusal> {
-    let (edition, nodes) = Reader::new(text).whole()?;
-    let mut program = format::write(&nodes);
-    format::set_edition(&mut program, edition);
+    let Unjudged { program, places } = unjudged(text)?;
     if program.len() > room.len() {
         return Err(Refusal::at(refusal::TOO_LONG, 0));
     }
     Program::read(&program)?;
     room[..program.len()].copy_from_slice(&program);
-    Ok(Table { nodes: nodes.len(), length: program.len() })
+    Ok(Table { nodes: places.len(), length: program.len() })
+}
+
+/// A table that was read and that the check has not seen: its blocks, and for each node the position in the
+/// text at which it begins.
+pub struct Unjudged {
+    pub program: Vec<u8>,
+    pub places: Vec<usize>,
+}
+
+/// Reads a text as far as 21 to 23 go.
+pub fn unjudged(text: &[u8]) -> Result<Unjudged, Refusal> {
+    let (edition, nodes, places) = Reader::new(text).whole()?;
+    let mut program = format::write(&nodes);
+    format::set_edition(&mut program, edition);
+    Ok(Unjudged { program, places })
 }
 
 /// A text on its way to a table. Nodes are numbered as they begin, and anew at the end.
@@ -40,6 +53,8 @@ struct Reader<'a> {
     next: usize,
     length: usize,
     nodes: Vec<Node>,
+    /// Where each of them begins.
+    places: Vec<usize>,
     /// All names that are bound.
     bound: BTreeSet<&'a [u8]>,
     /// The binders of variables, and the branches, by their names.
@@ -63,6 +78,7 @@ impl<'a> Reader<'a> {
             next: 0,
             length: text.len(),
             nodes: Vec::new(),
+            places: Vec::new(),
             bound: BTreeSet::new(),
             variables: BTreeMap::new(),
             branches: BTreeMap::new(),
@@ -71,8 +87,9 @@ impl<'a> Reader<'a> {
         }
     }
 
-    /// The edition, one signal, and nothing behind it; the nodes children first, in field order.
-    fn whole(mut self) -> Read<(u8, Vec<Node>)> {
+    /// The edition, one signal, and nothing behind it; the nodes children first, in field order, and where
+    /// each begins.
+    fn whole(mut self) -> Read<(u8, Vec<Node>, Vec<usize>)> {
         let first = self.word()?;
         let edition = words::EDITIONS.iter().position(|word| word.as_bytes() == first.bytes);
         let edition = edition.ok_or(misfit(first))?;
@@ -86,7 +103,8 @@ impl<'a> Reader<'a> {
         let mut order = Vec::new();
         let none = vec![false; self.nodes.len()];
         number::children_first(&self.nodes, &none, root as usize, &mut order);
-        Ok((edition as u8, number::in_order(&self.nodes, &order)))
+        let places = order.iter().map(|&node| self.places[node]).collect();
+        Ok((edition as u8, number::in_order(&self.nodes, &order), places))
     }
 
     /// The next word; a text that ends here does not fit at its end.
@@ -112,6 +130,7 @@ impl<'a> Reader<'a> {
             return Err(misfit(at));
         }
         self.nodes.push(Node::default());
+        self.places.push(at.at);
         Ok(self.nodes.len() - 1)
     }
 

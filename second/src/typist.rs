@@ -4,7 +4,8 @@
 use crate::format;
 use crate::generate;
 use crate::grow;
-use crate::kinds::Node;
+use crate::hostile;
+use crate::kinds::{self, Node};
 use crate::printer;
 use crate::random::Random;
 use crate::request::Request;
@@ -241,19 +242,44 @@ pub fn spoil(random: &mut Random, text: &mut Vec<u8>) {
     }
 }
 
-/// A read request: texts of accepted tables, half of them mistyped; of tables that the check refuses; of more
-/// nodes than a text may have; rooms that are long enough and such as are not.
+/// A variable that names another binder, or a case that goes to another branch: its name may be one that
+/// does not hold there.
+fn stray(random: &mut Random, nodes: &mut [Node]) {
+    let of = |kinds: &[u8]| -> Vec<usize> {
+        (0..nodes.len()).filter(|&it| kinds.contains(&nodes[it].kind)).collect()
+    };
+    let binders = of(&[kinds::LET, kinds::SWITCH, kinds::BRANCH, kinds::TAKE]);
+    let (branches, variables, cases) =
+        (of(&[kinds::BRANCH]), of(&[kinds::VARIABLE]), of(&[kinds::CASE]));
+    if !variables.is_empty() && !binders.is_empty() && (cases.is_empty() || random.chance(60)) {
+        nodes[random.one(&variables)].a = random.one(&binders) as u16;
+    } else if !cases.is_empty() && !branches.is_empty() {
+        nodes[random.one(&cases)].c = random.one(&branches) as u16;
+    }
+}
+
+/// A read request: texts of accepted tables, half of them mistyped; of tables that the check refuses, many
+/// of them deep, some with a name that does not hold where it is used; of more nodes than a text may have; texts that no one means; rooms that are long enough and
+/// such as are not.
 pub fn read_request(random: &mut Random) -> Request {
+    if random.chance(6) {
+        let (text, room) = (hostile::text(random), random.one(&[12_288, 12_288, 0, 512]));
+        return Request::Read { text, room: generate::any_bytes(random, room) };
+    }
     let count = generate::size(random);
-    let sample = match random.below(40) {
+    let mut sample = match random.below(40) {
         0..3 => generate::tangled(random, count.max(8)),
         3..7 => generate::wild(random),
+        8 => generate::spine(random, count),
         7 => {
             let (edition, count) = (generate::edition(random), random.between(1009, 1030));
             generate::sample(grow::grow(random, edition, count, 0), edition)
         }
         _ => generate::accepted(random, count),
     };
+    if random.chance(12) {
+        stray(random, &mut sample.nodes);
+    }
     let mistakes = random.one(&[0, 0, 0, 1, 1, 2]);
     let mut text = typed(random, &sample.nodes, sample.file[format::EDITION_AT], mistakes);
     if random.chance(8) {

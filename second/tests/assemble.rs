@@ -97,6 +97,42 @@ fn a_file_is_taken_by_name() {
 }
 
 #[test]
+fn records_alone() {
+    let alone = assemble(&["--records"], "; head\n5\n7 c0=1\n");
+    let behind = whole("time\nrecords\n5\n7 c0=1\n").expect("a table");
+    assert_eq!(alone.stdout, behind[512..]);
+    let wrong = assemble(&["--records"], "5\n7 c9=1\n");
+    assert_eq!(said(&wrong), (Some(1), "line 2: no channel is called c9\n".into()));
+}
+
+#[test]
+fn a_text_of_the_text_form() {
+    let right = whole("time").expect("a table");
+    let typed = |option: &str, text: &str| assemble(&[option], text);
+    assert_eq!(typed("--typed", "edition-one (time)").stdout, right);
+    assert_eq!(typed("--places", "edition-one (delay 0 (time))").stdout, b"21\n12\n");
+    let refused = typed("--typed", "edition-one (time");
+    assert_eq!((refused.status.code(), &refused.stdout[..]), (Some(1), &b"REFUSED 21 17\n"[..]));
+    let not_ready = "edition-one (let x int (ext x) (time))";
+    assert_eq!(typed("--typed", not_ready).stdout, b"REFUSED 8 3\n");
+    assert_eq!(typed("--unjudged", not_ready).stdout.len(), 512);
+}
+
+#[test]
+fn blocks_are_damaged() {
+    let file = std::env::temp_dir().join(format!("second-damage-{}", std::process::id()));
+    fs::write(&file, whole("time\ninput channel=4").expect("a table")).expect("a file");
+    let name = file.to_str().expect("a name");
+    let changed = |text: &str| assemble(&["--damage", name], text);
+    let wanted = whole("time\ninput channel=9").expect("a table");
+    assert_eq!(changed("; channel 9\n.node 1 a=9").stdout, wanted);
+    assert_eq!(changed(".length 511").stdout.len(), 511);
+    assert_eq!(said(&changed(".node 42 a=9")).1, "line 1: that place is beyond the end\n");
+    assert_eq!(said(&changed("time")).1, "line 1: no override is called time\n");
+    fs::remove_file(&file).expect("it was there");
+}
+
+#[test]
 fn what_fails_has_a_status_and_writes_nothing() {
     let wrong = assemble(&[], "time\nadd left=0");
     assert_eq!(said(&wrong), (Some(1), "line 2: add lacks right\n".into()));

@@ -4,10 +4,10 @@ use second::format;
 use second::generate::{self, Sample};
 use second::kinds;
 use second::random::Random;
-use second::request::{entries, Answer, Request};
+use second::request::{Answer, Request};
 use second::typist;
 use second::value::Value;
-use second::{check, run, start, watched};
+use second::{check, run, start, watched, Refusal};
 
 #[test]
 fn grown_programs_are_accepted_and_have_their_size() {
@@ -100,6 +100,15 @@ fn a_run_cut_anywhere_is_the_same() {
     }
 }
 
+/// How many steps of a refused run were done.
+fn steps_done(refusal: &Refusal) -> usize {
+    if matches!(refusal.code, 12 | 13) {
+        refusal.place as usize
+    } else {
+        0
+    }
+}
+
 /// Holds a refusal against the memory before it; a run keeps what its finished steps made.
 fn keeps_memory(request: &Request, answer: &Answer) {
     match (request, answer) {
@@ -115,10 +124,9 @@ fn keeps_memory(request: &Request, answer: &Answer) {
             Request::Run { program, state, records, output },
             Answer::Steps(Err(refusal), after, room),
         ) => {
-            let in_records = matches!(refusal.code, 12 | 13);
-            let steps = if in_records { refusal.place as usize } else { 0 };
+            let steps = steps_done(refusal);
             let mut kept = (state.clone(), output.clone());
-            if in_records {
+            if steps > 0 {
                 let (records, room) = (&records[..steps * 40], &mut kept.1[..steps * 8]);
                 let done = run(program, &mut kept.0, records, room).unwrap();
                 assert_eq!((done.steps, done.work), (steps, refusal.work));
@@ -129,15 +137,13 @@ fn keeps_memory(request: &Request, answer: &Answer) {
             Request::Watch { program, state, list, records, output, shown },
             Answer::Watch(Err(refusal), after, room, seen),
         ) => {
-            let in_records = matches!(refusal.code, 12 | 13);
-            let steps = if in_records { refusal.place as usize } else { 0 };
+            let steps = steps_done(refusal);
             let mut kept = (state.clone(), output.clone(), shown.clone());
-            if in_records {
-                let list = entries(list);
-                let records = &records[..steps * 40];
-                let room = &mut kept.1[..steps * 8];
-                let rows = &mut kept.2[..steps * 8 * list.len()];
-                let done = watched(program, &mut kept.0, records, &list, room, rows).unwrap();
+            if steps > 0 {
+                let list = second::request::entries(list);
+                let (records, rows) = (&records[..steps * 40], steps * list.len() * 8);
+                let (output, shown) = (&mut kept.1[..steps * 8], &mut kept.2[..rows]);
+                let done = watched(program, &mut kept.0, records, &list, output, shown).unwrap();
                 assert_eq!((done.steps, done.work), (steps, refusal.work));
             }
             assert_eq!((&kept.0, &kept.1, &kept.2), (after, room, seen));
@@ -165,8 +171,8 @@ fn own(call: &str, code: usize) -> bool {
 #[test]
 fn refusals_leave_memory_and_every_code_comes_up() {
     let mut random = Random::new(5);
-    let mut seen = [[0usize; 41]; 10];
-    for number in 0..20_000 {
+    let mut seen = [[0usize; 41]; second::request::CALLS.len()];
+    for number in 0..30_000 {
         let request = match number % 10 {
             0..4 => generate::request(&mut random),
             4 => generate::mend_request(&mut random),

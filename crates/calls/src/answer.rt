@@ -155,6 +155,22 @@ fn pair_answer(
     feed::append(&line[..n], out, full)
 }
 
+// Reads a text, and puts the answer and the room to the output.
+fn read_answer(text: &[u8], room: &mut [u8], full: usize, out: &mut [u8]) -> usize {
+    let mut line = [0u8; 64];
+    let n = wire::read_line(reading::read(text, room), &mut line);
+    let waits = feed::append(&line[..n], out, full);
+    hex_line(room, waits, out)
+}
+
+// Prints a program, and puts the answer and the room to the output.
+fn print_answer(program: &[u8], room: &mut [u8], full: usize, out: &mut [u8]) -> usize {
+    let mut line = [0u8; 64];
+    let n = wire::printed_line(typeset::print(program, room), &mut line);
+    let waits = feed::append(&line[..n], out, full);
+    hex_line(room, waits, out)
+}
+
 // A start with the first n bytes of state.
 fn start_call(program: &[u8], n: usize, state: &mut [u8], full: usize, out: &mut [u8]) -> usize {
     if n > state.len() {
@@ -296,6 +312,59 @@ fn pair_call(
     pair_answer(old, new, &mut entries[..n], bytes, full, out)
 }
 
+// A read whose room is the first n bytes.
+fn read_call(text: &[u8], n: usize, room: &mut [u8], full: usize, out: &mut [u8]) -> usize {
+    if n > room.len() {
+        return full;
+    }
+    read_answer(text, &mut room[..n], full, out)
+}
+
+// A print whose room is the first n bytes.
+fn print_call(program: &[u8], n: usize, room: &mut [u8], full: usize, out: &mut [u8]) -> usize {
+    if n > room.len() {
+        return full;
+    }
+    print_answer(program, &mut room[..n], full, out)
+}
+
+// Makes a call that takes a table alone, or two, or a text, and puts the answer to the output.
+fn table_call(
+    request: Request,
+    program: &[u8],
+    records: &[u8],
+    room: &mut [u8],
+    entries: &mut [u16],
+    full: usize,
+    out: &mut [u8],
+) -> usize {
+    match request {
+        Request::Check(p) => check_answer(feed::first(program, p as usize), full, out),
+        Request::Chain(p, n) => {
+            let of = feed::first(program, p as usize);
+            chain_call(of, n as usize, entries, room, full, out)
+        }
+        Request::Tidy(p, n) => {
+            let of = feed::first(program, p as usize);
+            tidy_call(of, n as usize, room, full, out)
+        }
+        Request::Pair(p, q, n) => {
+            let old = feed::first(program, p as usize);
+            let new = feed::first(records, q as usize);
+            pair_call(old, new, n as usize, entries, room, full, out)
+        }
+        Request::Read(t, n) => {
+            let text = feed::first(program, t as usize);
+            read_call(text, n as usize, room, full, out)
+        }
+        Request::Print(p, n) => {
+            let of = feed::first(program, p as usize);
+            print_call(of, n as usize, room, full, out)
+        }
+        _ => full,
+    }
+}
+
 // Makes the call of a request whose memory is read, and puts the answer to the output.
 pub fn call(
     request: Request,
@@ -310,34 +379,23 @@ pub fn call(
     out: &mut [u8],
 ) -> usize {
     match request {
-        Request::Check(p) => check_answer(feed::first(program, p as usize), full, out),
-        Request::Start(p, s) => start_call(
-            feed::first(program, p as usize),
-            s as usize,
-            state,
-            full,
-            out,
-        ),
+        Request::Start(p, s) => {
+            let of = feed::first(program, p as usize);
+            start_call(of, s as usize, state, full, out)
+        }
         Request::Run(p, s, r, o) => {
             let of = feed::first(program, p as usize);
-            run_call(
-                of,
-                s as usize,
-                state,
-                feed::first(records, r as usize),
-                o as usize,
-                room,
-                full,
-                out,
-            )
+            let given = feed::first(records, r as usize);
+            run_call(of, s as usize, state, given, o as usize, room, full, out)
         }
         Request::Watch(p, s, l, r, o, w) => {
             let of = feed::first(program, p as usize);
+            let given = feed::first(records, r as usize);
             watch_call(
                 of,
                 s as usize,
                 state,
-                feed::first(records, r as usize),
+                given,
                 l as usize / 2,
                 entries,
                 list,
@@ -349,23 +407,10 @@ pub fn call(
                 out,
             )
         }
-        Request::Chain(p, n) => {
-            let of = feed::first(program, p as usize);
-            chain_call(of, n as usize, entries, room, full, out)
-        }
         Request::Mend(p, s, n) => {
             let of = feed::first(program, p as usize);
             mend_call(of, s as usize, state, n as usize, entries, room, full, out)
         }
-        Request::Tidy(p, n) => {
-            let of = feed::first(program, p as usize);
-            tidy_call(of, n as usize, room, full, out)
-        }
-        Request::Pair(p, q, n) => {
-            let old = feed::first(program, p as usize);
-            let new = feed::first(records, q as usize);
-            pair_call(old, new, n as usize, entries, room, full, out)
-        }
-        Request::Broken => full,
+        other => table_call(other, program, records, room, entries, full, out),
     }
 }

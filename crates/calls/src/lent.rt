@@ -1,5 +1,5 @@
-// The memory of a request: program, state, a watch's list, records or the new program of a pair, the room that is written or the entries, and a
-// watch's second room, one after another in the input.
+// The memory of a request: program or text, state, a watch's list, records or the new program of a pair, the room that is written or the entries,
+// and a watch's second room, one after another in the input.
 use feed::Filled;
 use feed::Place;
 use wire::Request;
@@ -14,81 +14,32 @@ struct Sizes {
     shown: usize,
 }
 
+// So many bytes of each.
+fn sized(program: u32, state: u32, list: u32, records: u32, room: usize, shown: u32) -> Sizes {
+    Sizes {
+        program: program as usize,
+        state: state as usize,
+        list: list as usize,
+        records: records as usize,
+        room: room,
+        shown: shown as usize,
+    }
+}
+
 // The lengths that a request's header says; none where it has no such memory.
 fn lengths(request: Request) -> Sizes {
     match request {
-        Request::Check(p) => Sizes {
-            program: p as usize,
-            state: 0,
-            list: 0,
-            records: 0,
-            room: 0,
-            shown: 0,
-        },
-        Request::Start(p, s) => Sizes {
-            program: p as usize,
-            state: s as usize,
-            list: 0,
-            records: 0,
-            room: 0,
-            shown: 0,
-        },
-        Request::Run(p, s, r, o) => Sizes {
-            program: p as usize,
-            state: s as usize,
-            list: 0,
-            records: r as usize,
-            room: o as usize,
-            shown: 0,
-        },
-        Request::Watch(p, s, l, r, o, w) => Sizes {
-            program: p as usize,
-            state: s as usize,
-            list: l as usize,
-            records: r as usize,
-            room: o as usize,
-            shown: w as usize,
-        },
-        Request::Chain(p, n) => Sizes {
-            program: p as usize,
-            state: 0,
-            list: 0,
-            records: 0,
-            room: 2 * (n as usize),
-            shown: 0,
-        },
-        Request::Mend(p, s, n) => Sizes {
-            program: p as usize,
-            state: s as usize,
-            list: 0,
-            records: 0,
-            room: 2 * (n as usize),
-            shown: 0,
-        },
-        Request::Tidy(p, n) => Sizes {
-            program: p as usize,
-            state: 0,
-            list: 0,
-            records: 0,
-            room: n as usize,
-            shown: 0,
-        },
-        Request::Pair(p, q, n) => Sizes {
-            program: p as usize,
-            state: 0,
-            list: 0,
-            records: q as usize,
-            room: 2 * (n as usize),
-            shown: 0,
-        },
-        Request::Broken => Sizes {
-            program: 0,
-            state: 0,
-            list: 0,
-            records: 0,
-            room: 0,
-            shown: 0,
-        },
+        Request::Check(p) => sized(p, 0, 0, 0, 0, 0),
+        Request::Start(p, s) => sized(p, s, 0, 0, 0, 0),
+        Request::Run(p, s, r, o) => sized(p, s, 0, r, o as usize, 0),
+        Request::Watch(p, s, l, r, o, w) => sized(p, s as u32, l as u32, r, o as usize, w),
+        Request::Chain(p, n) => sized(p, 0, 0, 0, 2 * (n as usize), 0),
+        Request::Mend(p, s, n) => sized(p, s, 0, 0, 2 * (n as usize), 0),
+        Request::Tidy(p, n) => sized(p, 0, 0, 0, n as usize, 0),
+        Request::Pair(p, q, n) => sized(p, 0, 0, q, 2 * (n as usize), 0),
+        Request::Read(t, n) => sized(t, 0, 0, 0, n as usize, 0),
+        Request::Print(p, n) => sized(p, 0, 0, 0, n as usize, 0),
+        Request::Broken => sized(0, 0, 0, 0, 0, 0),
     }
 }
 

@@ -166,10 +166,10 @@ fn serve(
 // The memory of one request at a time, and the pieces of input and output.
 fn main() {
     let mut input = io::large_buffer();
-    let mut program = io::large_buffer();
+    let mut program = [0u8; 196608];
     let mut state = [0u8; 16384];
     let mut records = [0u8; 196608];
-    let mut room = io::large_buffer();
+    let mut room = [0u8; 196608];
     let mut entries = [0u16; 65536];
     let mut list = io::large_buffer();
     let mut shown = [0u8; 540672];

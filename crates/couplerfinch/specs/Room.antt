@@ -1,6 +1,6 @@
 -- The twelve numbers of the room that a caller lends for an answer: code, place, steps, work, nodes, cells, bound, type, wrapped, length,
--- entries, node. Each call's are laid out from the paper's numbers of its answer (crates rules, chains, mends, rewritten, dropped, beside), and those
--- that an answer does not give are 0. Assumes nothing: these are definitions.
+-- entries, node. Each call's are laid out from the paper's numbers of its answer (crates rules, chains, mends, rewritten, dropped, beside, texts),
+-- and those that an answer does not give are 0. Assumes nothing: these are definitions.
 use Prim.Native.Nat.{ℕ}
 use mathlib.Core.List.{List, [], _∷_}
 use lib.Dec.{eqb}
@@ -20,6 +20,9 @@ use Rattle.dropped.specs.PairedCall.{pairedNumbers}
 use Rattle.dropped.specs.declared.Paired.{Paired}
 use Rattle.beside.specs.Numbers.{watchedNumbers}
 use Rattle.watched.specs.declared.Watched.{Watched}
+use Rattle.texts.specs.Answers.{readNumbers, printedNumbers}
+use Rattle.texts.specs.declared.TextRead.{TextRead}
+use Rattle.texts.specs.declared.TextPrinted.{TextPrinted}
 
 -- Number k of an answer's numbers. Number 0 is the code, 0 where the call went through.
 abbrev pub number : List ℕ → ℕ → ℕ
@@ -46,10 +49,9 @@ refusedRoom ns = twelve (code ns) (number ns 1) (stepsDone (code ns) (number ns 
 abbrev pub laidOut : (List ℕ → List ℕ) → List ℕ → List ℕ
 laidOut done ns = if eqb (code ns) 0 then done ns else refusedRoom ns
 
--- What the numbers of a call that went through are: a check's nodes, cells, bound and type; a start has none; a run's, watched or
--- not, steps, work and first wrapped step; the let
--- that explain names and how many entries its chain has; how many entries mend lists; the new table's nodes and length, of tidy; a pairing that
--- is accepted has none.
+-- What the numbers of a call that went through are: a check's nodes, cells, bound and type; a start has none; a run's, watched or not, steps, work
+-- and first wrapped step; the let that explain names and how many entries its chain has; how many entries mend lists; the new table's nodes and
+-- length, of tidy and of read; a pairing that is accepted has none; the length of a printed text.
 abbrev pub checkedDone : List ℕ → List ℕ
 checkedDone ns = twelve 0 0 0 0 (number ns 1) (number ns 2) (number ns 3) (number ns 4) 0 0 0 0
 
@@ -70,6 +72,12 @@ tidiedDone ns = twelve 0 0 0 0 (number ns 1) 0 0 0 0 (number ns 2) 0 0
 
 abbrev pub pairedDone : List ℕ → List ℕ
 pairedDone ns = twelve 0 0 0 0 0 0 0 0 0 0 0 0
+
+abbrev pub readDone : List ℕ → List ℕ
+readDone ns = twelve 0 0 0 0 (number ns 1) 0 0 0 0 (number ns 2) 0 0
+
+abbrev pub printedDone : List ℕ → List ℕ
+printedDone ns = twelve 0 0 0 0 0 0 0 0 0 (number ns 1) 0 0
 
 -- The room after each call.
 abbrev pub checkedRoom : Checked → List ℕ
@@ -96,6 +104,12 @@ pairedRoom a = laidOut pairedDone (pairedNumbers a)
 abbrev pub watchedRoom : Watched → List ℕ
 watchedRoom a = laidOut ranDone (watchedNumbers a)
 
+abbrev pub readRoom : TextRead → List ℕ
+readRoom a = laidOut readDone (readNumbers a)
+
+abbrev pub printedRoom : TextPrinted → List ℕ
+printedRoom a = laidOut printedDone (printedNumbers a)
+
 -- The code that a call answers besides.
 abbrev pub checkedCode : Checked → ℕ
 checkedCode a = code (checkedNumbers a)
@@ -120,3 +134,9 @@ pairedCode a = code (pairedNumbers a)
 
 abbrev pub watchedCode : Watched → ℕ
 watchedCode a = code (watchedNumbers a)
+
+abbrev pub readCode : TextRead → ℕ
+readCode a = code (readNumbers a)
+
+abbrev pub printedCode : TextPrinted → ℕ
+printedCode a = code (printedNumbers a)

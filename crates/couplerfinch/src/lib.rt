@@ -1,4 +1,4 @@
-// The eight calls for C and Rust: slices and numbers only, the answer in a lent room of twelve numbers (include/couplerfinch.h).
+// The ten calls for C and Rust: slices and numbers only, the answer in a lent room of twelve numbers (include/couplerfinch.h).
 ghost use mathlib.Core.Path.{_≡_};
 ghost use mathlib.Core.List.{[], _∷_};
 ghost use Rattle.rules.specs.Calls.{checkCall, startCall, runCall};
@@ -7,7 +7,8 @@ ghost use Rattle.mends.specs.MendCall.{mendCall};
 ghost use Rattle.rewritten.specs.TidyCall.{tidyCall};
 ghost use Rattle.dropped.specs.PairedCall.{pairedCall};
 ghost use Rattle.watched.specs.Watch.{watchCall};
-ghost use Rattle.couplerfinch.specs.Room.{stepsDone, refusedRoom, checkedRoom, startedRoom, ranRoom, explainedRoom, mendedRoom, tidiedRoom, pairedRoom, watchedRoom, checkedCode, startedCode, ranCode, explainedCode, mendedCode, tidiedCode, pairedCode, watchedCode};
+ghost use Rattle.texts.specs.Calls.{readCall, printCall};
+ghost use Rattle.couplerfinch.specs.Room.{stepsDone, refusedRoom, checkedRoom, startedRoom, ranRoom, explainedRoom, mendedRoom, tidiedRoom, pairedRoom, watchedRoom, readRoom, printedRoom, checkedCode, startedCode, ranCode, explainedCode, mendedCode, tidiedCode, pairedCode, watchedCode, readCode, printedCode};
 use chains::Explained;
 use dropped::Paired;
 use mends::Mended;
@@ -17,6 +18,8 @@ use rules::Ran;
 use rules::Started;
 use rules::code_of;
 use rules::place_of;
+use texts::TextPrinted;
+use texts::TextRead;
 use watched::Watched;
 
 // Whole steps done before a refusal.
@@ -166,6 +169,37 @@ fn put_watched(found: Watched, answer: &mut [u32; 12]) -> u32
     }
 }
 
+// The answer of read, as numbers.
+fn put_read(found: TextRead, answer: &mut [u32; 12]) -> u32
+    ensures { λ r. ⌜ (r ≡ readCode found) × (now (answer .exit) ≡ readRoom found) ⌝ }
+{
+    match found {
+        TextRead::Table(nodes, length) => {
+            *answer = [0, 0, 0, 0, nodes, 0, 0, 0, 0, length, 0, 0];
+            0
+        }
+        TextRead::BadWord(at) => put_refused(21, at, 0, answer),
+        TextRead::BadName(at) => put_refused(22, at, 0, answer),
+        TextRead::BadNumber(at) => put_refused(23, at, 0, answer),
+        TextRead::RoomShort => put_refused(24, 0, 0, answer),
+        TextRead::Refused(r) => put_refused(code_of(r) as u32, place_of(r), 0, answer),
+    }
+}
+
+// The answer of print, as numbers.
+fn put_printed(found: TextPrinted, answer: &mut [u32; 12]) -> u32
+    ensures { λ r. ⌜ (r ≡ printedCode found) × (now (answer .exit) ≡ printedRoom found) ⌝ }
+{
+    match found {
+        TextPrinted::Text(length) => {
+            *answer = [0, 0, 0, 0, 0, 0, 0, 0, 0, length, 0, 0];
+            0
+        }
+        TextPrinted::Refused(r) => put_refused(code_of(r) as u32, place_of(r), 0, answer),
+        TextPrinted::RoomShort => put_refused(24, 0, 0, answer),
+    }
+}
+
 // Checks a program.
 #[no_mangle]
 pub extern "C" fn couplerfinch_check(program: &[u8], answer: &mut [u32; 12]) -> u32
@@ -263,4 +297,20 @@ pub extern "C" fn couplerfinch_watch(
         peeking::watched(program, state, records, list, output, shown),
         answer,
     )
+}
+
+// Reads a table as it is typed.
+#[no_mangle]
+pub extern "C" fn couplerfinch_read(text: &[u8], room: &mut [u8], answer: &mut [u32; 12]) -> u32
+    ensures { λ r. ⌜ (r ≡ readCode (readCall (now (text .entry)) (now (room .entry)) .answer)) × (now (answer .exit) ≡ readRoom (readCall (now (text .entry)) (now (room .entry)) .answer)) × (now (room .exit) ≡ readCall (now (text .entry)) (now (room .entry)) .room) ⌝ }
+{
+    put_read(reading::read(text, room), answer)
+}
+
+// Prints a program as text.
+#[no_mangle]
+pub extern "C" fn couplerfinch_print(program: &[u8], room: &mut [u8], answer: &mut [u32; 12]) -> u32
+    ensures { λ r. ⌜ (r ≡ printedCode (printCall (now (program .entry)) (now (room .entry)) .answer)) × (now (answer .exit) ≡ printedRoom (printCall (now (program .entry)) (now (room .entry)) .answer)) × (now (room .exit) ≡ printCall (now (program .entry)) (now (room .entry)) .room) ⌝ }
+{
+    put_printed(typeset::print(program, room), answer)
 }

@@ -2,10 +2,12 @@
 mod checking;
 mod codes;
 mod files;
+mod here;
 mod mended;
 mod paired;
 mod say;
 mod tidying;
+mod typed;
 mod watching;
 mod why;
 
@@ -13,6 +15,14 @@ mod why;
 fn chosen(word: &[u8]) {
     if check::same(word, b"check") {
         checking::check();
+        return;
+    }
+    if check::same(word, b"read") {
+        typed::read();
+        return;
+    }
+    if check::same(word, b"print") {
+        typed::print();
         return;
     }
     if check::same(word, b"why") {

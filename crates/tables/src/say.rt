@@ -53,6 +53,8 @@ pub fn help() -> bool {
         b"tables check FILE                  checks a table, and prints the channels that it names; - is standard input
 tables run [FILE..]                prints a run of blocks and records, one file behind the other or standard input, as watchrun does
 tables watch NODE..                prints a run of standard input as tables run does, with what up to eight nodes gave behind each line
+tables read TEXT [TABLE]           checks a table as it is typed, and writes its blocks; a mistake is shown by line and column, with a mark
+tables print FILE                  prints a table as text
 tables why FILE                    prints why the let that code 8 names is not ready: the nodes from its definition to its own variable
 tables pair OLD NEW PAIRING        checks that a table that others tidied is the old one with unused lets dropped, as their pairing says
 tables tidy [OLD [NEW [PAIRING]]]  drops the lets that nobody uses; without NEW the new table goes to standard output
@@ -80,6 +82,13 @@ pub fn no_code() {
     io::write_all(
         libc::STDERR_FILENO,
         b"tables: no such code; tables codes lists them\n",
+    );
+}
+
+pub fn long_text() {
+    io::write_all(
+        libc::STDERR_FILENO,
+        b"tables: the text is longer than 262,144 bytes\n",
     );
 }
 

@@ -160,7 +160,7 @@ fn moved_row(p: &[u8], new: &[u16; 1024], o: usize) -> Node
 }
 
 // A record's 12 bytes at a place.
-fn put_row(room: &mut [u8], at: usize, n: Node)
+pub fn put_row(room: &mut [u8], at: usize, n: Node)
     requires { ⌜ at + 12 ≤ length (now room) ⌝ }
     ensures { λ _. ⌜ now (room .exit) ≡ writeAt (now (room .entry)) at (rowBytes n) ⌝ }
 {
@@ -234,7 +234,7 @@ fn put_block(
 }
 
 // All blocks.
-fn put_blocks(p: &[u8], new: &[u16; 1024], order: &[u16], count: usize, room: &mut [u8])
+pub fn put_blocks(p: &[u8], new: &[u16; 1024], order: &[u16], count: usize, room: &mut [u8])
     requires { ⌜ Shaped (now p) × (4 ≤ length (now p)) × (count ≤ length (now order)) × Inside (nodes (now p)) count (now order) × (count ≤ 1008) × (512 * blocksFor count ≤ length (now room)) ⌝ }
     ensures { λ _. ⌜ now (room .exit) ≡ writeAt (now (room .entry)) 0 (blocksFrom (blocksFor count) (edition (now (p .entry))) (blocksFor count) 0 (rowsBytes (newRows (now (p .entry)) (now (new .entry)) (take count (now (order .entry)))))) ⌝ }
 {

@@ -20,6 +20,10 @@ use Rattle.dropped.specs.declared.Paired.{Paired}
 use Rattle.dropped.specs.declared.Paired.the-variants.{OldRefused, NewRefused, EditionsDiffer, PairingLength, EntryWrong}
 use Rattle.watched.specs.declared.Watched.{Watched}
 use Rattle.watched.specs.declared.Watched.the-variants.{AsRun, ListEntry}
+use Rattle.texts.specs.declared.TextRead.{TextRead}
+use Rattle.texts.specs.declared.TextRead.the-variants.{BadWord, BadName, BadNumber}
+use Rattle.texts.specs.declared.TextPrinted.{TextPrinted}
+use Rattle.texts.specs.declared.TextPrinted.the-variants.{Text}
 use Rattle.wire.specs.declared.Request.the-variants.{Check, Start, Run, Broken}
 use Rattle.wire.specs.Text.{field}
 
@@ -87,9 +91,9 @@ explainedLine (Explained.Refused r) = refusedLine r 0
 explainedLine NoLet = codedLine 25 0 0
 explainedLine RoomLength = codedLine 26 0 0
 
--- OK and how many entries mend listed
+-- OK and one number: how many entries mend listed, or the length of a printed text
 unfoldable pub listedLine : ℕ → List ℕ
-listedLine entries = ok ++ field entries 10
+listedLine one = ok ++ field one 10
 
 -- the answer of mend: OK entries, or the refusal with no work
 unfoldable pub mendedLine : Mended → List ℕ
@@ -115,6 +119,21 @@ pairedLine (NewRefused r) = newLine r
 pairedLine EditionsDiffer = codedLine 29 0 0
 pairedLine PairingLength = codedLine 27 0 0
 pairedLine (EntryWrong i) = codedLine 28 i 0
+
+-- the answer of read: OK nodes length; a text code at its position in the text, 24, or the refusal, with no work
+unfoldable pub readLine : TextRead → List ℕ
+readLine (TextRead.Table count long) = finishedLine count long
+readLine (BadWord at) = codedLine 21 at 0
+readLine (BadName at) = codedLine 22 at 0
+readLine (BadNumber at) = codedLine 23 at 0
+readLine TextRead.RoomShort = codedLine 24 0 0
+readLine (TextRead.Refused r) = refusedLine r 0
+
+-- the answer of print: OK length, or the refusal with no work
+unfoldable pub printedLine : TextPrinted → List ℕ
+printedLine (Text long) = listedLine long
+printedLine (TextPrinted.Refused r) = refusedLine r 0
+printedLine TextPrinted.RoomShort = codedLine 24 0 0
 
 -- "check "
 abbrev pub check : List ℕ
@@ -148,6 +167,14 @@ tidyWord = 116 ∷ 105 ∷ 100 ∷ 121 ∷ 32 ∷ []
 abbrev pub pairWord : List ℕ
 pairWord = 112 ∷ 97 ∷ 105 ∷ 114 ∷ 32 ∷ []
 
+-- "read "
+abbrev pub readWord : List ℕ
+readWord = 114 ∷ 101 ∷ 97 ∷ 100 ∷ 32 ∷ []
+
+-- "print "
+abbrev pub printWord : List ℕ
+printWord = 112 ∷ 114 ∷ 105 ∷ 110 ∷ 116 ∷ 32 ∷ []
+
 -- check PLEN
 unfoldable pub checkLine : ℕ → List ℕ
 checkLine p = check ++ field p 10
@@ -180,6 +207,14 @@ tidyLine p b = tidyWord ++ field p 32 ++ field b 10
 unfoldable pub pairLine : ℕ → ℕ → ℕ → List ℕ
 pairLine p q l = pairWord ++ field p 32 ++ field q 32 ++ field l 10
 
+-- read TLEN BLEN
+unfoldable pub readingLine : ℕ → ℕ → List ℕ
+readingLine t b = readWord ++ field t 32 ++ field b 10
+
+-- print PLEN TLEN
+unfoldable pub printingLine : ℕ → ℕ → List ℕ
+printingLine p t = printWord ++ field p 32 ++ field t 10
+
 -- the header line of a request; entries are two bytes each
 unfoldable pub headerLine : Request → List ℕ
 headerLine (Check p) = checkLine p
@@ -190,4 +225,6 @@ headerLine (Request.Chain p n) = chainLine p (2 * n)
 headerLine (Request.Mend p s n) = mendLine p s (2 * n)
 headerLine (Request.Tidy p b) = tidyLine p b
 headerLine (Request.Pair p q n) = pairLine p q (2 * n)
+headerLine (Request.Read t b) = readingLine t b
+headerLine (Request.Print p t) = printingLine p t
 headerLine Broken = []

@@ -3,7 +3,7 @@ ghost use mathlib.Core.Path.{_≡_};
 ghost use lib.ListN.{take};
 ghost use Rattle.io.specs.Counts.{Counts};
 ghost use Rattle.rules.specs.declared.Started.the-variants.{Ready};
-ghost use Rattle.wire.specs.Lines.{acceptedLine, checkedLine, codedLine, explainedLine, finishedLine, listedLine, mendedLine, newLine, pairedLine, ranLine, refusedLine, startedLine, stepsLine, stoppedLine, tidiedLine, unlistedLine, watchedLine};
+ghost use Rattle.wire.specs.Lines.{acceptedLine, checkedLine, codedLine, explainedLine, finishedLine, listedLine, mendedLine, newLine, pairedLine, printedLine, ranLine, readLine, refusedLine, startedLine, stepsLine, stoppedLine, tidiedLine, unlistedLine, watchedLine};
 use crate::text::put;
 use crate::text::put_field;
 use chains::Explained;
@@ -14,6 +14,8 @@ use rules::Checked;
 use rules::Ran;
 use rules::Refusal;
 use rules::Started;
+use texts::TextPrinted;
+use texts::TextRead;
 use watched::Watched;
 
 // Puts `REFUSED code place work` at the start of line, and answers its length.
@@ -163,13 +165,13 @@ pub fn explained_line(answer: Explained, line: &mut [u8; 64]) -> usize
     }
 }
 
-// Puts `OK` and how many entries mend listed at the start of line, and answers its length.
-fn listed_line(entries: u32, line: &mut [u8; 64]) -> usize
+// Puts `OK` and one number, how many entries mend listed or the length of a printed text, at the start of line, and answers its length.
+fn listed_line(one: u32, line: &mut [u8; 64]) -> usize
     ensures { λ r. ⌜ Counts r (now (line .exit)) ⌝ }
-    ensures { λ r. ⌜ take r (now (line .exit)) ≡ listedLine entries ⌝ }
+    ensures { λ r. ⌜ take r (now (line .exit)) ≡ listedLine one ⌝ }
 {
     let a = put(b"OK ", line, 0);
-    put_field(entries, b'\n', line, a)
+    put_field(one, b'\n', line, a)
 }
 
 // Puts the answer of mend at the start of line, and answers its length.
@@ -218,5 +220,32 @@ pub fn paired_line(answer: Paired, line: &mut [u8; 64]) -> usize
         Paired::EditionsDiffer => coded_line(29, 0, 0, line),
         Paired::PairingLength => coded_line(27, 0, 0, line),
         Paired::EntryWrong(i) => coded_line(28, i, 0, line),
+    }
+}
+
+// Puts the answer of read at the start of line, and answers its length.
+pub fn read_line(answer: TextRead, line: &mut [u8; 64]) -> usize
+    ensures { λ r. ⌜ Counts r (now (line .exit)) ⌝ }
+    ensures { λ r. ⌜ take r (now (line .exit)) ≡ readLine answer ⌝ }
+{
+    match answer {
+        TextRead::Table(nodes, length) => finished_line(nodes, length, line),
+        TextRead::BadWord(at) => coded_line(21, at, 0, line),
+        TextRead::BadName(at) => coded_line(22, at, 0, line),
+        TextRead::BadNumber(at) => coded_line(23, at, 0, line),
+        TextRead::RoomShort => coded_line(24, 0, 0, line),
+        TextRead::Refused(r) => refused_line(r, 0, line),
+    }
+}
+
+// Puts the answer of print at the start of line, and answers its length.
+pub fn printed_line(answer: TextPrinted, line: &mut [u8; 64]) -> usize
+    ensures { λ r. ⌜ Counts r (now (line .exit)) ⌝ }
+    ensures { λ r. ⌜ take r (now (line .exit)) ≡ printedLine answer ⌝ }
+{
+    match answer {
+        TextPrinted::Text(length) => listed_line(length, line),
+        TextPrinted::Refused(r) => refused_line(r, 0, line),
+        TextPrinted::RoomShort => coded_line(24, 0, 0, line),
     }
 }

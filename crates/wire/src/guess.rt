@@ -132,7 +132,29 @@ fn guess_pair(line: &[u8]) -> Request {
     Request::Pair(p.value, q.value, (c.value / 2 % 65536) as u16)
 }
 
-// One of the calls that came later, by the first byte.
+// A read with the two numbers that stand behind `read `.
+fn guess_read(line: &[u8]) -> Request {
+    let t = number(line, 5);
+    let b = number(line, t.next);
+    Request::Read(t.value, b.value)
+}
+
+// A print with the two numbers that stand behind `print `.
+fn guess_print(line: &[u8]) -> Request {
+    let p = number(line, 6);
+    let t = number(line, p.next);
+    Request::Print(p.value, t.value)
+}
+
+// A run or a read, by the second byte.
+fn guess_r(line: &[u8]) -> Request {
+    if byte_at(line, 1) == b'e' {
+        return guess_read(line);
+    }
+    guess_run(line)
+}
+
+// One of the calls that came later, by the first two bytes.
 fn guess_later(line: &[u8], first: u8) -> Request {
     if first == b'm' {
         return guess_mend(line);
@@ -143,17 +165,20 @@ fn guess_later(line: &[u8], first: u8) -> Request {
     if first == b'w' {
         return guess_watch(line);
     }
+    if byte_at(line, 1) == b'r' {
+        return guess_print(line);
+    }
     guess_pair(line)
 }
 
-// The call goes by the first byte.
+// The call goes by the first bytes.
 pub(crate) fn guess(line: &[u8]) -> Request {
     let first = byte_at(line, 0);
     if first == b'c' {
         return guess_program(line);
     }
     if first == b'r' {
-        return guess_run(line);
+        return guess_r(line);
     }
     if first == b's' {
         return guess_start(line);

@@ -3,7 +3,7 @@ ghost use mathlib.Core.Path.{_≡_};
 ghost use lib.ListN.{take};
 ghost use Rattle.io.specs.Counts.{Counts};
 ghost use Rattle.wire.specs.declared.Request.the-variants.{Broken};
-ghost use Rattle.wire.specs.Lines.{headerLine, checkLine, startLine, runLine, chainLine, mendLine, tidyLine, pairLine, watchLine};
+ghost use Rattle.wire.specs.Lines.{headerLine, checkLine, startLine, runLine, chainLine, mendLine, tidyLine, pairLine, watchLine, readingLine, printingLine};
 use crate::Request;
 use crate::guess::guess;
 use crate::text::put;
@@ -97,6 +97,26 @@ fn pair_header(p: u32, q: u32, c: u32, line: &mut [u8; 64]) -> usize
     put_field(c, b'\n', line, d)
 }
 
+// The header line of a read: the lengths of the text and of the room.
+fn read_header(t: u32, r: u32, line: &mut [u8; 64]) -> usize
+    ensures { λ n. ⌜ Counts n (now (line .exit)) ⌝ }
+    ensures { λ n. ⌜ take n (now (line .exit)) ≡ readingLine t r ⌝ }
+{
+    let a = put(b"read ", line, 0);
+    let b = put_field(t, b' ', line, a);
+    put_field(r, b'\n', line, b)
+}
+
+// The header line of a print: the lengths of the program and of the room.
+fn print_header(p: u32, r: u32, line: &mut [u8; 64]) -> usize
+    ensures { λ n. ⌜ Counts n (now (line .exit)) ⌝ }
+    ensures { λ n. ⌜ take n (now (line .exit)) ≡ printingLine p r ⌝ }
+{
+    let a = put(b"print ", line, 0);
+    let b = put_field(p, b' ', line, a);
+    put_field(r, b'\n', line, b)
+}
+
 // Puts a request's header line at the start of line, and answers its length.
 pub fn header(request: Request, line: &mut [u8; 64]) -> usize
     ensures { λ n. ⌜ Counts n (now (line .exit)) ⌝ }
@@ -111,6 +131,8 @@ pub fn header(request: Request, line: &mut [u8; 64]) -> usize
         Request::Mend(p, s, n) => mend_header(p, s, 2 * (n as u32), line),
         Request::Tidy(p, r) => tidy_header(p, r, line),
         Request::Pair(p, q, n) => pair_header(p, q, 2 * (n as u32), line),
+        Request::Read(t, r) => read_header(t, r, line),
+        Request::Print(p, r) => print_header(p, r, line),
         Request::Broken => 0,
     }
 }

@@ -9,7 +9,9 @@ pub use answer::checked_line;
 pub use answer::explained_line;
 pub use answer::mended_line;
 pub use answer::paired_line;
+pub use answer::printed_line;
 pub use answer::ran_line;
+pub use answer::read_line;
 pub use answer::started_line;
 pub use answer::tidied_line;
 pub use answer::watched_line;
@@ -30,5 +32,7 @@ pub enum Request {
     Mend(u32, u32, u16),
     Tidy(u32, u32),
     Pair(u32, u32, u16),
+    Read(u32, u32),
+    Print(u32, u32),
     Broken,
 }

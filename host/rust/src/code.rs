@@ -46,6 +46,14 @@ pub enum Code {
     WatchEntry = raw::WATCH_ENTRY,
     /// The room for the new program is shorter than the old program.
     NewLength = raw::NEW_LENGTH,
+    /// This word or parenthesis does not fit here. The place: position in the text.
+    TextWord = raw::TEXT_WORD,
+    /// This name is unknown here, or bound twice. The place: position in the text.
+    TextName = raw::TEXT_NAME,
+    /// This constant or channel is out of range. The place: position in the text.
+    TextNumber = raw::TEXT_NUMBER,
+    /// The result is longer than the room for it.
+    TextRoom = raw::TEXT_ROOM,
     /// No let needs its own value of the same step: there is nothing to explain.
     NoLet = raw::NO_LET,
     /// The room for the chain is not 1,008 entries.
@@ -82,7 +90,7 @@ pub enum Code {
 
 impl Code {
     /// All codes, from 1 on.
-    pub const ALL: [Code; 31] = [
+    pub const ALL: [Code; 35] = [
         Code::ProgramLength,
         Code::CheckSum,
         Code::BlockNumber,
@@ -101,6 +109,10 @@ impl Code {
         Code::WatchLength,
         Code::WatchEntry,
         Code::NewLength,
+        Code::TextWord,
+        Code::TextName,
+        Code::TextNumber,
+        Code::TextRoom,
         Code::NoLet,
         Code::RoomLength,
         Code::PairingLength,
@@ -147,6 +159,10 @@ impl Code {
             17 => "the list of nodes to watch has not 1 to 8 entries",
             18 => "this entry of the list is no signal node, or not above the one before",
             19 => "the room for the new program is shorter than the old program",
+            21 => "this word or parenthesis does not fit here",
+            22 => "this name is unknown here, or bound twice",
+            23 => "this constant or channel is out of range",
+            24 => "the result is longer than the room for it",
             25 => "no let needs its own value of the same step: there is nothing to explain",
             26 => "the room for the chain is not 1,008 entries",
             27 => "the pairing has not one entry for each new node",

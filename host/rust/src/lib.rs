@@ -1,5 +1,5 @@
 //! The calls of Couplerfinch for Rust: [`check`], [`start`], [`run`], [`watch`], [`explain`], [`mend`],
-//! [`tidy`] and [`paired`].
+//! [`tidy`], [`paired`], [`read`] and [`print`].
 //!
 //! They stand over the static library `libcouplerfinch.a`, whose answers are proved: every call ends
 //! and answers, whatever bytes and lengths it is handed. What a caller in C owes (a pointer to as
@@ -38,7 +38,8 @@ pub mod raw;
 pub use code::{Code, Type};
 pub use raw::{
     list_entries, shown_length, state_length, BLOCK, BLOCKS, LONGEST_LIST, LONGEST_PROGRAM,
-    LONGEST_STATE, NODES, NO_ENTRY, NO_STEP, RECORD, RECORDS, TIME_ENTRY, VALUE, WATCHED,
+    LONGEST_STATE, LONGEST_TEXT, NODES, NO_ENTRY, NO_STEP, RECORD, RECORDS, TIME_ENTRY, VALUE,
+    WATCHED,
 };
 
 use core::fmt;
@@ -92,14 +93,17 @@ pub struct Explained {
     pub entries: u32,
 }
 
-/// What tidy says of the new program.
+/// What tidy and read say of the new program.
 #[derive(Clone, Copy, Debug, PartialEq, Eq)]
-pub struct Tidied {
+pub struct Written {
     /// How many nodes it has.
     pub nodes: u32,
     /// How long it is in bytes: so much of the room it fills.
     pub length: u32,
 }
+
+/// The name by which [`tidy`] gave it first.
+pub type Tidied = Written;
 
 /// A refused call.
 #[derive(Clone, Copy, Debug, PartialEq, Eq)]
@@ -260,14 +264,14 @@ pub fn mend(program: &[u8], state: &mut [u8], list: &mut [u16]) -> Result<u32, R
 /// until none is left, and the nodes are numbered children first. The new program fills the first
 /// blocks of the room, which is at least as long as the old one ([`LONGEST_PROGRAM`] is for any), and the
 /// rest is left; from start the two answer every list of records with the same values and refusals.
-pub fn tidy(program: &[u8], room: &mut [u8]) -> Result<Tidied, Refusal> {
+pub fn tidy(program: &[u8], room: &mut [u8]) -> Result<Written, Refusal> {
     let answer = answered(|answer| {
         let (new, length) = (room.as_mut_ptr(), room.len());
         // Safety: as for `check`; the room is lent alone.
         unsafe { raw::couplerfinch_tidy(program.as_ptr(), program.len(), new, length, answer) }
     })?;
     let raw::Answer { nodes, length, .. } = answer;
-    Ok(Tidied { nodes, length })
+    Ok(Written { nodes, length })
 }
 
 /// Accepts a new program exactly when it is the old one with some unused lets dropped, one after the
@@ -284,6 +288,32 @@ pub fn paired(old: &[u8], new: &[u8], pairing: &[u16]) -> Result<(), Refusal> {
         }
     })?;
     Ok(())
+}
+
+/// Reads a table as it is typed (docs/TEXT.md) and writes its blocks to the front of the room
+/// ([`LONGEST_PROGRAM`] is for any); what is behind is left. A word that does not fit is refused with its
+/// position in the text, in bytes from 0, as the place; a table that the check refuses with the node's
+/// number, children first in field order.
+pub fn read(text: &[u8], room: &mut [u8]) -> Result<Written, Refusal> {
+    let answer = answered(|answer| {
+        let (new, length) = (room.as_mut_ptr(), room.len());
+        // Safety: as for `check`; the room is lent alone.
+        unsafe { raw::couplerfinch_read(text.as_ptr(), text.len(), new, length, answer) }
+    })?;
+    let raw::Answer { nodes, length, .. } = answer;
+    Ok(Written { nodes, length })
+}
+
+/// Prints a program as text to the front of the room ([`LONGEST_TEXT`] is for any), and answers the text's
+/// length; what is behind is left. Reading the text gives the program numbered children first, and printing
+/// that gives the text again.
+pub fn print(program: &[u8], room: &mut [u8]) -> Result<u32, Refusal> {
+    let answer = answered(|answer| {
+        let (text, length) = (room.as_mut_ptr(), room.len());
+        // Safety: as for `check`; the room is lent alone.
+        unsafe { raw::couplerfinch_print(program.as_ptr(), program.len(), text, length, answer) }
+    })?;
+    Ok(answer.length)
 }
 
 /// Makes a call with room for its answer, which is a refusal where its code is not 0; it is none of a run.

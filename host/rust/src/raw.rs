@@ -10,6 +10,8 @@ pub const RECORDS: usize = 4096;
 
 pub const LONGEST_PROGRAM: usize = BLOCK * BLOCKS;
 
+pub const LONGEST_TEXT: usize = 107868;
+
 pub const NO_ENTRY: u16 = 65535;
 
 pub const NO_STEP: u16 = 65535;
@@ -53,6 +55,10 @@ pub const LIST_LENGTH: u32 = 16;
 pub const WATCH_LENGTH: u32 = 17;
 pub const WATCH_ENTRY: u32 = 18;
 pub const NEW_LENGTH: u32 = 19;
+pub const TEXT_WORD: u32 = 21;
+pub const TEXT_NAME: u32 = 22;
+pub const TEXT_NUMBER: u32 = 23;
+pub const TEXT_ROOM: u32 = 24;
 pub const NO_LET: u32 = 25;
 pub const ROOM_LENGTH: u32 = 26;
 pub const PAIRING_LENGTH: u32 = 27;
@@ -154,6 +160,20 @@ extern "C" {
         new_length: usize,
         pairing: *const u16,
         pairing_entries: usize,
+        answer: *mut Answer,
+    ) -> u32;
+    pub fn couplerfinch_read(
+        text: *const u8,
+        text_length: usize,
+        room: *mut u8,
+        room_length: usize,
+        answer: *mut Answer,
+    ) -> u32;
+    pub fn couplerfinch_print(
+        program: *const u8,
+        program_length: usize,
+        room: *mut u8,
+        room_length: usize,
         answer: *mut Answer,
     ) -> u32;
 }

@@ -158,7 +158,7 @@ const SILENT: [&str; 4] = [
 #[test]
 fn declarations_are_the_headers() {
     let (one, other) = (header(HEADER), rust(RAW));
-    assert_eq!((one.numbers.len(), one.fields.len(), one.functions.len()), (48, 12, 8));
+    assert_eq!((one.numbers.len(), one.fields.len(), one.functions.len()), (53, 12, 10));
     assert_eq!(one, other);
     assert!(RAW.contains("#[repr(C)]\n#[derive"), "C's layout");
 }
@@ -167,6 +167,7 @@ fn declarations_are_the_headers() {
 fn the_answer_is_laid_out_as_in_c() {
     assert_eq!((size_of::<raw::Answer>(), align_of::<raw::Answer>()), (48, 4));
     assert_eq!((raw::LONGEST_STATE, raw::LONGEST_LIST, raw::LONGEST_PROGRAM), (8072, 1009, 12_288));
+    assert_eq!(raw::LONGEST_TEXT, 12 + 1008 * (81 + 26));
 }
 
 /// `PROGRAM_LENGTH` as `ProgramLength`.
@@ -186,7 +187,7 @@ fn codes_have_the_headers_names() {
         .map(|(name, number)| format!("{} = {number}", camel(name)))
         .collect();
     assert_eq!(named.as_slice(), wanted);
-    assert_eq!([0, 14, 24, 30, 32, 41].map(Code::of), [None; 6]);
+    assert_eq!([0, 14, 20, 30, 32, 41].map(Code::of), [None; 6]);
     assert_eq!(Code::of(8), Some(Code::NotReady));
 }
 

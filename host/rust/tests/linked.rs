@@ -3,8 +3,8 @@
 #![cfg(linked)]
 
 use couplerfinch::{
-    check, explain, mend, paired, run, start, tidy, watch, Checked, Code, Explained, Ran, Refusal,
-    Tidied, Type, BLOCK, NODES, NO_ENTRY, RECORD, TIME_ENTRY,
+    check, explain, mend, paired, print, read, run, start, tidy, watch, Checked, Code, Explained,
+    Ran, Refusal, Type, Written, BLOCK, NODES, NO_ENTRY, RECORD, TIME_ENTRY,
 };
 
 /// A record of a table: kind, type, a, b, c and word.
@@ -296,7 +296,7 @@ fn old_a() -> ([u8; BLOCK], [u16; 8]) {
 fn reading_a_tidied_and_paired() {
     let ((old, pairing), new) = (old_a(), block(&A));
     let mut room = [9; BLOCK + 3];
-    assert_eq!(tidy(&old, &mut room), Ok(Tidied { nodes: 8, length: 512 }));
+    assert_eq!(tidy(&old, &mut room), Ok(Written { nodes: 8, length: 512 }));
     assert_eq!((&room[..BLOCK], &room[BLOCK..]), (&new[..], &[9; 3][..]));
     assert_eq!(paired(&old, &new, &pairing), Ok(()));
     assert_eq!(paired(&new, &new, &[0, 1, 2, 3, 4, 5, 6, 7]), Ok(()));
@@ -315,6 +315,34 @@ fn tidy_refused_writes_nothing() {
     let mut room = [9; BLOCK];
     assert_eq!(tidy(&old, &mut room[1..]), Err(refusal(Code::NewLength, 0)));
     assert_eq!(tidy(&block(&C), &mut room), Err(refusal(Code::NotReady, 4)));
+    assert_eq!(room, [9; BLOCK]);
+}
+
+#[test]
+fn reading_a_as_text() {
+    let text = b"edition-one\n(let x7 int\n  (delay 0 (ext (add x7 1)))\n  (ext x7))\n";
+    let mut room = [9; BLOCK + 3];
+    assert_eq!(read(text, &mut room), Ok(Written { nodes: 8, length: 512 }));
+    assert_eq!((&room[..BLOCK], &room[BLOCK..]), (&block(&A)[..], &[9; 3][..]));
+    let mut printed = [9; 70];
+    assert_eq!(print(&block(&A), &mut printed), Ok(65));
+    assert_eq!((&printed[..65], &printed[65..]), (&text[..], &[9; 5][..]));
+}
+
+#[test]
+fn text_refused_writes_nothing() {
+    let mut room = [9; BLOCK];
+    for (text, code, place) in [
+        (&b"edition-one (ext y)"[..], Code::TextName, 17),
+        (b"edition-one (input 8)", Code::TextNumber, 19),
+        (b"edition-one (time", Code::TextWord, 17),
+        (b"edition-one (let x int (ext x) (time))", Code::NotReady, 3),
+    ] {
+        assert_eq!(read(text, &mut room), Err(refusal(code, place)));
+    }
+    assert_eq!(read(b"edition-one (time)", &mut room[1..]), Err(refusal(Code::TextRoom, 0)));
+    assert_eq!(print(&block(&A), &mut room[..64]), Err(refusal(Code::TextRoom, 0)));
+    assert_eq!(print(&block(&C), &mut room), Err(refusal(Code::NotReady, 4)));
     assert_eq!(room, [9; BLOCK]);
 }
 

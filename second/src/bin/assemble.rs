@@ -1,45 +1,91 @@
 //! Turns a table's text, and records after a line `records`, into bytes.
 //!
-//!     assemble [FILE]            the blocks, and behind them the records, on standard output
-//!     assemble --lines [FILE]    the line on which each node and each record stands
+//!     assemble [FILE]                   the blocks, and behind them the records, on standard output
+//!     assemble --lines [FILE]           the line on which each node and each record stands
+//!     assemble --records [FILE]         records alone
+//!     assemble --typed [FILE]           the blocks of a table in the text form (docs/TEXT.md), by the
+//!                                       second program's reader; or the line REFUSED code place
+//!     assemble --unjudged [FILE]        the same, of a table that the check refuses too
+//!     assemble --places [FILE]          the positions in such a text at which its nodes begin, a line each
+//!     assemble --damage BLOCKS [FILE]   the blocks of a file, with the changes that lines with a dot say
 //!
 //! Without a FILE, or for -, the text is read on standard input. The status is 1 where the text is no
 //! table, 2 for bad use and where reading or writing fails; nothing is written then.
 
-use second::assemble::{places, whole};
+use second::assemble::{damaged, places, records, whole, Mistake};
+use second::reader::{self, Unjudged};
+use second::Refusal;
 use std::io::{self, stdin, stdout, Read, Write};
 use std::process::exit;
 
 const USE: &str =
-    "usage: assemble [--lines] [FILE]   (a table's text, or standard input, to bytes)";
+    "usage: assemble [--lines | --records | --typed | --unjudged | --places | --damage BLOCKS] \
+     [FILE]   (a table's text, or standard input, to bytes)";
 
 fn main() {
     let words: Vec<String> = std::env::args().skip(1).collect();
-    let (lines, words) = match words.split_first() {
-        Some((first, rest)) if first == "--lines" => (true, rest),
-        _ => (false, &words[..]),
-    };
-    let name = match words {
-        [] => "-",
-        [word] if word == "--help" => {
+    let words: Vec<&str> = words.iter().map(String::as_str).collect();
+    let (option, words) = match words[..] {
+        ["--help"] => {
             println!("{USE}");
             return;
         }
-        [word] if word == "-" || !word.starts_with('-') => word,
+        ["--damage", blocks, ref rest @ ..] => (Some(blocks), rest),
+        [option @ ("--lines" | "--records" | "--typed" | "--unjudged" | "--places"), ref rest @ ..] => {
+            (Some(option), rest)
+        }
+        ref all => (None, all),
+    };
+    let name = match words {
+        [] => "-",
+        [word] if *word == "-" || !word.starts_with('-') => word,
         _ => fail(2, USE),
     };
-    let text = match read(name) {
-        Ok(bytes) => String::from_utf8(bytes),
-        Err(error) => fail(2, &format!("assemble: {name}: {error}")),
+    let bytes = made(option, name, taken(name));
+    if let Err(error) = stdout().lock().write_all(&bytes) {
+        fail(2, &format!("assemble: standard output: {error}"));
+    }
+}
+
+/// What an option, or the name of a file of blocks, makes of a text.
+fn made(option: Option<&str>, name: &str, bytes: Vec<u8>) -> Vec<u8> {
+    if let Some(option @ ("--typed" | "--unjudged" | "--places")) = option {
+        return typed(option, &bytes);
+    }
+    let Ok(text) = String::from_utf8(bytes) else {
+        fail(1, &format!("{name}: the text is not UTF-8"))
     };
-    let Ok(text) = text else { fail(1, &format!("{name}: the text is not UTF-8")) };
-    let bytes = match whole(&text) {
-        Ok(_) if lines => listed(&text).into_bytes(),
+    let right = |made: Result<Vec<u8>, Mistake>| match made {
         Ok(bytes) => bytes,
         Err(mistake) => fail(1, &format!("{}line {}: {}", head(name), mistake.line, mistake.says)),
     };
-    if let Err(error) = stdout().lock().write_all(&bytes) {
-        fail(2, &format!("assemble: standard output: {error}"));
+    match option {
+        None => right(whole(&text)),
+        Some("--lines") => {
+            right(whole(&text));
+            listed(&text).into_bytes()
+        }
+        Some("--records") => right(records(&text)),
+        Some(blocks) => right(damaged(taken(blocks), &text)),
+    }
+}
+
+/// The blocks of a text of the text form, or where its nodes begin; a refusal is told, and is a status of 1.
+fn typed(option: &str, text: &[u8]) -> Vec<u8> {
+    let mut room = vec![0; 12_288];
+    let judged = match option {
+        "--typed" => reader::read(text, &mut room).map(|_| ()),
+        _ => Ok(()),
+    };
+    match judged.and_then(|_| reader::unjudged(text)) {
+        Ok(Unjudged { places, .. }) if option == "--places" => {
+            places.iter().map(|place| format!("{place}\n")).collect::<String>().into_bytes()
+        }
+        Ok(Unjudged { program, .. }) => program,
+        Err(Refusal { code, place, .. }) => {
+            println!("REFUSED {code} {place}");
+            exit(1)
+        }
     }
 }
 
@@ -52,6 +98,10 @@ fn head(name: &str) -> String {
 }
 
 /// All of a file, or of standard input.
+fn taken(name: &str) -> Vec<u8> {
+    read(name).unwrap_or_else(|error| fail(2, &format!("assemble: {name}: {error}")))
+}
+
 fn read(name: &str) -> io::Result<Vec<u8>> {
     if name != "-" {
         return std::fs::read(name);

@@ -184,7 +184,7 @@ fn an_empty_run() {
 
 /// Row J's table, whose byte 3 is the number given.
 fn arriving(edition: u8) -> String {
-    let sample = include_str!("../../../samples/readings/j.txt");
+    let sample = include_str!("../../samples/j.txt");
     let table = sample.split("records\n").next().unwrap();
     table.replace(".edition 1", &format!(".edition {edition}"))
 }

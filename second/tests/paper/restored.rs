@@ -2,20 +2,21 @@
 //! a table of more than one block, and two tables that share one sum.
 
 use crate::tables::*;
-use second::{check, format, run, start};
+use second::{check, format, reader, run, start};
 
-/// The crossing of the samples: its table, and its records.
+/// The crossing of the samples: its table as it is typed, and its records.
 const CROSSING: &str = include_str!("../../../samples/crossing.txt");
+const RECORDS: &str = include_str!("../../../samples/crossing.records");
 
 /// The crossing with another course on leg two: the same nodes and cells.
 fn crossing(course: &str) -> Vec<u8> {
-    let text = CROSSING.split("\nrecords\n").next().expect("the table comes first");
-    let (before, after) = text.split_once("value=4120").expect("leg two is there");
-    table(&format!("{before}value={course}{after}"))
+    let (before, after) = CROSSING.split_once("add 4120").expect("leg two is there");
+    let text = format!("{before}add {course}{after}");
+    reader::unjudged(text.as_bytes()).expect("a text").program
 }
 
 fn crossing_records() -> Vec<u8> {
-    records(CROSSING.split("\nrecords\n").nth(1).expect("records come second"))
+    records(RECORDS)
 }
 
 /// Runs records, whose state must be the program's.

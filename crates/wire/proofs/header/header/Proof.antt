@@ -72,6 +72,18 @@ mul-pair-header c = search needs
 pair-header-requires : tie.Need-pair-header-requires
 pair-header-requires c κs = search needs
 
+enum-known-request-9 : tie.Need-enum-known-request-9
+enum-known-request-9 c = search needs
+
+read-header-requires : tie.Need-read-header-requires
+read-header-requires c κs = search needs
+
+enum-known-request-10 : tie.Need-enum-known-request-10
+enum-known-request-10 c = search needs
+
+print-header-requires : tie.Need-print-header-requires
+print-header-requires c κs = search needs
+
 enum-told : tie.Need-enum-told
 enum-told c = search needs
 
@@ -109,7 +121,15 @@ returns-8 c = let e = c .pair-header .ensures in (e .0, e .1 ∙ sym (ap headerL
 
 returns-9 : tie.Need-returns-9
 unfolding headerLine
-returns-9 c = ((zero-le, refl), sym (ap headerLine (c .enum-told .given .1)))
+returns-9 c = let e = c .read-header .ensures in (e .0, e .1 ∙ sym (ap headerLine (c .before .before .before .request9 .given .1)))
+
+returns-10 : tie.Need-returns-10
+unfolding headerLine
+returns-10 c = let e = c .print-header .ensures in (e .0, e .1 ∙ sym (ap headerLine (c .before .before .before .request10 .given .1)))
+
+returns-11 : tie.Need-returns-11
+unfolding headerLine
+returns-11 c = ((zero-le, refl), sym (ap headerLine (c .enum-told .given .1)))
 
 pub header-spec : {M : Type 1} → statement M
 header-spec =
@@ -137,6 +157,10 @@ header-spec =
     cast-pair-header
     mul-pair-header
     pair-header-requires
+    enum-known-request-9
+    read-header-requires
+    enum-known-request-10
+    print-header-requires
     enum-told
     returns
     returns-2
@@ -146,4 +170,6 @@ header-spec =
     returns-6
     returns-7
     returns-8
-    returns-9)
+    returns-9
+    returns-10
+    returns-11)

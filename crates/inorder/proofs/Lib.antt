@@ -1,0 +1,4 @@
+pub mod WalkLaws
+pub mod Plainly
+pub mod RowsPlain
+pub mod Renumbers

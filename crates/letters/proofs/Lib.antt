@@ -1,0 +1,4 @@
+pub mod WroteLaws
+pub mod WordLaws
+pub mod DigitLaws
+pub mod ValueLaws

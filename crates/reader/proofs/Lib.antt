@@ -1,0 +1,15 @@
+pub mod BeginLaws
+pub mod CycleLaws
+pub mod EndLaws
+pub mod EnterLaws
+pub mod FieldTests
+pub mod FlowLaws
+pub mod GrewLaws
+pub mod HeadingLaws
+pub mod NodeLaws
+pub mod PutLaws
+pub mod RestLaws
+pub mod RowLaws
+pub mod SimpleLaws
+pub mod SofarLaws
+pub mod StepIn

@@ -1,0 +1,4 @@
+pub mod RowsLaws
+pub mod ReadLaws
+pub mod CallLaws
+pub mod Here

@@ -1,0 +1,10 @@
+pub mod Fronts
+pub mod There
+pub mod AtCalls
+pub mod Later
+pub mod AsAsked
+pub mod OneTable
+pub mod Numbered
+pub mod Stays
+pub mod TextOrder
+pub mod ReadAgain

@@ -1,0 +1,4 @@
+pub mod Retold
+pub mod OnlyLater
+pub mod Asked
+pub mod Stays

@@ -1,0 +1,13 @@
+pub mod Answers
+pub mod Spelled
+pub mod Tokens
+pub mod Spelling
+pub mod Numerals
+pub mod Rows
+pub mod Steps
+pub mod Reader
+pub mod Resolved
+pub mod Numbering
+pub mod Printer
+pub mod Calls
+pub mod Comes

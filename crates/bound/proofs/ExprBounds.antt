@@ -75,3 +75,17 @@ module _ (p : Bytes) (n : ℕ) (w : SmallTree isExpression nodesE p n) where
   pub operation-bound : IsOperation (kindAt p n) → boundE (exprAt p n) ≡ 1 + (boundE (exprAt p (aAt p n)) + boundE (exprAt p (bAt p n)))
   unfolding boundE
   operation-bound o = ap boundE (operation-tree p n (w .node) o)
+
+  -- The bound of expression n over one part, over two, and over a test and two arms, from those that are answered for its parts.
+  pub over-said : {a x r : ℕ} → boundE (exprAt p n) ≡ 1 + boundE (exprAt p (aAt p n)) → a ≡ aAt p n → x ≡ boundE (exprAt p a) → r ≡ 1 + x → r ≡ boundE (exprAt p n)
+  over-said b ea sx s = cc (b, s, sx, ea)
+
+  pub both-said : {a b x y r : ℕ} → boundE (exprAt p n) ≡ 1 + (boundE (exprAt p (aAt p n)) + boundE (exprAt p (bAt p n))) → a ≡ aAt p n → b ≡ bAt p n
+      → x ≡ boundE (exprAt p a) → y ≡ boundE (exprAt p b) → r ≡ 1 + (x + y)
+      → r ≡ boundE (exprAt p n)
+  both-said e ea eb sx sy s = cc (e, s, sx, sy, ea, eb)
+
+  pub arms-said : {a b c x y z r : ℕ} → boundE (exprAt p n) ≡ 1 + (boundE (exprAt p (aAt p n)) + max (boundE (exprAt p (bAt p n))) (boundE (exprAt p (cAt p n))))
+      → a ≡ aAt p n → b ≡ bAt p n → c ≡ cAt p n → x ≡ boundE (exprAt p a) → y ≡ boundE (exprAt p b) → z ≡ boundE (exprAt p c) → r ≡ 1 + (x + max y z)
+      → r ≡ boundE (exprAt p n)
+  arms-said e ea eb ec sx sy sz s = cc (e, s, sx, sy, sz, ea, eb, ec)

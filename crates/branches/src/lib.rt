@@ -10,7 +10,7 @@ use cells::kind_by;
 use cells::number_of;
 
 // Whether the list of branches that begins with branch j has the branch k. The table gives each branch the first of its list.
-pub fn has_branch(p: &[u8], index: &[u16; 2016], j: usize, k: usize) -> bool
+pub fn has_branch(p: &[u8], index: &[u16; 10080], j: usize, k: usize) -> bool
     requires { ⌜ NodeOf isBranch (now p) j × Indexed (now p) (now index) × (getD (now index) j 0 ≡ j) ⌝ }
     ensures { λ r. ⌜ r ≡ hasBranch k (branchesAt (now (p .entry)) j) ⌝ }
 {

@@ -2,4 +2,4 @@ pub mod Written
 pub mod Numbered
 pub mod Listed
 pub mod Passed
-pub mod Places
+pub mod Rows

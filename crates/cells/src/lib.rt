@@ -2,17 +2,18 @@
 ghost use mathlib.Core.Path.{_≡_};
 ghost use Prim.Native.Nat.{_+_, _*_, _≤_, _<_};
 ghost use lib.ListN.{length, getD};
-ghost use Rattle.rules.specs.Bytes.{u64At, bytesOf, writeAt};
-ghost use Rattle.rules.specs.Layout.{nodes, mostNodes, records, recordAt, kindAt, hasCell, cellsBefore, cellAt, cell as cellIn, setCell, headerLength, lastTime, setTime};
+ghost use Rattle.rules.specs.Bytes.{u16At, u64At, bytesOf, writeAt};
+ghost use Rattle.rules.specs.Layout.{nodes, records, kindAt, typeAt, bAt, wordAt, hasCell, cellsBefore, cellAt, cell as cellIn, setCell, headerLength, lastTime, setTime};
 ghost use Rattle.rules.specs.Node.{IsNode};
+ghost use Rattle.rules.specs.Values.{packed, valueFrom};
 ghost use Rattle.rules.specs.Shaped.{Shaped};
-ghost use Rattle.cells.specs.Indexed.{ListedOnce, Numbers, SignalsKept, ListedFrom, Listed, Indexed};
+ghost use Rattle.cells.specs.Indexed.{ListedOnce, Numbers, SignalsKept, ListedFrom, Listed, tableRoom, Stored, Spread, Row, Elsewhere, Indexed};
 use rules::Node;
 use table::LAST;
 use table::node;
 use table::node_at;
-use table::read;
 use table::u32_at;
+use values::pack_from;
 
 // A 32-bit number as a 64-bit one.
 fn wide(x: u32) -> u64
@@ -191,21 +192,74 @@ pub fn count_cells(p: &[u8], count: usize) -> usize
     seen
 }
 
-// The places of the nodes' records, behind the numbers.
-fn index_places(p: &[u8], index: &mut [u16], count: usize)
-    requires { ⌜ Shaped (now p) × (count ≡ nodes (now p)) × (mostNodes + count ≤ length (now index)) × Listed (now p) (now index) × Numbers (now p) (now index) ⌝ }
+// A byte as a 16-bit number.
+fn wide16(x: u8) -> u16
+    ensures { λ r. ⌜ (r ≡ x) × (r < 256) ⌝ }
+{
+    x as u16
+}
+
+// The number of 2 bytes at a position.
+fn short_at(p: &[u8], at: usize) -> u16
+    requires { ⌜ at + 2 ≤ length (now p) ⌝ }
+    ensures { λ r. ⌜ (r ≡ u16At (now (p .entry)) at) × (r < 65536) ⌝ }
+{
+    wide16(p[at]) + 256 * wide16(p[at + 1])
+}
+
+// A number put into the table.
+fn store(index: &mut [u16], at: usize, x: u16)
+    requires { ⌜ at < length (now index) ⌝ }
+    ensures { λ _. ⌜ Stored (now (index .entry)) at x (now (index .exit)) ⌝ }
+{
+    index[at] = x;
+}
+
+// The 8 bytes of a value put into four places of the table.
+fn store_value(index: &mut [u16], at: usize, v: u64)
+    requires { ⌜ (at + 4 ≤ length (now index)) × (at < 10080) ⌝ }
+    ensures { λ _. ⌜ Spread (now (index .entry)) at v (now (index .exit)) ⌝ }
+{
+    let low = v % 4294967296;
+    let high = v / 4294967296;
+    store(index, at, (low % 65536) as u16);
+    store(index, at + 1, (low / 65536) as u16);
+    store(index, at + 2, (high % 65536) as u16);
+    store(index, at + 3, (high / 65536) as u16);
+}
+
+// Row i of the table: the fields of node i, each in a column of its own behind the numbers, and the value that a delay or a constant has.
+fn put_row(p: &[u8], index: &mut [u16], i: usize)
+    requires { ⌜ Shaped (now p) × (i < nodes (now p)) × (tableRoom ≤ length (now index)) ⌝ }
+    ensures { λ _. ⌜ Row (now (p .entry)) (now (index .exit)) i × Elsewhere i (now (index .entry)) (now (index .exit)) ⌝ }
+{
+    let n = node(p, i);
+    let at = node_at(p, i);
+    let b = short_at(p, at + 4);
+    let v = pack_from(n.ty, b as usize, n.word);
+    store(index, 1008 + i, wide16(n.kind));
+    store(index, 2016 + i, wide16(n.ty));
+    store(index, 3024 + i, short_at(p, at + 2));
+    store(index, 4032 + i, b);
+    store(index, 5040 + i, short_at(p, at + 6));
+    store_value(index, 6048 + 4 * i, v);
+}
+
+// The rows of all nodes, behind the numbers.
+fn index_rows(p: &[u8], index: &mut [u16], count: usize)
+    requires { ⌜ Shaped (now p) × (count ≡ nodes (now p)) × (tableRoom ≤ length (now index)) × Listed (now p) (now index) × Numbers (now p) (now index) ⌝ }
     ensures { λ _. ⌜ Indexed (now (p .entry)) (now (index .exit)) ⌝ }
 {
     let mut i: usize = 0;
     while i < count {
-        index[1008 + i] = node_at(p, i) as u16;
+        put_row(p, index, i);
         i += 1;
     }
 }
 
 // The table, filled in three passes; the answer is how many cells the nodes have.
 pub fn index_cells(p: &[u8], index: &mut [u16], count: usize) -> usize
-    requires { ⌜ Shaped (now p) × ListedOnce (now p) × (count ≡ nodes (now p)) × (mostNodes + count ≤ length (now index)) ⌝ }
+    requires { ⌜ Shaped (now p) × ListedOnce (now p) × (count ≡ nodes (now p)) × (tableRoom ≤ length (now index)) ⌝ }
     ensures { λ r. ⌜ Indexed (now (p .entry)) (now (index .exit)) × (r ≡ cellsBefore (now (p .entry)) count) ⌝ }
 {
     let mut seen: usize = 0;
@@ -218,32 +272,49 @@ pub fn index_cells(p: &[u8], index: &mut [u16], count: usize) -> usize
         i += 1;
     }
     index_branches(p, index, count);
-    index_places(p, index, count);
+    index_rows(p, index, count);
     seen
 }
 
-// Where node i stands, by the table: without a product.
-fn place_of(p: &[u8], index: &[u16; 2016], i: usize) -> usize
-    requires { ⌜ Indexed (now p) (now index) × Shaped (now p) × (i < nodes (now p)) ⌝ }
-    ensures { λ n. ⌜ (n ≡ recordAt i) × (n + 12 ≤ length (now (p .entry))) ⌝ }
+// What stands at a place of the table.
+fn column(index: &[u16], at: usize) -> usize
+    requires { ⌜ at < length (now index) ⌝ }
+    ensures { λ r. ⌜ (r ≡ getD (now (index .entry)) at 0) × (r < 65536) ⌝ }
 {
-    index[1008 + i] as usize
+    index[at] as usize
 }
 
-// The fields of node i, by the table.
-pub fn node_by(p: &[u8], index: &[u16; 2016], i: usize) -> Node
+// The fields of node i, by the table. (The word, which values have from the table, is read from the record.)
+pub fn node_by(p: &[u8], index: &[u16; 10080], i: usize) -> Node
     requires { ⌜ Indexed (now p) (now index) × Shaped (now p) × (i < nodes (now p)) ⌝ }
     ensures { λ n. ⌜ IsNode (now (p .entry)) i n ⌝ }
 {
-    let at = place_of(p, index, i);
-    read(p, at)
+    let at = node_at(p, i);
+    Node {
+        kind: column(index, 1008 + i) as u8,
+        ty: column(index, 2016 + i) as u8,
+        a: column(index, 3024 + i),
+        b: column(index, 4032 + i),
+        c: column(index, 5040 + i),
+        word: u32_at(p, at + 8),
+    }
+}
+
+// The value of node i, a delay or a constant, by the table: its 8 bytes.
+pub fn value_by(p: &[u8], index: &[u16; 10080], i: usize) -> u64
+    requires { ⌜ Indexed (now p) (now index) × Shaped (now p) × (i < nodes (now p)) ⌝ }
+    ensures { λ v. ⌜ v ≡ packed (valueFrom (typeAt (now (p .entry)) i) (bAt (now (p .entry)) i) (wordAt (now (p .entry)) i)) ⌝ }
+{
+    let at = 6048 + 4 * i;
+    let low = column(index, at) + 65536 * column(index, at + 1);
+    let high = column(index, at + 2) + 65536 * column(index, at + 3);
+    (low + 4294967296 * high) as u64
 }
 
 // The kind of node i, by the table.
-pub fn kind_by(p: &[u8], index: &[u16; 2016], i: usize) -> u8
+pub fn kind_by(p: &[u8], index: &[u16; 10080], i: usize) -> u8
     requires { ⌜ Indexed (now p) (now index) × Shaped (now p) × (i < nodes (now p)) ⌝ }
     ensures { λ k. ⌜ k ≡ kindAt (now (p .entry)) i ⌝ }
 {
-    let at = place_of(p, index, i);
-    p[at]
+    column(index, 1008 + i) as u8
 }

@@ -1,11 +1,12 @@
 -- An expression of each kind: its children are ready, and what it evaluates to by theirs.
 -- Assumes nothing.
 use mathlib.Core.Path.{_≡_, sym, ap, _∙_, subst}
-use Prim.Native.Nat.{ℕ, _+_, _<_}
+use Prim.Native.Nat.{ℕ, _+_, _<_, _≤_}
 use native.Mathlib.Omega.{arith}
+use borrow.Author.Tests.{leb-true}
 use Rattle.rules.specs.Bytes.{Bytes}
 use Rattle.rules.specs.Layout.{kindAt, typeAt, aAt, bAt, cAt, wordAt}
-use Rattle.rules.specs.Values.{valueFrom, unpacked}
+use Rattle.rules.specs.Values.{valueFrom, packed, unpacked}
 use Rattle.rules.specs.Kinds.{isExpression}
 use Rattle.rules.specs.Tree.{exprAt, valueAt}
 use Rattle.rules.specs.Work.{give, after, rule}
@@ -13,8 +14,10 @@ use Rattle.rules.specs.Bound.{boundE}
 use Rattle.rules.specs.Evaluate.{Env, bind, look, operated, negated, chosen, lifted, taken, evalE}
 use Rattle.rules.specs.Shaped.{NodeOf}
 use Rattle.rules.specs.declared.Tally.{Tally}
+use Rattle.rules.specs.declared.Value.{Value}
 use Rattle.rules.specs.declared.Evaluated.{Evaluated}
 use Rattle.rules.specs.declared.Evaluated.the-variants.{Stuck}
+use Rattle.rules.proofs.Static.{and-both}
 use Rattle.rules.proofs.Nodes.{expr-variable, expr-constant}
 use Rattle.rules.proofs.Expressions.{IsOperation, negation-kid, negation-tree, just-kid, just-tree, choice-kids, choice-tree, taking-kids, taking-tree, operation-kids, operation-tree}
 use Rattle.rules.proofs.Within.{evalE-within}
@@ -23,7 +26,31 @@ use Rattle.outcomes.specs.declared.Arm.the-variants.{Go, Neither}
 use Rattle.outcomes.specs.declared.Event.{Event}
 use Rattle.outcomes.specs.declared.Event.the-variants.{Occurs, Quiet}
 use Rattle.outcomes.specs.declared.Parts.the-variants.{Maybe, Wrong}
+use Rattle.outcomes.specs.Outcome.{IsValue}
+use Rattle.outcomes.proofs.Numbers.{proper-from, proper-value}
 use Rattle.outcomes.proofs.Outcomes.{work-within, arm-goes, arm-none, arm-one, take-present, take-absent, take-wrong}
+
+-- A sum is an operation.
+pub sum-operation : {k : ℕ} → k ≡ 18 → IsOperation k
+sum-operation e = record {
+  no16 = λ h. omega (arith, e, h);
+  no17 = λ h. omega (arith, e, h);
+  no24 = λ h. omega (arith, e, h);
+  no27 = λ h. omega (arith, e, h);
+  no28 = λ h. omega (arith, e, h);
+  no29 = λ h. omega (arith, e, h);
+}
+
+-- An expression of a kind up to 17 that is no variable is a constant.
+pub constant-left : (p : Bytes) (n : ℕ) → NodeOf isExpression p n → {k : ℕ} → k ≡ kindAt p n → k ≤ 17 → (k ≡ 16 → ⊥) → kindAt p n ≡ 17
+unfolding isExpression
+constant-left p n w e h other =
+    let low : 16 ≤ kindAt p n = leb-true 16 (kindAt p n) (and-both _ _ (w .sorted) .0) in
+    omega (arith, e, h, other, low)
+
+-- The 8 bytes of a constant are a value's.
+pub constant-value : (p : Bytes) (n : ℕ) {m : ℕ} → typeAt p n < 256 → m ≡ packed (valueFrom (typeAt p n) (bAt p n) (wordAt p n)) → IsValue m
+constant-value p n h e = rw e (proper-value (valueFrom (typeAt p n) (bAt p n) (wordAt p n)) (proper-from (typeAt p n) h (bAt p n) (wordAt p n)))
 
 -- Node x is an expression below node n, and its tree's bound is small.
 pub record PartE (p : Bytes) (n x : ℕ) : Type 0 where
@@ -119,6 +146,11 @@ module _ (p : Bytes) (n : ℕ) (w : NodeOf isExpression p n) (env : Env) where
   unfolding evalE valueAt
   constant-eval e = ap (evalE env) (expr-constant p n e)
 
+  pub constant-fixed : kindAt p n ≡ 17 → {m : ℕ} → typeAt p n < 256 → m ≡ packed (valueFrom (typeAt p n) (bAt p n) (wordAt p n))
+      → rule (give (unpacked m)) ≡ evalE env (exprAt p n)
+  constant-fixed e h q =
+      ap (λ (v : Value). rule (give v)) (ap unpacked q ∙ proper-from (typeAt p n) h (bAt p n) (wordAt p n)) ∙ sym (constant-eval e)
+
   pub negation-eval : kindAt p n ≡ 24 → evalE env (exprAt p n) ≡ rule (negated (evalE env (exprAt p (aAt p n))))
   unfolding evalE
   negation-eval e = ap (evalE env) (negation-tree p n w e)
@@ -131,6 +163,10 @@ module _ (p : Bytes) (n : ℕ) (w : NodeOf isExpression p n) (env : Env) where
       → evalE env (exprAt p n) ≡ rule (operated (kindAt p n) (evalE env (exprAt p (aAt p n))) (evalE env (exprAt p (bAt p n))))
   unfolding evalE
   operation-eval o = ap (evalE env) (operation-tree p n w o)
+
+  pub sum-eval : kindAt p n ≡ 18 → evalE env (exprAt p n) ≡ rule (operated 18 (evalE env (exprAt p (aAt p n))) (evalE env (exprAt p (bAt p n))))
+  sum-eval e =
+      operation-eval (sum-operation e) ∙ ap (λ (k : ℕ). rule (operated k (evalE env (exprAt p (aAt p n))) (evalE env (exprAt p (bAt p n))))) e
 
   choice-eval : kindAt p n ≡ 27
       → evalE env (exprAt p n) ≡ rule (chosen (evalE env (exprAt p (aAt p n))) (evalE env (exprAt p (bAt p n))) (evalE env (exprAt p (cAt p n))))

@@ -15,16 +15,18 @@ use branches::has_branch;
 use cells::kind_by;
 use cells::node_by;
 use cells::own_cell;
+use cells::value_by;
 use inputs::channel_value;
 use inputs::time_in;
 use outcomes::Arm;
 use outcomes::Event;
 use outcomes::Parts;
 use outcomes::Shown;
+use outcomes::added;
 use outcomes::apart;
 use outcomes::chosen;
-use outcomes::constant;
 use outcomes::exactly;
+use outcomes::fixed;
 use outcomes::given;
 use outcomes::held;
 use outcomes::later;
@@ -38,21 +40,23 @@ use rules::INT;
 use rules::Value;
 
 // Expression i as an operand: a variable or a constant is read at once, without a call.
-fn operand(p: &&[u8], ix: &[u16; 2016], env: &mut [u64; 1008], i: usize) -> u64
+fn operand(p: &&[u8], ix: &[u16; 10080], env: &mut [u64; 1008], i: usize) -> u64
     requires { ⌜ ReadyE (now (now p)) (now ix) (now env) i ⌝ }
     ensures { λ r. ⌜ (outcomeIn r ≡ evalE (now (env .entry)) (exprAt (now (now (p .entry))) i)) × IsOutcome r × (now (env .exit) ≡ now (env .entry)) ⌝ }
 {
     let n = node_by(*p, ix, i);
     let k = n.kind;
-    match k {
-        16 => variable(env, n.a),
-        17 => constant(n.ty, n.b, n.word),
-        _ => eval_e(p, ix, env, i),
+    if 17 < k {
+        return eval_e(p, ix, env, i);
     }
+    if k == 16 {
+        return variable(env, n.a);
+    }
+    fixed(value_by(*p, ix, i))
 }
 
 // Expression i. If and take evaluate one arm only.
-fn eval_e(p: &&[u8], ix: &[u16; 2016], env: &mut [u64; 1008], i: usize) -> u64
+fn eval_e(p: &&[u8], ix: &[u16; 10080], env: &mut [u64; 1008], i: usize) -> u64
     requires { ⌜ ReadyE (now (now p)) (now ix) (now env) i ⌝ }
     ensures { λ r. ⌜ (outcomeIn r ≡ evalE (now (env .entry)) (exprAt (now (now (p .entry))) i)) × IsOutcome r × (now (env .exit) ≡ now (env .entry)) ⌝ }
 {
@@ -60,7 +64,7 @@ fn eval_e(p: &&[u8], ix: &[u16; 2016], env: &mut [u64; 1008], i: usize) -> u64
     let k = n.kind;
     match k {
         16 => variable(env, n.a),
-        17 => constant(n.ty, n.b, n.word),
+        17 => fixed(value_by(*p, ix, i)),
         24 => negated(operand(p, ix, env, n.a)),
         27 => {
             let test = operand(p, ix, env, n.a);
@@ -83,6 +87,11 @@ fn eval_e(p: &&[u8], ix: &[u16; 2016], env: &mut [u64; 1008], i: usize) -> u64
             let present = inside_e(p, ix, env, i, v, n.c);
             later(count, present)
         }
+        18 => {
+            let x = operand(p, ix, env, n.a);
+            let y = operand(p, ix, env, n.b);
+            added(x, y)
+        }
         _ => {
             let x = operand(p, ix, env, n.a);
             let y = operand(p, ix, env, n.b);
@@ -92,7 +101,7 @@ fn eval_e(p: &&[u8], ix: &[u16; 2016], env: &mut [u64; 1008], i: usize) -> u64
 }
 
 // Expression k with the value v in slot i, which is then put back.
-fn inside_e(p: &&[u8], ix: &[u16; 2016], env: &mut [u64; 1008], i: usize, v: u64, k: usize) -> u64
+fn inside_e(p: &&[u8], ix: &[u16; 10080], env: &mut [u64; 1008], i: usize, v: u64, k: usize) -> u64
     requires { ⌜ ReadyE (now (now p)) (now ix) (now env) k × (i < 1008) × IsValue v ⌝ }
     ensures { λ r. ⌜ (outcomeIn r ≡ evalE (bind (now (env .entry)) i (unpacked v)) (exprAt (now (now (p .entry))) k)) × IsOutcome r × (now (env .exit) ≡ now (env .entry)) ⌝ }
 {
@@ -113,7 +122,7 @@ pub fn branch_in(m: u64) -> usize
 // Signal i. Switch and let continue evaluate the current part; a group's branch is known by its number in the cell.
 fn eval_s(
     p: &&[u8],
-    ix: &[u16; 2016],
+    ix: &[u16; 10080],
     rec: &&[u8],
     st: &&[u8],
     env: &mut [u64; 1008],
@@ -164,7 +173,7 @@ fn eval_s(
 // Signal i of an until, by the until's rule: a delay is read at once, without a call.
 fn through(
     p: &&[u8],
-    ix: &[u16; 2016],
+    ix: &[u16; 10080],
     rec: &&[u8],
     st: &&[u8],
     env: &mut [u64; 1008],
@@ -184,7 +193,7 @@ fn through(
 // Signal k with the value v in slot i, which is then put back.
 fn inside_s(
     p: &&[u8],
-    ix: &[u16; 2016],
+    ix: &[u16; 10080],
     rec: &&[u8],
     st: &&[u8],
     env: &mut [u64; 1008],
@@ -204,7 +213,7 @@ fn inside_s(
 }
 
 // Signal i, an input, time or ext: it reads no cell, and nothing is noted.
-pub fn outright(p: &&[u8], ix: &[u16; 2016], rec: &&[u8], env: &mut [u64; 1008], i: usize) -> u64
+pub fn outright(p: &&[u8], ix: &[u16; 10080], rec: &&[u8], env: &mut [u64; 1008], i: usize) -> u64
     requires { ⌜ ReadyO (now (now p)) (now ix) (now env) i ⌝ }
     ensures { λ r. ⌜ ((st : Bytes) → outcomeIn r ≡ evalS (now (now (rec .entry))) st (now (env .entry)) (signalAt (now (now (p .entry))) i)) × IsOutcome r × (now (env .exit) ≡ now (env .entry)) ⌝ }
 {
@@ -220,7 +229,7 @@ pub fn outright(p: &&[u8], ix: &[u16; 2016], rec: &&[u8], env: &mut [u64; 1008],
 // Signal i in a state that is lent as a slice: what a step and an update call.
 pub fn evaluated(
     p: &&[u8],
-    ix: &[u16; 2016],
+    ix: &[u16; 10080],
     rec: &&[u8],
     st: &[u8],
     env: &mut [u64; 1008],

@@ -77,7 +77,7 @@ fn list_changes(old: &[u8; 8072], st: &[u8], list: &mut [u16], held: usize) -> u
 // A state brought back, and what changed listed in a room of one entry more than its cells.
 fn mend_listed(
     p: &[u8],
-    index: &[u16; 2016],
+    index: &[u16; 10080],
     st: &mut [u8],
     list: &mut [u16],
     count: usize,
@@ -95,7 +95,7 @@ fn mend_listed(
 // A state of the right length and sum: code 16, or the state brought back.
 fn mend_known(
     p: &[u8],
-    index: &[u16; 2016],
+    index: &[u16; 10080],
     st: &mut [u8],
     list: &mut [u16],
     count: usize,
@@ -127,7 +127,7 @@ fn mend_accepted(p: &[u8], st: &mut [u8], list: &mut [u16], count: usize) -> Men
     requires { ⌜ Accepted (now p) × (count ≡ nodes (now p)) ⌝ }
     ensures { λ r. ⌜ Leaves (mendOutcome (now (p .entry)) (now (st .entry)) (now (list .entry)) (knownVerdict (now (p .entry)) (now (st .entry)))) r (now (st .exit)) (now (list .exit)) ⌝ }
 {
-    let mut index: [u16; 2016] = [0; 2016];
+    let mut index: [u16; 10080] = [0; 10080];
     let held = index_cells(p, &mut index, count);
     let fault = known_verdict(p, st, held);
     match fault {

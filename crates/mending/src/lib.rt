@@ -27,7 +27,7 @@ use well::content_fits;
 use well::middle_in;
 
 // A content of a group's cell names one of the branches from node j on, with a value of its type.
-fn names_branch(p: &&[u8], index: &[u16; 2016], size: usize, m: u64, j: usize) -> bool
+fn names_branch(p: &&[u8], index: &[u16; 10080], size: usize, m: u64, j: usize) -> bool
     requires { ⌜ Stated isBranch (now (now p)) (now index) size j ⌝ }
     ensures { λ r. ⌜ r ≡ namesBranch m (branchesAt (now (now (p .entry))) j) ⌝ }
 {
@@ -54,7 +54,7 @@ fn mend_own(index: &[u16], st: &mut [u8], i: usize, n: Node)
 }
 
 // The signal at node i, in a current part.
-fn mend_s(p: &&[u8], index: &[u16; 2016], st: &mut [u8], i: usize)
+fn mend_s(p: &&[u8], index: &[u16; 10080], st: &mut [u8], i: usize)
     requires { ⌜ Stated isSignal (now (now p)) (now index) (length (now st)) i ⌝ }
     ensures { λ _. ⌜ now (st .exit) ≡ mendS (signalAt (now (now (p .entry))) i) (now (st .entry)) ⌝ }
 {
@@ -80,7 +80,7 @@ fn mend_s(p: &&[u8], index: &[u16; 2016], st: &mut [u8], i: usize)
 }
 
 // A switch: switched with a content that fits, or put to start.
-fn mend_switch(p: &&[u8], index: &[u16; 2016], st: &mut [u8], i: usize, n: Node)
+fn mend_switch(p: &&[u8], index: &[u16; 10080], st: &mut [u8], i: usize, n: Node)
     requires { ⌜ Stated isSignal (now (now p)) (now index) (length (now st)) i × IsNode (now (now p)) i n × (kindAt (now (now p)) i ≡ 6) ⌝ }
     ensures { λ _. ⌜ now (st .exit) ≡ mendS (signalAt (now (now (p .entry))) i) (now (st .entry)) ⌝ }
 {
@@ -98,7 +98,7 @@ fn mend_switch(p: &&[u8], index: &[u16; 2016], st: &mut [u8], i: usize, n: Node)
 }
 
 // A group: in one of its branches, or put to start.
-fn mend_group(p: &&[u8], index: &[u16; 2016], st: &mut [u8], i: usize, n: Node)
+fn mend_group(p: &&[u8], index: &[u16; 10080], st: &mut [u8], i: usize, n: Node)
     requires { ⌜ Stated isSignal (now (now p)) (now index) (length (now st)) i × IsNode (now (now p)) i n × (kindAt (now (now p)) i ≡ 7) ⌝ }
     ensures { λ _. ⌜ now (st .exit) ≡ mendS (signalAt (now (now (p .entry))) i) (now (st .entry)) ⌝ }
 {
@@ -115,7 +115,7 @@ fn mend_group(p: &&[u8], index: &[u16; 2016], st: &mut [u8], i: usize, n: Node)
 }
 
 // The list of branches at node j, of which a content of the group's cell names one.
-fn mend_b(p: &&[u8], index: &[u16; 2016], st: &mut [u8], m: u64, j: usize)
+fn mend_b(p: &&[u8], index: &[u16; 10080], st: &mut [u8], m: u64, j: usize)
     requires { ⌜ Stated isBranch (now (now p)) (now index) (length (now st)) j ⌝ }
     ensures { λ _. ⌜ now (st .exit) ≡ mendB m (branchesAt (now (now (p .entry))) j) (now (st .entry)) ⌝ }
 {
@@ -134,7 +134,7 @@ fn mend_b(p: &&[u8], index: &[u16; 2016], st: &mut [u8], m: u64, j: usize)
 }
 
 // The list of cases at node j.
-fn mend_c(p: &&[u8], index: &[u16; 2016], st: &mut [u8], j: usize)
+fn mend_c(p: &&[u8], index: &[u16; 10080], st: &mut [u8], j: usize)
     requires { ⌜ Stated isCase (now (now p)) (now index) (length (now st)) j ⌝ }
     ensures { λ _. ⌜ now (st .exit) ≡ mendC (casesAt (now (now (p .entry))) j) (now (st .entry)) ⌝ }
 {
@@ -161,7 +161,7 @@ fn mend_time(st: &mut [u8])
 }
 
 // The cells and the time of a state of a program of so many nodes brought back.
-pub fn bring_back(p: &[u8], index: &[u16; 2016], st: &mut [u8], count: usize)
+pub fn bring_back(p: &[u8], index: &[u16; 10080], st: &mut [u8], count: usize)
     requires { ⌜ NodeOf isSignal (now p) (nodes (now p) - 1) × Indexed (now p) (now index) × (count ≡ nodes (now p)) × (length (now st) ≡ stateLength (now p)) ⌝ }
     ensures { λ _. ⌜ now (st .exit) ≡ mended (now (p .entry)) (now (st .entry)) ⌝ }
 {

@@ -58,7 +58,7 @@ fn keep(list: &&[u16], room: &mut [u8], at: usize, i: usize, outcome: u64)
 // Signal i, and of its parts what listed nodes give (a let's definition is noted in memo, as by evaluate): a let's definition and body, the current part of a switch or a group, an until's signal.
 fn parts_n(
     p: &&[u8],
-    ix: &[u16; 2016],
+    ix: &[u16; 10080],
     rec: &&[u8],
     st: &&[u8],
     env: &mut [u64; 1008],
@@ -138,7 +138,7 @@ fn parts_n(
 // Signal i, and what it and its parts give.
 fn note_s(
     p: &&[u8],
-    ix: &[u16; 2016],
+    ix: &[u16; 10080],
     rec: &&[u8],
     st: &&[u8],
     env: &mut [u64; 1008],
@@ -159,7 +159,7 @@ fn note_s(
 // Signal k with the value v in slot i, which is then put back.
 fn inside_n(
     p: &&[u8],
-    ix: &[u16; 2016],
+    ix: &[u16; 10080],
     rec: &&[u8],
     st: &&[u8],
     env: &mut [u64; 1008],
@@ -184,7 +184,7 @@ fn inside_n(
 // Signal i in a state that is lent as a slice: what a watched step calls.
 pub fn noted(
     p: &&[u8],
-    ix: &[u16; 2016],
+    ix: &[u16; 10080],
     rec: &&[u8],
     st: &[u8],
     env: &mut [u64; 1008],

@@ -18,7 +18,7 @@ use Rattle.rules.specs.declared.Evaluated.the-variants.{Done, Stuck}
 use Rattle.outcomes.specs.Combine.{countOf, workOf}
 use Rattle.outcomes.specs.Outcome.{tallyIn, tallyOf, outcomeIn, outcomeOf, IsOutcome, IsValue, IsProper, Slots}
 use Rattle.outcomes.proofs.Tallies.{counted, same-tally, tally-back, more-tally, marked-new, marked-yet}
-use Rattle.outcomes.proofs.Numbers.{exact-same, exact-value, proper-from, proper-value, value-middle}
+use Rattle.outcomes.proofs.Numbers.{exact-same, exact-value, proper-value, value-middle}
 
 -- So much more counted: the same type, present byte and word, so the same value.
 module _ (m k : ℕ) (h : middleIn m + k < 65536) where
@@ -117,12 +117,6 @@ pub held-gives : (m : ℕ) {e : ℕ} → e ≡ packed (unpacked m) → Gives (e 
 held-gives m e =
     let q = value-rule (packed (unpacked m)) (exact-value m) in
     rw e (q .0 ∙ rw (exact-same m), q .1)
-
-pub constant-gives : (t b w : ℕ) → t < 256 → {e : ℕ} → e ≡ packed (valueFrom t b w) → Gives (e + 65536) (rule (give (valueFrom t b w)))
-constant-gives t b w h e =
-    let v = valueFrom t b w in
-    let q = value-rule (packed v) (proper-value v (proper-from t h b w)) in
-    rw e (q .0 ∙ rw (proper-from t h b w), q .1)
 
 pub look-gives : (env : Env) (n : ℕ) → Slots env → (getD env n 0 ≡ 0 → ⊥) → Gives (getD env n 0 + 65536) (rule (look env n))
 unfolding look

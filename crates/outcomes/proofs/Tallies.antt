@@ -1,11 +1,11 @@
 -- What was counted, as a number of 16 bits: read back, with more counted, together with another, and marked.
 -- Assumes nothing.
-use mathlib.Core.Path.{_≡_, refl, sym, _∙_}
-use mathlib.Core.Bool.{Bool, true, false}
+use mathlib.Core.Path.{_≡_, refl, sym, ap, _∙_}
+use mathlib.Core.Bool.{Bool, true, false, _||_, true≢false}
 use Prim.Native.Nat.{ℕ, _+_, _-_, _*_, _%_, _<_, _≤_}
 use native.Mathlib.Omega.{arith}
-use lib.Dec.{leb}
-use borrow.Author.Tests.{leb-true, leb-false, le-leb, lt-leb}
+use lib.Dec.{leb, ltb}
+use borrow.Author.Tests.{leb-true, leb-false, le-leb, lt-leb, ltb-true, ltb-false}
 use Rattle.rules.specs.Bytes.{if_then_else_, _or_}
 use Rattle.rules.specs.Work.{nothing, noted, oneRule, _plus_}
 use Rattle.rules.specs.declared.Tally.{Tally}
@@ -54,6 +54,21 @@ module _ (a b : ℕ) (h : a < 65536) (g : b < 65536) where
   pub joined-both : a % 32768 + b % 32768 < 32767 → 32768 ≤ a → 32768 ≤ b → (tallyIn (a + b - 32768) ≡ tallyIn a plus tallyIn b) × (a + b - 32768 < 65535)
   unfolding tallyIn _plus_ _or_
   joined-both s l k = (rw (le-leb 32768 a l, le-leb 32768 (a + b - 32768) (omega arith)) (same-tally (omega arith) refl), omega arith)
+
+  -- By both tests at once.
+  pub joined-once : a % 32768 + b % 32768 < 32767 → (ltb a 32768 || ltb b 32768) ≡ true → (tallyIn (a + b) ≡ tallyIn a plus tallyIn b) × (a + b < 65535)
+  joined-once s once = go (ltb a 32768) refl
+    where
+      go : (t : Bool) → ltb a 32768 ≡ t → (tallyIn (a + b) ≡ tallyIn a plus tallyIn b) × (a + b < 65535)
+      go true e = joined-first s (ltb-true _ _ e)
+      go false e = joined-second s (ltb-false _ _ e) (ltb-true _ _ (ap (λ (x : Bool). x || ltb b 32768) (sym e) ∙ once))
+
+  pub neither : (ltb a 32768 || ltb b 32768) ≡ false → (32768 ≤ a) × (32768 ≤ b)
+  neither once = go (ltb a 32768) refl
+    where
+      go : (t : Bool) → ltb a 32768 ≡ t → (32768 ≤ a) × (32768 ≤ b)
+      go true e = absurd (true≢false (ap (λ (x : Bool). x || ltb b 32768) (sym e) ∙ once))
+      go false e = (ltb-false _ _ e, ltb-false _ _ (ap (λ (x : Bool). x || ltb b 32768) (sym e) ∙ once))
 
 -- Marked, where it is not yet and where it is.
 pub marked-new : (t : ℕ) → t < 32768 → tallyIn (t + 32768) ≡ noted true plus tallyIn t

@@ -2,14 +2,14 @@
 ghost use mathlib.Core.Path.{_≡_};
 ghost use mathlib.Core.Bool.{true};
 ghost use Prim.Native.Nat.{_+_, _*_, _<_};
-ghost use Rattle.rules.specs.Values.{boolT, intT, valueFrom, packed, unpacked, middleIn};
+ghost use Rattle.rules.specs.Values.{boolT, intT, packed, unpacked, middleIn};
 ghost use Rattle.rules.specs.Operations.{operandType};
 ghost use Rattle.rules.specs.Work.{noted, _plus_, give, after as afterOf, rule};
 ghost use Rattle.rules.specs.Evaluate.{look as lookOf, meant, operated as operatedOf, negated as negatedOf, lifted as liftedOf};
 ghost use Rattle.rules.specs.declared.Word.the-variants.{Is};
 ghost use Rattle.rules.specs.declared.Evaluated.the-variants.{Done};
 ghost use Rattle.outcomes.specs.Combine.{workOf, wordBy, armIn, partsOf};
-ghost use Rattle.outcomes.specs.Outcome.{tallyIn, outcomeIn, IsOutcome, IsProper, Slots, valueIn, shownIn};
+ghost use Rattle.outcomes.specs.Outcome.{tallyIn, outcomeIn, IsOutcome, IsProper, IsValue, Slots, valueIn, shownIn};
 use rules::BOOL;
 use rules::INT;
 use rules::MAYBE;
@@ -26,6 +26,7 @@ use values::word_in;
 use words::divide;
 use words::number;
 use words::quotient_left;
+use words::sum;
 use words::test;
 
 // The arm that an if evaluates, with what its test counted.
@@ -70,15 +71,13 @@ fn tally_in(m: u64) -> Tally
     }
 }
 
-// Two counts together, marked where one of them is. (Most are not.)
+// Two counts together, marked where one of them is. (Both tests at once: the choice costs no jump.)
 fn joined(a: u64, b: u64) -> u64
     requires { ⌜ (a < 65536) × (b < 65536) × (tallyIn a .work + tallyIn b .work < 32767) ⌝ }
     ensures { λ r. ⌜ (tallyIn r ≡ tallyIn a plus tallyIn b) × (r < 65535) ⌝ }
 {
-    if a < 32768 {
-        return a + b;
-    }
-    if b < 32768 {
+    let once = (a < 32768) | (b < 32768);
+    if once {
         return a + b;
     }
     a + b - 32768
@@ -126,13 +125,6 @@ pub fn given(v: Value) -> u64
     ensures { λ s. ⌜ (outcomeIn s ≡ rule (give v)) × IsOutcome s ⌝ }
 {
     outcome(v, 1)
-}
-
-// A constant, by one rule.
-pub fn constant(t: u8, present: usize, word: u32) -> u64
-    ensures { λ s. ⌜ (outcomeIn s ≡ rule (give (valueFrom t present word))) × IsOutcome s ⌝ }
-{
-    pack_from(t, present, word) + 65536
 }
 
 // The value that a cell's content stands for, by one rule.
@@ -281,6 +273,33 @@ pub fn operated(k: u8, r: u64, s: u64) -> u64
         return on_ints(k, r, s);
     }
     on_bools(k, r, s)
+}
+
+// A sum of two outcomes, by one rule.
+pub fn added(r: u64, s: u64) -> u64
+    requires { ⌜ workOf (outcomeIn r) + workOf (outcomeIn s) < 32767 ⌝ }
+    ensures { λ e. ⌜ (outcomeIn e ≡ rule (operatedOf 18 (outcomeIn r) (outcomeIn s))) × IsOutcome e ⌝ }
+{
+    let Word::Is(x) = plain_word(INT, r) else {
+        return 0;
+    };
+    let Word::Is(y) = plain_word(INT, s) else {
+        return 0;
+    };
+    let n = sum(x, y);
+    outcome_if(
+        n.left,
+        Value::Plain(INT, n.word),
+        joined(counted_in(r), counted_in(s)) + 1,
+    )
+}
+
+// The value of 8 bytes, by one rule.
+pub fn fixed(m: u64) -> u64
+    requires { ⌜ IsValue m ⌝ }
+    ensures { λ s. ⌜ (outcomeIn s ≡ rule (give (unpacked m))) × IsOutcome s ⌝ }
+{
+    m + 65536
 }
 
 // Not of an outcome, by one rule.

@@ -24,7 +24,7 @@ use steps::record_verdict;
 // The output of a step and its row of the second room: the row is cleared, and the root evaluated with what listed nodes give noted in it.
 fn show_listed(
     p: &[u8],
-    index: &[u16; 2016],
+    index: &[u16; 10080],
     rec: &[u8],
     st: &[u8],
     env: &mut [u64; 1008],
@@ -47,7 +47,7 @@ fn show_listed(
 // A watched step. The answer is what both phases counted.
 fn watch_step(
     p: &[u8],
-    index: &[u16; 2016],
+    index: &[u16; 10080],
     rec: &[u8],
     st: &mut [u8],
     env: &mut [u64; 1008],
@@ -87,7 +87,7 @@ fn watch_step(
 // the rows of the finished steps are written. The slots of definitions' outcomes are made once for the run.
 pub fn watch_records(
     p: &[u8],
-    index: &[u16; 2016],
+    index: &[u16; 10080],
     recs: &[u8],
     st: &mut [u8],
     env: &mut [u64; 1008],

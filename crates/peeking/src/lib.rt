@@ -91,7 +91,7 @@ fn rooms_fit(recs: &[u8], list: &[u16], out: &[u8], room: &[u8]) -> bool
 // Codes 9, 15, 10 and 11.
 fn lent_verdict(
     p: &[u8],
-    index: &[u16; 2016],
+    index: &[u16; 10080],
     st: &[u8],
     recs: &[u8],
     list: &[u16],
@@ -124,7 +124,7 @@ fn watch_listed(
     requires { ⌜ Accepted (now p) × (count ≡ nodes (now p)) × (length (now list) ≤ 8) ⌝ }
     ensures { λ r. ⌜ Leaves (runOutcome (now (p .entry)) (now (st .entry)) (now (recs .entry)) (now (out .entry)) (watchLent (now (p .entry)) (now (st .entry)) (now (recs .entry)) (now (list .entry)) (now (out .entry)) (now (room .entry)))) r (now (st .exit)) (now (out .exit)) × (now (room .exit) ≡ watchRoom (now (p .entry)) (now (st .entry)) (now (recs .entry)) (now (list .entry)) (now (room .entry)) (watchLent (now (p .entry)) (now (st .entry)) (now (recs .entry)) (now (list .entry)) (now (out .entry)) (now (room .entry)))) ⌝ }
 {
-    let mut index: [u16; 2016] = [0; 2016];
+    let mut index: [u16; 10080] = [0; 10080];
     let held = index_cells(p, &mut index, count);
     let fault = lent_verdict(p, &index, st, recs, list, out, room, count, held);
     match fault {

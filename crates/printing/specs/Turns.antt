@@ -18,6 +18,7 @@ use Rattle.rules.specs.declared.Verdict.the-variants.{Fine, Refuse}
 use Rattle.rules.specs.declared.Checked.{Checked}
 use Rattle.rules.specs.declared.Checked.the-variants.{Accepted}
 use Rattle.lines.specs.Print.{firstLine, stepLine, refusedLine}
+use Rattle.noted.specs.Noted.{Noted}
 use Rattle.steps.specs.Going.{Going, mostWork}
 use Rattle.turns.specs.Decided.{mostRecords, blocksLeft, wanted, isRecord}
 use Rattle.printing.specs.Printed.{lastLine}
@@ -87,7 +88,8 @@ pub record Turned (o : TurnOutcome) (line : Bytes) (size : ℕ) (more : Bool) (s
   pub state-is : st ≡ o .state
 
 -- A run of at most 4,096 steps on its way: so many are done, and no step has worked more than 1,008 times 1,009.
-pub record Under (p : Bytes) (index : List ℕ) (st : Bytes) (env : Env) (count steps total : ℕ) : Type 0 where
+pub record Under (p : Bytes) (index : List ℕ) (st : Bytes) (env : Env) (memo : List ℕ) (count steps total : ℕ) : Type 0 where
   pub going : Going p index st env count
+  pub noted : Noted p memo
   pub few : steps ≤ mostRecords
   pub fits : total ≤ mostWork * steps

@@ -64,7 +64,7 @@ fn stepped(rec: &[u8], value: &[u8; 8], work: u32, line: &mut [u8; 64]) -> usize
 // The turn of a whole record: a run of one, and its work to the total, which 4,096 steps don't take past 4,294,967,295.
 fn taken(
     program: &[u8],
-    index: &[u16; 2016],
+    index: &[u16; 10080],
     rec: &[u8],
     state: &mut [u8],
     env: &mut [u64; 1008],
@@ -72,14 +72,15 @@ fn taken(
     steps: u32,
     total: u32,
     line: &mut [u8; 64],
+    memo: &mut [u64; 1008],
 ) -> After
-    requires { ⌜ Under (now program) (now index) (now state) (now env) count steps total × (steps < mostRecords) × (length (now rec) ≡ 40) ⌝ }
+    requires { ⌜ Under (now program) (now index) (now state) (now env) (now memo) count steps total × (steps < mostRecords) × (length (now rec) ≡ 40) ⌝ }
     ensures { λ r. ⌜ Counts (r .length) (now (line .exit)) ⌝ }
     ensures { λ r. ⌜ Turned (recordTurn (now (program .entry)) (now (rec .entry)) steps total (now (state .entry))) (now (line .exit)) (r .length) (r .more) (r .steps) (r .total) (now (state .exit)) ⌝ }
-    ensures { λ r. ⌜ Under (now (program .entry)) (now (index .entry)) (now (state .exit)) (now (env .exit)) count (r .steps) (r .total) ⌝ }
+    ensures { λ r. ⌜ Under (now (program .entry)) (now (index .entry)) (now (state .exit)) (now (env .exit)) (now (memo .exit)) count (r .steps) (r .total) ⌝ }
 {
     let mut value = [0u8; 8];
-    match run_records(program, index, rec, state, env, &mut value, count) {
+    match run_records(program, index, rec, state, env, &mut value, count, memo) {
         Ran::Finished(_, work, _) => After {
             length: stepped(rec, &value, work, line),
             more: true,
@@ -98,7 +99,7 @@ fn taken(
 // A turn on the first `got` bytes of rec: its step, or the last line.
 pub fn turn(
     program: &[u8],
-    index: &[u16; 2016],
+    index: &[u16; 10080],
     rec: &[u8],
     got: usize,
     state: &mut [u8],
@@ -107,14 +108,26 @@ pub fn turn(
     steps: u32,
     total: u32,
     line: &mut [u8; 64],
+    memo: &mut [u64; 1008],
 ) -> After
-    requires { ⌜ Under (now program) (now index) (now state) (now env) count steps total × (got ≤ 40) × (length (now rec) ≡ 40) ⌝ }
+    requires { ⌜ Under (now program) (now index) (now state) (now env) (now memo) count steps total × (got ≤ 40) × (length (now rec) ≡ 40) ⌝ }
     ensures { λ r. ⌜ Counts (r .length) (now (line .exit)) ⌝ }
     ensures { λ r. ⌜ Turned (turnOf (now (program .entry)) (take got (now (rec .entry))) steps total (now (state .entry))) (now (line .exit)) (r .length) (r .more) (r .steps) (r .total) (now (state .exit)) ⌝ }
-    ensures { λ r. ⌜ Under (now (program .entry)) (now (index .entry)) (now (state .exit)) (now (env .exit)) count (r .steps) (r .total) ⌝ }
+    ensures { λ r. ⌜ Under (now (program .entry)) (now (index .entry)) (now (state .exit)) (now (env .exit)) (now (memo .exit)) count (r .steps) (r .total) ⌝ }
 {
     if is_record(got, steps) {
-        return taken(program, index, rec, state, env, count, steps, total, line);
+        return taken(
+            program,
+            index,
+            rec,
+            state,
+            env,
+            count,
+            steps,
+            total,
+            line,
+            memo,
+        );
     }
     After {
         length: last(got, steps, total, line),

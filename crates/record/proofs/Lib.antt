@@ -1,1 +1,2 @@
 pub mod TimeLaws
+pub mod EventLaws

@@ -2,6 +2,7 @@
 ghost use mathlib.Core.Path.{_≡_};
 ghost use Prim.Native.Nat.{_<_, _≤_, _^_};
 ghost use lib.ListN.{length};
+ghost use Rattle.rules.specs.Bytes.{_or_};
 ghost use Rattle.rules.specs.Layout.{headerLength, inputLength, timeIn};
 ghost use Rattle.rules.specs.Calls.{absentWrong, inputWrong, timeWrong};
 use cells::last_time;
@@ -22,9 +23,28 @@ fn absent_wrong(rec: &[u8], c: usize, power: u8) -> bool
     requires { ⌜ (inputLength ≤ length (now rec)) × (c < 4) × (0 < power) × (power ≡ 2 ^ c) ⌝ }
     ensures { λ r. ⌜ r ≡ absentWrong (now (rec .entry)) c ⌝ }
 {
-    let absent = rec[20] / power % 2 == 0;
     let word = u32_at(rec, 24 + 4 * c);
-    both(absent, word != 0)
+    if word == 0 {
+        return false;
+    }
+    rec[20] / power % 2 == 0
+}
+
+// An absent word of the channels 4-7 is not zero: asked one after the other, each with a jump of its own.
+fn events_wrong(rec: &[u8]) -> bool
+    requires { ⌜ inputLength ≤ length (now rec) ⌝ }
+    ensures { λ r. ⌜ r ≡ (absentWrong (now (rec .entry)) 0 or absentWrong (now (rec .entry)) 1 or absentWrong (now (rec .entry)) 2 or absentWrong (now (rec .entry)) 3) ⌝ }
+{
+    if absent_wrong(rec, 0, 1) {
+        return true;
+    }
+    if absent_wrong(rec, 1, 2) {
+        return true;
+    }
+    if absent_wrong(rec, 2, 4) {
+        return true;
+    }
+    absent_wrong(rec, 3, 8)
 }
 
 // Code 12: high bits of the flags or zero bytes set, an absent word not zero, or the time too large.
@@ -34,16 +54,8 @@ pub fn input_wrong(rec: &[u8]) -> bool
 {
     let flags = 15 < rec[20];
     let zeros = both(both(rec[21] == 0, rec[22] == 0), rec[23] == 0);
-    let a0 = absent_wrong(rec, 0, 1);
-    let a1 = absent_wrong(rec, 1, 2);
-    let a2 = absent_wrong(rec, 2, 4);
-    let a3 = absent_wrong(rec, 3, 8);
     let late = 2147483647 < time_of(rec);
-    let absent = either(
-        either(either(either(either(flags, !zeros), a0), a1), a2),
-        a3,
-    );
-    either(absent, late)
+    either(either(either(flags, !zeros), events_wrong(rec)), late)
 }
 
 // Code 13: the time is before the state's time, if it has one.

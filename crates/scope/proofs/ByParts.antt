@@ -7,20 +7,27 @@ use Prim.Native.Nat.{ℕ, suc}
 use lib.ListN.{set}
 use Rattle.rules.specs.Bytes.{Bytes}
 use Rattle.rules.specs.Layout.{edition, kindAt, aAt, bAt, cAt}
-use Rattle.rules.specs.Kinds.{isSignal, isCase}
+use Rattle.rules.specs.Kinds.{isSignal, isBranch, isCase}
 use Rattle.rules.specs.Shaped.{NodeOf}
 use Rattle.rules.specs.Places.{sooner, wrongUnless}
 use Rattle.rules.specs.declared.Place.{Place}
 use Rattle.rules.specs.declared.Place.the-variants.{Nowhere}
-use Rattle.rules.specs.Tree.{signalAt, branchesAt, casesAt}
-use Rattle.rules.specs.Scope.{Marks, mark, isOffered, scopeS, scopeB, scopeC}
+use Rattle.rules.specs.Tree.{exprAt, signalAt, branchesAt, casesAt}
+use Rattle.rules.specs.Scope.{Marks, mark, isOffered, scopeE, scopeS, scopeB, scopeC}
 use Rattle.scope.specs.Open.{offersBelow, limitBelow}
 use Rattle.scope.specs.Doors.{Doors}
-use Rattle.scope.proofs.SignalScope.{let-scope, switch-scope, group-scope, case-last-scope, case-more-scope}
+use Rattle.scope.proofs.SignalScope.{ext-scope, delay-scope, let-scope, switch-scope, group-scope, until-scope, branch-last-scope, branch-more-scope, case-last-scope, case-more-scope}
 use Rattle.scope.proofs.DoorLaws.{ended, inside-offers}
 
 module _ {p : Bytes} {homes doors : List ℕ} {limit i : ℕ} (Γ : Marks) (d : Doors p homes doors limit i) where
   module _ (w : NodeOf isSignal p i) where
+    pub ext-part : {a : ℕ} {z : Place} → kindAt p i ≡ 3 → a ≡ aAt p i → z ≡ scopeE Γ (exprAt p a) → z ≡ scopeS (edition p) Γ (offersBelow p doors limit) (signalAt p i)
+    ext-part k ea hz = cc (ext-scope (edition p) p i w Γ (offersBelow p doors limit) k)
+
+    pub delay-part : {a : ℕ} {z : Place} → kindAt p i ≡ 4 → a ≡ aAt p i → z ≡ scopeS (edition p) Γ (offersBelow p doors i) (signalAt p a)
+        → z ≡ scopeS (edition p) Γ (offersBelow p doors limit) (signalAt p i)
+    delay-part k ea hz = cc (delay-scope (edition p) p i w Γ (offersBelow p doors limit) k, ended d)
+
     pub let-parts : {a b : ℕ} {x y z : Place} {Γ′ : Marks} {doors′ : List ℕ} → kindAt p i ≡ 5 → a ≡ aAt p i → b ≡ bAt p i
         → x ≡ scopeS (edition p) (mark Γ i) (offersBelow p doors i) (signalAt p a) → Γ′ ≡ Γ → doors′ ≡ doors
         → y ≡ scopeS (edition p) (mark Γ′ i) (offersBelow p doors′ limit) (signalAt p b)
@@ -42,6 +49,24 @@ module _ {p : Bytes} {homes doors : List ℕ} {limit i : ℕ} (Γ : Marks) (d : 
     group-parts k ea eb ev hx el m o hy el′ hz =
         let offers = inside-offers d w k eb ev el in
         cc (group-scope (edition p) p i w Γ (offersBelow p doors limit) k, offers)
+
+    pub until-parts : {a b : ℕ} {x y z : Place} {Γ′ : Marks} {doors′ : List ℕ} → kindAt p i ≡ 8 → a ≡ aAt p i → b ≡ bAt p i
+        → x ≡ scopeS (edition p) Γ (offersBelow p doors i) (signalAt p a) → Γ′ ≡ Γ → doors′ ≡ doors
+        → y ≡ scopeC (edition p) Γ′ (offersBelow p doors′ limit) (casesAt p b)
+        → z ≡ sooner x y → z ≡ scopeS (edition p) Γ (offersBelow p doors limit) (signalAt p i)
+    until-parts k ea eb hx m o hy hz = cc (until-scope (edition p) p i w Γ (offersBelow p doors limit) k, ended d)
+
+  module _ (w : NodeOf isBranch p i) where
+    pub last-branch-parts : {a : ℕ} {x n z : Place} → bAt p i ≡ 65535 → a ≡ aAt p i
+        → x ≡ scopeS (edition p) (mark Γ i) (offersBelow p doors limit) (signalAt p a) → n ≡ Nowhere
+        → z ≡ sooner x n → z ≡ scopeB (edition p) Γ (offersBelow p doors limit) (branchesAt p i)
+    last-branch-parts l ea hx hn hz = cc (branch-last-scope (edition p) p i w Γ (offersBelow p doors limit) l)
+
+    pub more-branch-parts : {a b : ℕ} {x y z : Place} {Γ′ : Marks} {doors′ : List ℕ} → (bAt p i ≡ 65535 → ⊥) → a ≡ aAt p i → b ≡ bAt p i
+        → x ≡ scopeS (edition p) (mark Γ i) (offersBelow p doors limit) (signalAt p a) → Γ′ ≡ Γ → doors′ ≡ doors
+        → y ≡ scopeB (edition p) Γ′ (offersBelow p doors′ limit) (branchesAt p b)
+        → z ≡ sooner x y → z ≡ scopeB (edition p) Γ (offersBelow p doors limit) (branchesAt p i)
+    more-branch-parts l ea eb hx m o hy hz = cc (branch-more-scope (edition p) p i w Γ (offersBelow p doors limit) l)
 
   module _ (w : NodeOf isCase p i) where
     pub last-case-parts : {a b c : ℕ} {t : Bool} {h e v z n : Place} → a ≡ aAt p i → b ≡ bAt p i → c ≡ cAt p i → b ≡ 65535

@@ -13,7 +13,7 @@ use state::fill_start;
 pub const MOST_STATE: usize = 8072;
 
 // The table of the program's cells and its start state, if the room for that is of the right length.
-pub fn begin(p: &[u8], index: &mut [u16; 2016], st: &mut [u8], count: usize) -> Started
+pub fn begin(p: &[u8], index: &mut [u16; 10080], st: &mut [u8], count: usize) -> Started
     requires { ⌜ Accepted (now p) × (count ≡ nodes (now p)) ⌝ }
     ensures { λ r. ⌜ Begun (now (p .entry)) (now (index .exit)) (now (st .entry)) (now (st .exit)) r ⌝ }
 {

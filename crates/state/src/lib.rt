@@ -16,6 +16,7 @@ use cells::node_by;
 use cells::number_of;
 use cells::put32;
 use cells::set_cell;
+use cells::value_by;
 use rules::Node;
 use stamp::checks_of;
 use table::LAST;
@@ -38,7 +39,7 @@ pub fn set_own(index: &[u16], st: &mut [u8], i: usize, m: u64)
 }
 
 // All cells of the signal at node i put to start; input, time and ext, which have none, without a call.
-pub fn resets(p: &&[u8], index: &[u16; 2016], st: &mut [u8], i: usize)
+pub fn resets(p: &&[u8], index: &[u16; 10080], st: &mut [u8], i: usize)
     requires { ⌜ Stated isSignal (now (now p)) (now index) (length (now st)) i ⌝ }
     ensures { λ _. ⌜ now (st .exit) ≡ resetS (signalAt (now (now (p .entry))) i) (now (st .entry)) ⌝ }
 {
@@ -49,7 +50,7 @@ pub fn resets(p: &&[u8], index: &[u16; 2016], st: &mut [u8], i: usize)
 }
 
 // All cells of the signal at node i put to start.
-fn reset_s(p: &&[u8], index: &[u16; 2016], st: &mut [u8], i: usize)
+fn reset_s(p: &&[u8], index: &[u16; 10080], st: &mut [u8], i: usize)
     requires { ⌜ Stated isSignal (now (now p)) (now index) (length (now st)) i ⌝ }
     ensures { λ _. ⌜ now (st .exit) ≡ resetS (signalAt (now (now (p .entry))) i) (now (st .entry)) ⌝ }
 {
@@ -57,7 +58,7 @@ fn reset_s(p: &&[u8], index: &[u16; 2016], st: &mut [u8], i: usize)
     let k = n.kind;
     match k {
         4 => {
-            set_own(index, st, i, first_value(n));
+            set_own(index, st, i, value_by(*p, index, i));
             resets(p, index, st, n.a);
         }
         5 => {
@@ -84,7 +85,7 @@ fn reset_s(p: &&[u8], index: &[u16; 2016], st: &mut [u8], i: usize)
 }
 
 // All cells of the list of branches at node j put to start.
-pub fn reset_b(p: &&[u8], index: &[u16; 2016], st: &mut [u8], j: usize)
+pub fn reset_b(p: &&[u8], index: &[u16; 10080], st: &mut [u8], j: usize)
     requires { ⌜ Stated isBranch (now (now p)) (now index) (length (now st)) j ⌝ }
     ensures { λ _. ⌜ now (st .exit) ≡ resetB (branchesAt (now (now (p .entry))) j) (now (st .entry)) ⌝ }
 {
@@ -96,7 +97,7 @@ pub fn reset_b(p: &&[u8], index: &[u16; 2016], st: &mut [u8], j: usize)
 }
 
 // All cells of the list of cases at node j put to start.
-pub fn reset_c(p: &&[u8], index: &[u16; 2016], st: &mut [u8], j: usize)
+pub fn reset_c(p: &&[u8], index: &[u16; 10080], st: &mut [u8], j: usize)
     requires { ⌜ Stated isCase (now (now p)) (now index) (length (now st)) j ⌝ }
     ensures { λ _. ⌜ now (st .exit) ≡ resetC (casesAt (now (now (p .entry))) j) (now (st .entry)) ⌝ }
 {
@@ -129,7 +130,7 @@ fn put_header(p: &[u8], st: &mut [u8])
 }
 
 // The start state of a program of so many nodes, in memory of its length.
-pub fn fill_start(p: &[u8], index: &[u16; 2016], st: &mut [u8], count: usize)
+pub fn fill_start(p: &[u8], index: &[u16; 10080], st: &mut [u8], count: usize)
     requires { ⌜ NodeOf isSignal (now p) (nodes (now p) - 1) × Indexed (now p) (now index) × (count ≡ nodes (now p)) × (length (now st) ≡ stateLength (now p)) ⌝ }
     ensures { λ _. ⌜ now (st .exit) ≡ startState (now (p .entry)) ⌝ }
 {

@@ -60,7 +60,7 @@ pub fn display(outcome: u64, out: &mut [u8], at: usize) -> Tally
 // The output of a step: the root is evaluated, and its value goes to the output room. The answer is what was counted.
 fn show(
     p: &[u8],
-    index: &[u16; 2016],
+    index: &[u16; 10080],
     rec: &[u8],
     st: &[u8],
     env: &mut [u64; 1008],
@@ -80,7 +80,7 @@ fn show(
 // well-formed state, nor jumps out of its root: that arm is never taken.)
 pub fn advance(
     p: &[u8],
-    index: &[u16; 2016],
+    index: &[u16; 10080],
     rec: &[u8],
     st: &mut [u8],
     env: &mut [u64; 1008],
@@ -104,7 +104,7 @@ pub fn advance(
 // A step: its value is that of the state before the update. The answer is what both phases counted.
 fn make_step(
     p: &[u8],
-    index: &[u16; 2016],
+    index: &[u16; 10080],
     rec: &[u8],
     st: &mut [u8],
     env: &mut [u64; 1008],
@@ -136,21 +136,21 @@ pub fn first_wrapped(mark: u32, done: u32, w: Tally) -> u32
     mark
 }
 
-// The records of a run, one after the other, until one is refused. The slots of definitions' outcomes are made once for the run. More records may follow in another run. (No step works more than 1,008
+// The records of a run, one after the other, until one is refused. More records may follow in another run, with the same slots of definitions' outcomes. (No step works more than 1,008
 // times 1,009, so that the work of 4,096 is below 2 to the 32nd.)
 pub fn run_records(
     p: &[u8],
-    index: &[u16; 2016],
+    index: &[u16; 10080],
     recs: &[u8],
     st: &mut [u8],
     env: &mut [u64; 1008],
     out: &mut [u8],
     count: usize,
+    memo: &mut [u64; 1008],
 ) -> Ran
-    requires { ⌜ Going (now p) (now index) (now st) (now env) count × (length (now recs) ≤ 163840) × (length (now out) ≡ 8 * (length (now recs) / inputLength)) ⌝ }
-    ensures { λ r. ⌜ Leaves (runFrom (now (p .entry)) (now (recs .entry)) (length (now (recs .entry)) / inputLength) 0 0 noStep (now (st .entry)) (now (out .entry))) r (now (st .exit)) (now (out .exit)) × Going (now (p .entry)) (now (index .entry)) (now (st .exit)) (now (env .exit)) count × (workIn r ≤ mostWork * (length (now (recs .entry)) / inputLength)) ⌝ }
+    requires { ⌜ Going (now p) (now index) (now st) (now env) count × (length (now recs) ≤ 163840) × (length (now out) ≡ 8 * (length (now recs) / inputLength)) × Noted (now p) (now memo) ⌝ }
+    ensures { λ r. ⌜ Leaves (runFrom (now (p .entry)) (now (recs .entry)) (length (now (recs .entry)) / inputLength) 0 0 noStep (now (st .entry)) (now (out .entry))) r (now (st .exit)) (now (out .exit)) × Going (now (p .entry)) (now (index .entry)) (now (st .exit)) (now (env .exit)) count × (workIn r ≤ mostWork * (length (now (recs .entry)) / inputLength)) × Noted (now (p .entry)) (now (memo .exit)) ⌝ }
 {
-    let mut memo: [u64; 1008] = [0; 1008];
     let left = recs.len() / 40;
     let mut done: usize = 0;
     let mut work: u32 = 0;
@@ -163,7 +163,7 @@ pub fn run_records(
         if let Verdict::Refuse(r) = found {
             return Ran::Refused(r, work, mark);
         }
-        let spent = make_step(p, index, rec, st, env, out, 8 * done, count, &mut memo);
+        let spent = make_step(p, index, rec, st, env, out, 8 * done, count, memo);
         work += spent.work as u32;
         mark = first_wrapped(mark, done as u32, spent);
         done += 1;

@@ -28,7 +28,7 @@ fn sentence(code: u8) -> bool {
     }
 }
 
-// and of what else a call is handed.
+// of what else a call is handed: the memory of a run,
 fn call_sentence(code: u8) -> bool {
     match code {
         9 => put(b"the state is not one that this program can have, or has not its length"),
@@ -37,12 +37,26 @@ fn call_sentence(code: u8) -> bool {
         12 => put(b"this record is not well-formed"),
         13 => put(b"the time of this record is before the time of the state"),
         15 => put(b"the state is that of another program"),
+        _ => room_sentence(code),
+    }
+}
+
+// lists and rooms,
+fn room_sentence(code: u8) -> bool {
+    match code {
         16 => put(b"the room for the list is not one entry for each cell and one more"),
         17 => put(b"the list of nodes to watch has not 1 to 8 entries"),
         18 => put(b"this entry of the list is no signal node, or not above the one before"),
         19 => put(b"the room for the new program is shorter than the old program"),
         25 => put(b"no let needs its own value of the same step: there is nothing to explain"),
         26 => put(b"the room for the chain is not 1,008 entries"),
+        _ => pair_sentence(code),
+    }
+}
+
+// and of a pairing and a text.
+fn pair_sentence(code: u8) -> bool {
+    match code {
         27 => put(b"the pairing has not one entry for each new node"),
         28 => put(b"this entry of the pairing is wrong"),
         29 => put(b"the old and the new program are of different editions"),
@@ -50,7 +64,6 @@ fn call_sentence(code: u8) -> bool {
     }
 }
 
-// Of a text.
 fn text_sentence(code: u8) -> bool {
     match code {
         21 => put(b"this word or parenthesis does not fit here"),
@@ -129,8 +142,20 @@ fn behind(before: &[u8], word: &[u8]) -> bool {
     put(word)
 }
 
-// The word of a kind, and what stands before it; nothing where there is no such kind.
+// The word of a kind, and what stands before it; nothing where there is no such kind. (By groups, since the check of a match grows with the
+// square of its texts.)
 pub fn kind_word(before: &[u8], kind: u8) -> bool {
+    if kind < 16 {
+        return signal_word(before, kind);
+    }
+    if kind < 24 {
+        return number_word(before, kind);
+    }
+    truth_word(before, kind)
+}
+
+// Of signals, branches and cases,
+fn signal_word(before: &[u8], kind: u8) -> bool {
     match kind {
         1 => behind(before, b"input"),
         2 => behind(before, b"time"),
@@ -142,6 +167,13 @@ pub fn kind_word(before: &[u8], kind: u8) -> bool {
         8 => behind(before, b"until"),
         9 => behind(before, b"branch"),
         10 => behind(before, b"case"),
+        _ => true,
+    }
+}
+
+// of expressions: variables, constants and what is done with numbers,
+fn number_word(before: &[u8], kind: u8) -> bool {
+    match kind {
         16 => behind(before, b"variable"),
         17 => behind(before, b"constant"),
         18 => behind(before, b"add"),
@@ -150,6 +182,13 @@ pub fn kind_word(before: &[u8], kind: u8) -> bool {
         21 => behind(before, b"divide"),
         22 => behind(before, b"less"),
         23 => behind(before, b"equal"),
+        _ => true,
+    }
+}
+
+// and what is done with truth values and maybes.
+fn truth_word(before: &[u8], kind: u8) -> bool {
+    match kind {
         24 => behind(before, b"not"),
         25 => behind(before, b"and"),
         26 => behind(before, b"or"),

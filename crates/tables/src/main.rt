@@ -11,7 +11,7 @@ mod typed;
 mod watching;
 mod why;
 
-// Does what a word names. (Twelve such tests are proved with no proof file; the same tests on a part of main's array are not, from the eighth on.)
+// Does what a word names: a command over tables,
 fn chosen(word: &[u8]) {
     if check::same(word, b"check") {
         checking::check();
@@ -45,6 +45,11 @@ fn chosen(word: &[u8]) {
         watching::watch_nodes();
         return;
     }
+    told(word);
+}
+
+// or a word about the commands.
+fn told(word: &[u8]) {
     if check::same(word, b"codes") {
         codes::list();
         return;

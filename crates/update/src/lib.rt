@@ -52,7 +52,7 @@ use state::resets;
 use table::LAST;
 
 // Switch i catches the value v: the part that is left goes to start.
-fn switches(p: &&[u8], index: &[u16; 2016], st: &mut [u8], i: usize, n: Node, v: u64)
+fn switches(p: &&[u8], index: &[u16; 10080], st: &mut [u8], i: usize, n: Node, v: u64)
     requires { ⌜ Placed 6 (now (now p)) (now index) (length (now st)) i n × IsValue v ⌝ }
     ensures { λ _. ⌜ now (st .exit) ≡ switched (now (now (p .entry))) i (now (st .entry)) (unpacked v) ⌝ }
 {
@@ -68,7 +68,7 @@ fn switches(p: &&[u8], index: &[u16; 2016], st: &mut [u8], i: usize, n: Node, v:
 // Group i takes the branch and the value v: the part that is left goes to start.
 fn enters(
     p: &&[u8],
-    index: &[u16; 2016],
+    index: &[u16; 10080],
     st: &mut [u8],
     i: usize,
     n: Node,
@@ -86,7 +86,7 @@ fn enters(
 // The outcome of group i, by one rule, from that of its part: a jump to one of its branches is caught, another goes on up.
 fn catches(
     p: &&[u8],
-    index: &[u16; 2016],
+    index: &[u16; 10080],
     st: &mut [u8],
     i: usize,
     n: Node,
@@ -151,7 +151,7 @@ fn seen_in(n: u64) -> Tally
 // Case j is quiet if its event is absent, if its update does nothing (input, time and ext) and if a case follows.
 fn quiet(
     p: &&[u8],
-    index: &[u16; 2016],
+    index: &[u16; 10080],
     rec: &&[u8],
     st: &[u8],
     env: &mut [u64; 1008],
@@ -184,7 +184,7 @@ fn quiet(
 // The cases from case j on that are quiet so are passed in a loop, each without a level of the walk's recursion.
 fn pass(
     p: &&[u8],
-    index: &[u16; 2016],
+    index: &[u16; 10080],
     rec: &&[u8],
     st: &[u8],
     env: &mut [u64; 1008],
@@ -224,7 +224,7 @@ fn pass(
 // The outcome of signal i, which may be known already.
 fn event_of(
     p: &&[u8],
-    index: &[u16; 2016],
+    index: &[u16; 10080],
     rec: &&[u8],
     st: &[u8],
     env: &mut [u64; 1008],
@@ -259,7 +259,7 @@ fn added(s: Passed, o: u64) -> u64
 // Signal i goes one step on; input, time and ext, which do nothing, without a call.
 fn goes(
     p: &&[u8],
-    index: &[u16; 2016],
+    index: &[u16; 10080],
     rec: &&[u8],
     st: &mut [u8],
     env: &mut [u64; 1008],
@@ -279,7 +279,7 @@ fn goes(
 // Signal i goes one step on. Input, time and ext do nothing.
 pub fn update_s(
     p: &&[u8],
-    index: &[u16; 2016],
+    index: &[u16; 10080],
     rec: &&[u8],
     st: &mut [u8],
     env: &mut [u64; 1008],
@@ -304,7 +304,7 @@ pub fn update_s(
 // Signal k with the value v in slot i, which is then put back.
 fn inside(
     p: &&[u8],
-    index: &[u16; 2016],
+    index: &[u16; 10080],
     rec: &&[u8],
     st: &mut [u8],
     env: &mut [u64; 1008],
@@ -326,7 +326,7 @@ fn inside(
 // A delay evaluates its signal, updates it, then holds that value.
 fn update_delay(
     p: &&[u8],
-    index: &[u16; 2016],
+    index: &[u16; 10080],
     rec: &&[u8],
     st: &mut [u8],
     env: &mut [u64; 1008],
@@ -352,7 +352,7 @@ fn update_delay(
 // A let takes what the evaluation before noted of its definition, binds, updates the definition, then the body.
 fn update_let(
     p: &&[u8],
-    index: &[u16; 2016],
+    index: &[u16; 10080],
     rec: &&[u8],
     st: &mut [u8],
     env: &mut [u64; 1008],
@@ -378,7 +378,7 @@ fn update_let(
 // A switch evaluates and updates its event; if it is present, the switch catches the value, else it updates the current part.
 fn update_switch(
     p: &&[u8],
-    index: &[u16; 2016],
+    index: &[u16; 10080],
     rec: &&[u8],
     st: &mut [u8],
     env: &mut [u64; 1008],
@@ -408,7 +408,7 @@ fn update_switch(
 // The current part of a switch: first until it has switched, then second, its variable bound.
 fn in_switch(
     p: &&[u8],
-    index: &[u16; 2016],
+    index: &[u16; 10080],
     rec: &&[u8],
     st: &mut [u8],
     env: &mut [u64; 1008],
@@ -430,7 +430,7 @@ fn in_switch(
 // A let continue updates its current part, its body or the branch that its cell names, the argument bound; a jump to one of its branches is caught.
 fn update_group(
     p: &&[u8],
-    index: &[u16; 2016],
+    index: &[u16; 10080],
     rec: &&[u8],
     st: &mut [u8],
     env: &mut [u64; 1008],
@@ -459,7 +459,7 @@ fn update_group(
 // An until jumps by the first present event; if none is present, events and signal are updated.
 fn update_until(
     p: &&[u8],
-    index: &[u16; 2016],
+    index: &[u16; 10080],
     rec: &&[u8],
     st: &mut [u8],
     env: &mut [u64; 1008],
@@ -481,7 +481,7 @@ fn update_until(
 // The cases from case j on: the quiet ones by a loop, then one that is not.
 fn walk(
     p: &&[u8],
-    index: &[u16; 2016],
+    index: &[u16; 10080],
     rec: &&[u8],
     st: &mut [u8],
     env: &mut [u64; 1008],
@@ -501,7 +501,7 @@ fn walk(
 // The cases from case j on, whose event's outcome may be known: events in list order up to the first present one.
 fn walk_case(
     p: &&[u8],
-    index: &[u16; 2016],
+    index: &[u16; 10080],
     rec: &&[u8],
     st: &mut [u8],
     env: &mut [u64; 1008],
@@ -527,7 +527,7 @@ fn walk_case(
 // The cases after case j, whose event is absent; where none is present, the event is updated on the way back.
 fn walk_on(
     p: &&[u8],
-    index: &[u16; 2016],
+    index: &[u16; 10080],
     rec: &&[u8],
     st: &mut [u8],
     env: &mut [u64; 1008],

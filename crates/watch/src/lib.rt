@@ -70,7 +70,7 @@ fn start_accepted(p: &[u8], st: &mut [u8], count: usize) -> Started
     requires { ⌜ Accepted (now p) × (count ≡ nodes (now p)) ⌝ }
     ensures { λ r. ⌜ (r ≡ startRest (now (p .entry)) (now (st .entry)) .answer) × (now (st .exit) ≡ startRest (now (p .entry)) (now (st .entry)) .state) ⌝ }
 {
-    let mut index: [u16; 2016] = [0; 2016];
+    let mut index: [u16; 10080] = [0; 10080];
     begin(p, &mut index, st, count)
 }
 
@@ -89,7 +89,7 @@ pub fn start(program: &[u8], state: &mut [u8]) -> Started
 // Codes 9, 15, 10 and 11.
 fn lent_verdict(
     p: &[u8],
-    index: &[u16; 2016],
+    index: &[u16; 10080],
     st: &[u8],
     recs: &[u8],
     out: &[u8],
@@ -122,7 +122,7 @@ fn run_accepted(p: &[u8], st: &mut [u8], recs: &[u8], out: &mut [u8], count: usi
     requires { ⌜ Accepted (now p) × (count ≡ nodes (now p)) ⌝ }
     ensures { λ r. ⌜ Leaves (runOutcome (now (p .entry)) (now (st .entry)) (now (recs .entry)) (now (out .entry)) (lentRest (now (p .entry)) (now (st .entry)) (now (recs .entry)) (now (out .entry)) (runFits (now (recs .entry))))) r (now (st .exit)) (now (out .exit)) ⌝ }
 {
-    let mut index: [u16; 2016] = [0; 2016];
+    let mut index: [u16; 10080] = [0; 10080];
     let held = index_cells(p, &mut index, count);
     let fit = run_fits(recs);
     let fault = lent_verdict(p, &index, st, recs, out, count, held, fit);
@@ -130,7 +130,8 @@ fn run_accepted(p: &[u8], st: &mut [u8], recs: &[u8], out: &mut [u8], count: usi
         Verdict::Refuse(r) => Ran::Refused(r, 0, NO_STEP),
         Verdict::Fine => {
             let mut env: [u64; 1008] = [0; 1008];
-            run_records(p, &index, recs, st, &mut env, out, count)
+            let mut memo: [u64; 1008] = [0; 1008];
+            run_records(p, &index, recs, st, &mut env, out, count, &mut memo)
         }
     }
 }

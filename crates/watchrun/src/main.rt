@@ -8,10 +8,12 @@ ghost use Prim.Native.Nat.{_+_, _≤_};
 ghost use lib.ListN.{length};
 ghost use Rattle.rules.specs.Layout.{nodes, cells as cellsOf};
 ghost use Rattle.rules.specs.Accepted.{Accepted};
+ghost use Rattle.noted.specs.Noted.{Noted};
 ghost use Rattle.steps.specs.Going.{Going};
 ghost use Rattle.printing.specs.Turns.{Under};
 use feed::Got;
 use feed::Place;
+use printing::After;
 use rules::Checked;
 use rules::Started;
 use starting::MOST_STATE;
@@ -67,96 +69,130 @@ fn stop() -> Next
     }
 }
 
-// One turn: reads what is wanted for it, and writes its line. A read or a write that fails ends the run.
-fn step(
-    place: Place,
-    steps: u32,
-    total: u32,
-    program: &[u8],
-    index: &[u16; 2016],
-    state: &mut [u8],
-    env: &mut [u64; 1008],
-    input: &mut [u8],
-    count: usize,
-) -> Next
-    requires { ⌜ Under (now program) (now index) (now state) (now env) count steps total ⌝ }
-    ensures { λ r. ⌜ (r .more ≡ true → Under (now (program .entry)) (now (index .entry)) (now (state .exit)) (now (env .exit)) count (r .steps) (r .total)) × (r .more ≡ true → r .steps ≡ steps + 1) ⌝ }
+// What goes on after a turn, with this unread.
+fn onward(place: Place, t: After) -> Next
+    ensures { λ r. ⌜ (r .steps ≡ t .steps) × (r .total ≡ t .total) × (r .more ≡ t .more) ⌝ }
 {
-    let mut rec = [0u8; 40];
-    let got = feed::gather(place, input, &mut rec, 0, turns::wanted(steps));
-    let after = got.place;
-    if after.failed {
-        say::unread();
-        return stop();
-    }
-    let mut line = [0u8; 64];
-    let t = printing::turn(
-        program,
-        index,
-        &rec,
-        got.count,
-        state,
-        env,
-        count,
-        steps,
-        total,
-        &mut line,
-    );
-    let n = t.length;
-    if !say::put(&line[..n]) {
-        return stop();
-    }
     Next {
-        at: after.at,
-        end: after.end,
+        at: place.at,
+        end: place.end,
         steps: t.steps,
         total: t.total,
         more: t.more,
     }
 }
 
-// One turn after the other, while there is more to do.
-fn steps(
-    place: Place,
+// The turn on what was read for it, and its line written. A write that fails ends the run.
+fn told(
+    got: Got,
+    rec: &[u8],
+    here: Next,
     program: &[u8],
-    index: &[u16; 2016],
+    index: &[u16; 10080],
+    state: &mut [u8],
+    env: &mut [u64; 1008],
+    count: usize,
+    memo: &mut [u64; 1008],
+) -> Next
+    requires { ⌜ Under (now program) (now index) (now state) (now env) (now memo) count (here .steps) (here .total) × (got .count ≤ 40) × (length (now rec) ≡ 40) ⌝ }
+    ensures { λ r. ⌜ (r .more ≡ true → Under (now (program .entry)) (now (index .entry)) (now (state .exit)) (now (env .exit)) (now (memo .exit)) count (r .steps) (r .total)) × (r .more ≡ true → r .steps ≡ here .steps + 1) ⌝ }
+{
+    let mut line = [0u8; 64];
+    let t = printing::turn(
+        program,
+        index,
+        rec,
+        got.count,
+        state,
+        env,
+        count,
+        here.steps,
+        here.total,
+        &mut line,
+        memo,
+    );
+    let n = t.length;
+    if !say::put(&line[..n]) {
+        return stop();
+    }
+    onward(got.place, t)
+}
+
+// One turn: reads what is wanted for it, and writes its line. A read or a write that fails ends the run.
+fn step(
+    here: Next,
+    program: &[u8],
+    index: &[u16; 10080],
     state: &mut [u8],
     env: &mut [u64; 1008],
     input: &mut [u8],
     count: usize,
-)
-    requires { ⌜ Going (now program) (now index) (now state) (now env) count ⌝ }
+    memo: &mut [u64; 1008],
+) -> Next
+    requires { ⌜ Under (now program) (now index) (now state) (now env) (now memo) count (here .steps) (here .total) ⌝ }
+    ensures { λ r. ⌜ (r .more ≡ true → Under (now (program .entry)) (now (index .entry)) (now (state .exit)) (now (env .exit)) (now (memo .exit)) count (r .steps) (r .total)) × (r .more ≡ true → r .steps ≡ here .steps + 1) ⌝ }
 {
-    let mut at = place.at;
-    let mut end = place.end;
-    let mut done: u32 = 0;
-    let mut total: u32 = 0;
-    let mut more = true;
-    while more {
-        let here = Place {
-            at: at,
-            end: end,
-            failed: false,
-        };
-        let t = step(here, done, total, program, index, state, env, input, count);
-        at = t.at;
-        end = t.end;
-        done = t.steps;
-        total = t.total;
-        more = t.more;
+    let place = Place {
+        at: here.at,
+        end: here.end,
+        failed: false,
+    };
+    let mut rec = [0u8; 40];
+    let got = feed::gather(place, input, &mut rec, 0, turns::wanted(here.steps));
+    let after = got.place;
+    if after.failed {
+        say::unread();
+        return stop();
+    }
+    told(got, &rec, here, program, index, state, env, count, memo)
+}
+
+// One turn after the other, while there is more to do.
+fn steps(
+    place: Place,
+    program: &[u8],
+    index: &[u16; 10080],
+    state: &mut [u8],
+    env: &mut [u64; 1008],
+    input: &mut [u8],
+    count: usize,
+    memo: &mut [u64; 1008],
+)
+    requires { ⌜ Going (now program) (now index) (now state) (now env) count × Noted (now program) (now memo) ⌝ }
+{
+    let mut here = Next {
+        at: place.at,
+        end: place.end,
+        steps: 0,
+        total: 0,
+        more: true,
+    };
+    while here.more {
+        here = step(here, program, index, state, env, input, count, memo);
     }
 }
 
-// Starts an accepted program, and steps it: the table of its cells and the room for its variables are made once.
+// Starts an accepted program, and steps it: the table of its cells, the room for its variables and the slots of its definitions' outcomes are made
+// once.
 fn started(place: Place, program: &[u8], state: &mut [u8], input: &mut [u8], count: usize)
     requires { ⌜ Accepted (now program) × (count ≡ nodes (now program)) ⌝ }
 {
-    let mut index: [u16; 2016] = [0; 2016];
+    let mut index: [u16; 10080] = [0; 10080];
     let ready = starting::begin(program, &mut index, state, count);
     match ready {
         Started::Ready => {
             let mut env: [u64; 1008] = [0; 1008];
-            steps(place, program, &index, state, &mut env, input, count);
+            let mut memo: [u64; 1008] = [0; 1008];
+            steps(
+                place,
+                program,
+                &index,
+                state,
+                &mut env,
+                input,
+                count,
+                &mut memo,
+            );
         }
         Started::Refused(_) => {}
     }

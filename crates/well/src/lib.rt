@@ -45,7 +45,7 @@ pub fn content_fits(t: u8, middle: usize, m: u64) -> bool
 }
 
 // All cells of the signal at node i hold their start content.
-fn rests_s(p: &&[u8], index: &[u16; 2016], st: &&[u8], i: usize) -> bool
+fn rests_s(p: &&[u8], index: &[u16; 10080], st: &&[u8], i: usize) -> bool
     requires { ⌜ Stated isSignal (now (now p)) (now index) (length (now (now st))) i ⌝ }
     ensures { λ r. ⌜ r ≡ restsS (now (now (st .entry))) (signalAt (now (now (p .entry))) i) ⌝ }
 {
@@ -77,7 +77,7 @@ fn rests_s(p: &&[u8], index: &[u16; 2016], st: &&[u8], i: usize) -> bool
 }
 
 // All cells of the list of branches at node j hold their start content.
-fn rests_b(p: &&[u8], index: &[u16; 2016], st: &&[u8], j: usize) -> bool
+fn rests_b(p: &&[u8], index: &[u16; 10080], st: &&[u8], j: usize) -> bool
     requires { ⌜ Stated isBranch (now (now p)) (now index) (length (now (now st))) j ⌝ }
     ensures { λ r. ⌜ r ≡ restsB (now (now (st .entry))) (branchesAt (now (now (p .entry))) j) ⌝ }
 {
@@ -91,7 +91,7 @@ fn rests_b(p: &&[u8], index: &[u16; 2016], st: &&[u8], j: usize) -> bool
 }
 
 // All cells of the list of cases at node j hold their start content.
-fn rests_c(p: &&[u8], index: &[u16; 2016], st: &&[u8], j: usize) -> bool
+fn rests_c(p: &&[u8], index: &[u16; 10080], st: &&[u8], j: usize) -> bool
     requires { ⌜ Stated isCase (now (now p)) (now index) (length (now (now st))) j ⌝ }
     ensures { λ r. ⌜ r ≡ restsC (now (now (st .entry))) (casesAt (now (now (p .entry))) j) ⌝ }
 {
@@ -105,7 +105,7 @@ fn rests_c(p: &&[u8], index: &[u16; 2016], st: &&[u8], j: usize) -> bool
 }
 
 // The cells of the signal at node i are valid, and start where they are not current.
-fn well_s(p: &&[u8], index: &[u16; 2016], st: &&[u8], i: usize) -> bool
+fn well_s(p: &&[u8], index: &[u16; 10080], st: &&[u8], i: usize) -> bool
     requires { ⌜ Stated isSignal (now (now p)) (now index) (length (now (now st))) i ⌝ }
     ensures { λ r. ⌜ r ≡ wellS (now (now (st .entry))) (signalAt (now (now (p .entry))) i) ⌝ }
 {
@@ -147,7 +147,7 @@ fn well_s(p: &&[u8], index: &[u16; 2016], st: &&[u8], i: usize) -> bool
 }
 
 // One branch of the list at node j is the one that the content m of its group's cell names.
-fn well_b(p: &&[u8], index: &[u16; 2016], st: &&[u8], j: usize, m: u64) -> bool
+fn well_b(p: &&[u8], index: &[u16; 10080], st: &&[u8], j: usize, m: u64) -> bool
     requires { ⌜ Stated isBranch (now (now p)) (now index) (length (now (now st))) j ⌝ }
     ensures { λ r. ⌜ r ≡ wellB (now (now (st .entry))) m (branchesAt (now (now (p .entry))) j) ⌝ }
 {
@@ -170,7 +170,7 @@ fn well_b(p: &&[u8], index: &[u16; 2016], st: &&[u8], j: usize, m: u64) -> bool
 }
 
 // The cells of the list of cases at node j are valid, and start where they are not current.
-fn well_c(p: &&[u8], index: &[u16; 2016], st: &&[u8], j: usize) -> bool
+fn well_c(p: &&[u8], index: &[u16; 10080], st: &&[u8], j: usize) -> bool
     requires { ⌜ Stated isCase (now (now p)) (now index) (length (now (now st))) j ⌝ }
     ensures { λ r. ⌜ r ≡ wellC (now (now (st .entry))) (casesAt (now (now (p .entry))) j) ⌝ }
 {
@@ -184,7 +184,7 @@ fn well_c(p: &&[u8], index: &[u16; 2016], st: &&[u8], j: usize) -> bool
 }
 
 // The time and the cells of a state of the right length.
-fn rest_well(p: &[u8], index: &[u16; 2016], st: &[u8], count: usize) -> bool
+fn rest_well(p: &[u8], index: &[u16; 10080], st: &[u8], count: usize) -> bool
     requires { ⌜ NodeOf isSignal (now p) (nodes (now p) - 1) × Indexed (now p) (now index) × (count ≡ nodes (now p)) × (length (now st) ≡ stateLength (now p)) ⌝ }
     ensures { λ r. ⌜ r ≡ restWell (now (p .entry)) (now (st .entry)) ⌝ }
 {
@@ -197,7 +197,7 @@ fn rest_well(p: &[u8], index: &[u16; 2016], st: &[u8], count: usize) -> bool
 // The fault of a state of any length, for a program of so many nodes and cells: 9 for its length, then 15 for a wrong sum, then 9 for the rest.
 pub fn state_verdict(
     p: &[u8],
-    index: &[u16; 2016],
+    index: &[u16; 10080],
     st: &[u8],
     count: usize,
     cells: usize,

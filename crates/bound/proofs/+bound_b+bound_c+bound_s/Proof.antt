@@ -1,4 +1,4 @@
-use Rattle.bound.proofs.SignalBounds.{input-bound, time-bound, ext-part, ext-bound, delay-part, delay-bound, let-parts, let-bound, switch-parts, switch-bound, group-parts, group-bound, until-parts, until-bound, branch-part, branch-more, branch-last-bound, branch-more-bound, case-part, case-more, case-last-bound, case-more-bound}
+use Rattle.bound.proofs.SignalBounds.{input-bound, time-bound, ext-part, ext-said, delay-part, delay-said, let-parts, let-said, switch-parts, switch-said, group-parts, group-said, until-parts, until-said, branch-part, branch-more, branch-last-said, branch-more-said, case-part, case-more, case-last-said, case-more-said, alone-said}
 use Rattle.bound.proofs.Parts.{Part, read, bounded-s, bounded-b, bounded-c}
 use Rattle.rules.proofs.Signals.{time-left}
 use mathlib.Core.Path.{_≡_, refl, sym, ap, _∙_}
@@ -83,7 +83,7 @@ bound-b-largest-requires t c κs = search needs
 
 -- src/lib.rt:227:9
 bound-b-returns : (t : ℕ) → bound-b-lts.Need-returns (bound-b-calls t) (bound-b-at t) bound-b.Post
-bound-b-returns t c = let e = branch-last-bound (c .before .before .before .before .before .before .before .args .p .now .now) (c .before .before .before .before .before .before .before .args .j) (c .before .before .before .before .before .before .before .pre .1) (sym (c .before .before .before .before .before .node .ensures .b-is) ∙ c .before .before .if1 .taken) in bounded-b (c .before .before .before .before .before .before .before .args .p .now .now) (c .before .before .before .before .before .before .before .args .j) (c .before .before .before .before .before .before .before .pre .1) (cc (e .0)) (cc (e .1))
+bound-b-returns t c = let b = branch-last-said (c .before .before .before .before .before .before .before .args .p .now .now) (c .before .before .before .before .before .before .before .args .j) (c .before .before .before .before .before .before .before .pre .1) (sym (c .before .before .before .before .before .node .ensures .b-is) ∙ c .before .before .if1 .taken) (c .before .before .before .before .before .node .ensures .a-is) (c .before .before .before .before .bound-s .ensures .eval-is, c .before .before .before .before .bound-s .ensures .update-is) (c .before .bounds .ensures) (c .largest .ensures) in bounded-b (c .before .before .before .before .before .before .before .args .p .now .now) (c .before .before .before .before .before .before .before .args .j) (c .before .before .before .before .before .before .before .pre .1) (b .0) (b .1)
 
 -- src/lib.rt:229:9
 bound-b-bound-b-requires : (t : ℕ) → bound-b-lts.Need-bound-b-requires (bound-b-calls t) (bound-b-at t) bound-b.Post
@@ -95,7 +95,7 @@ bound-b-largest-requires-2 t c κs = search needs
 
 -- src/lib.rt:220:1
 bound-b-returns-2 : (t : ℕ) → bound-b-lts.Need-returns-2 (bound-b-calls t) (bound-b-at t) bound-b.Post
-bound-b-returns-2 t c = let e = branch-more-bound (c .before .before .before .before .before .before .before .args .p .now .now) (c .before .before .before .before .before .before .before .args .j) (c .before .before .before .before .before .before .before .pre .1) (λ h. c .before .before .if1 .left (c .before .before .before .before .before .node .ensures .b-is ∙ h)) in bounded-b (c .before .before .before .before .before .before .before .args .p .now .now) (c .before .before .before .before .before .before .before .args .j) (c .before .before .before .before .before .before .before .pre .1) (cc (e .0)) (cc (e .1))
+bound-b-returns-2 t c = let b = branch-more-said (c .before .before .before .before .before .before .before .args .p .now .now) (c .before .before .before .before .before .before .before .args .j) (c .before .before .before .before .before .before .before .pre .1) (λ h. c .before .before .if1 .left (c .before .before .before .before .before .node .ensures .b-is ∙ h)) (c .before .before .before .before .before .node .ensures .a-is) (c .before .before .before .before .before .node .ensures .b-is) (c .before .before .before .before .bound-s .ensures .eval-is, c .before .before .before .before .bound-s .ensures .update-is) (c .before .bound-b .ensures .eval-is, c .before .bound-b .ensures .update-is) (c .largest2 .ensures) in bounded-b (c .before .before .before .before .before .before .before .args .p .now .now) (c .before .before .before .before .before .before .before .args .j) (c .before .before .before .before .before .before .before .pre .1) (b .0) (b .1)
 
 -- src/lib.rt:238:9
 bound-c-node-requires : (t : ℕ) → bound-c-lts.Need-node-requires (bound-c-calls t) (bound-c-at t) bound-c.Post
@@ -114,7 +114,7 @@ bound-c-sum-requires t c κs = (c .before .before .before .bound-s .ensures .mos
 
 -- src/lib.rt:241:9
 bound-c-returns : (t : ℕ) → bound-c-lts.Need-returns (bound-c-calls t) (bound-c-at t) bound-c.Post
-bound-c-returns t c = let e = case-last-bound (c .before .before .before .before .before .before .before .args .p .now .now) (c .before .before .before .before .before .before .before .args .j) (c .before .before .before .before .before .before .before .pre .1) (sym (c .before .before .before .before .before .node .ensures .b-is) ∙ c .before .before .if1 .taken) in bounded-c (c .before .before .before .before .before .before .before .args .p .now .now) (c .before .before .before .before .before .before .before .args .j) (c .before .before .before .before .before .before .before .pre .1) (cc (e .0)) (cc (e .1))
+bound-c-returns t c = let b = case-last-said (c .before .before .before .before .before .before .before .args .p .now .now) (c .before .before .before .before .before .before .before .args .j) (c .before .before .before .before .before .before .before .pre .1) (sym (c .before .before .before .before .before .node .ensures .b-is) ∙ c .before .before .if1 .taken) (c .before .before .before .before .before .node .ensures .a-is) (c .before .before .before .before .bound-s .ensures .eval-is, c .before .before .before .before .bound-s .ensures .update-is) (c .before .bounds .ensures) (c .sum .ensures) in bounded-c (c .before .before .before .before .before .before .before .args .p .now .now) (c .before .before .before .before .before .before .before .args .j) (c .before .before .before .before .before .before .before .pre .1) (b .0) (b .1)
 
 -- src/lib.rt:243:9
 bound-c-bound-c-requires : (t : ℕ) → bound-c-lts.Need-bound-c-requires (bound-c-calls t) (bound-c-at t) bound-c.Post
@@ -126,7 +126,7 @@ bound-c-sum-requires-2 t c κs = (c .before .before .before .bound-s .ensures .m
 
 -- src/lib.rt:234:1
 bound-c-returns-2 : (t : ℕ) → bound-c-lts.Need-returns-2 (bound-c-calls t) (bound-c-at t) bound-c.Post
-bound-c-returns-2 t c = let e = case-more-bound (c .before .before .before .before .before .before .before .args .p .now .now) (c .before .before .before .before .before .before .before .args .j) (c .before .before .before .before .before .before .before .pre .1) (λ h. c .before .before .if1 .left (c .before .before .before .before .before .node .ensures .b-is ∙ h)) in bounded-c (c .before .before .before .before .before .before .before .args .p .now .now) (c .before .before .before .before .before .before .before .args .j) (c .before .before .before .before .before .before .before .pre .1) (cc (e .0)) (cc (e .1))
+bound-c-returns-2 t c = let b = case-more-said (c .before .before .before .before .before .before .before .args .p .now .now) (c .before .before .before .before .before .before .before .args .j) (c .before .before .before .before .before .before .before .pre .1) (λ h. c .before .before .if1 .left (c .before .before .before .before .before .node .ensures .b-is ∙ h)) (c .before .before .before .before .before .node .ensures .a-is) (c .before .before .before .before .before .node .ensures .b-is) (c .before .before .before .before .bound-s .ensures .eval-is, c .before .before .before .before .bound-s .ensures .update-is) (c .before .bound-c .ensures .eval-is, c .before .bound-c .ensures .update-is) (c .sum2 .ensures) in bounded-c (c .before .before .before .before .before .before .before .args .p .now .now) (c .before .before .before .before .before .before .before .args .j) (c .before .before .before .before .before .before .before .pre .1) (b .0) (b .1)
 
 -- src/lib.rt:188:9
 bound-s-node-requires : (t : ℕ) → bound-s-lts.Need-node-requires (bound-s-calls t) (bound-s-at t) bound-s.Post
@@ -208,35 +208,35 @@ bound-s-bounds-requires-2 t c κs = search needs
 
 -- src/lib.rt:184:1
 bound-s-returns : (t : ℕ) → bound-s-lts.Need-returns (bound-s-calls t) (bound-s-at t) bound-s.Post
-bound-s-returns t c = let e = input-bound (c .before .before .before .before .args .p .now .now) (c .before .before .before .before .args .i) (c .before .before .before .before .pre .1) (sym (c .before .before .node .ensures .kind-is) ∙ c .before .match .keys1) in bounded-s (c .before .before .before .before .args .p .now .now) (c .before .before .before .before .args .i) (c .before .before .before .before .pre .1) (cc (e .0)) (cc (e .1))
+bound-s-returns t c = let b = alone-said (c .before .before .before .before .args .p .now .now) (c .before .before .before .before .args .i) (c .before .before .before .before .pre .1) (input-bound (c .before .before .before .before .args .p .now .now) (c .before .before .before .before .args .i) (c .before .before .before .before .pre .1) (sym (c .before .before .node .ensures .kind-is) ∙ c .before .match .keys1)) (c .bounds .ensures) in bounded-s (c .before .before .before .before .args .p .now .now) (c .before .before .before .before .args .i) (c .before .before .before .before .pre .1) (b .0) (b .1)
 
 -- src/lib.rt:184:1
 bound-s-returns-2 : (t : ℕ) → bound-s-lts.Need-returns-2 (bound-s-calls t) (bound-s-at t) bound-s.Post
-bound-s-returns-2 t c = let e = ext-bound (c .before .before .before .before .before .args .p .now .now) (c .before .before .before .before .before .args .i) (c .before .before .before .before .before .pre .1) (sym (c .before .before .before .node .ensures .kind-is) ∙ c .before .before .match .keys2) in bounded-s (c .before .before .before .before .before .args .p .now .now) (c .before .before .before .before .before .args .i) (c .before .before .before .before .before .pre .1) (cc (e .0)) (cc (e .1))
+bound-s-returns-2 t c = let b = ext-said (c .before .before .before .before .before .args .p .now .now) (c .before .before .before .before .before .args .i) (c .before .before .before .before .before .pre .1) (sym (c .before .before .before .node .ensures .kind-is) ∙ c .before .before .match .keys2) (c .before .before .before .node .ensures .a-is) (c .before .bound-e .ensures .0) (c .evaluated .ensures) in bounded-s (c .before .before .before .before .before .args .p .now .now) (c .before .before .before .before .before .args .i) (c .before .before .before .before .before .pre .1) (b .0) (b .1)
 
 -- src/lib.rt:184:1
 bound-s-returns-3 : (t : ℕ) → bound-s-lts.Need-returns-3 (bound-s-calls t) (bound-s-at t) bound-s.Post
-bound-s-returns-3 t c = let e = delay-bound (c .before .before .before .before .before .args .p .now .now) (c .before .before .before .before .before .args .i) (c .before .before .before .before .before .pre .1) (sym (c .before .before .before .node .ensures .kind-is) ∙ c .before .before .match .keys3) in bounded-s (c .before .before .before .before .before .args .p .now .now) (c .before .before .before .before .before .args .i) (c .before .before .before .before .before .pre .1) (cc (e .0)) (cc (e .1))
+bound-s-returns-3 t c = let b = delay-said (c .before .before .before .before .before .args .p .now .now) (c .before .before .before .before .before .args .i) (c .before .before .before .before .before .pre .1) (sym (c .before .before .before .node .ensures .kind-is) ∙ c .before .before .match .keys3) (c .before .before .before .node .ensures .a-is) (c .before .bound-s .ensures .eval-is, c .before .bound-s .ensures .update-is) (c .delayed .ensures) in bounded-s (c .before .before .before .before .before .args .p .now .now) (c .before .before .before .before .before .args .i) (c .before .before .before .before .before .pre .1) (b .0) (b .1)
 
 -- src/lib.rt:184:1
 bound-s-returns-4 : (t : ℕ) → bound-s-lts.Need-returns-4 (bound-s-calls t) (bound-s-at t) bound-s.Post
-bound-s-returns-4 t c = let e = let-bound (c .before .before .before .before .before .before .args .p .now .now) (c .before .before .before .before .before .before .args .i) (c .before .before .before .before .before .before .pre .1) (sym (c .before .before .before .before .node .ensures .kind-is) ∙ c .before .before .before .match .keys4) in bounded-s (c .before .before .before .before .before .before .args .p .now .now) (c .before .before .before .before .before .before .args .i) (c .before .before .before .before .before .before .pre .1) (cc (e .0)) (cc (e .1))
+bound-s-returns-4 t c = let b = let-said (c .before .before .before .before .before .before .args .p .now .now) (c .before .before .before .before .before .before .args .i) (c .before .before .before .before .before .before .pre .1) (sym (c .before .before .before .before .node .ensures .kind-is) ∙ c .before .before .before .match .keys4) (c .before .before .before .before .node .ensures .a-is) (c .before .before .before .before .node .ensures .b-is) (c .before .before .bound-s2 .ensures .eval-is, c .before .before .bound-s2 .ensures .update-is) (c .before .bound-s3 .ensures .eval-is, c .before .bound-s3 .ensures .update-is) (c .letting .ensures) in bounded-s (c .before .before .before .before .before .before .args .p .now .now) (c .before .before .before .before .before .before .args .i) (c .before .before .before .before .before .before .pre .1) (b .0) (b .1)
 
 -- src/lib.rt:184:1
 bound-s-returns-5 : (t : ℕ) → bound-s-lts.Need-returns-5 (bound-s-calls t) (bound-s-at t) bound-s.Post
-bound-s-returns-5 t c = let e = switch-bound (c .before .before .before .before .before .before .before .args .p .now .now) (c .before .before .before .before .before .before .before .args .i) (c .before .before .before .before .before .before .before .pre .1) (sym (c .before .before .before .before .before .node .ensures .kind-is) ∙ c .before .before .before .before .match .keys5) in bounded-s (c .before .before .before .before .before .before .before .args .p .now .now) (c .before .before .before .before .before .before .before .args .i) (c .before .before .before .before .before .before .before .pre .1) (cc (e .0)) (cc (e .1))
+bound-s-returns-5 t c = let b = switch-said (c .before .before .before .before .before .before .before .args .p .now .now) (c .before .before .before .before .before .before .before .args .i) (c .before .before .before .before .before .before .before .pre .1) (sym (c .before .before .before .before .before .node .ensures .kind-is) ∙ c .before .before .before .before .match .keys5) (c .before .before .before .before .before .node .ensures .a-is) (c .before .before .before .before .before .node .ensures .b-is) (c .before .before .before .before .before .node .ensures .c-is) (c .before .before .before .bound-s4 .ensures .eval-is, c .before .before .before .bound-s4 .ensures .update-is) (c .before .before .bound-s5 .ensures .eval-is, c .before .before .bound-s5 .ensures .update-is) (c .before .bound-s6 .ensures .eval-is, c .before .bound-s6 .ensures .update-is) (c .switching .ensures) in bounded-s (c .before .before .before .before .before .before .before .args .p .now .now) (c .before .before .before .before .before .before .before .args .i) (c .before .before .before .before .before .before .before .pre .1) (b .0) (b .1)
 
 -- src/lib.rt:184:1
 bound-s-returns-6 : (t : ℕ) → bound-s-lts.Need-returns-6 (bound-s-calls t) (bound-s-at t) bound-s.Post
-bound-s-returns-6 t c = let e = group-bound (c .before .before .before .before .before .before .args .p .now .now) (c .before .before .before .before .before .before .args .i) (c .before .before .before .before .before .before .pre .1) (sym (c .before .before .before .before .node .ensures .kind-is) ∙ c .before .before .before .match .keys6) in bounded-s (c .before .before .before .before .before .before .args .p .now .now) (c .before .before .before .before .before .before .args .i) (c .before .before .before .before .before .before .pre .1) (cc (e .0)) (cc (e .1))
+bound-s-returns-6 t c = let b = group-said (c .before .before .before .before .before .before .args .p .now .now) (c .before .before .before .before .before .before .args .i) (c .before .before .before .before .before .before .pre .1) (sym (c .before .before .before .before .node .ensures .kind-is) ∙ c .before .before .before .match .keys6) (c .before .before .before .before .node .ensures .a-is) (c .before .before .before .before .node .ensures .b-is) (c .before .before .bound-s7 .ensures .eval-is, c .before .before .bound-s7 .ensures .update-is) (c .before .bound-b .ensures .eval-is, c .before .bound-b .ensures .update-is) (c .grouping .ensures) in bounded-s (c .before .before .before .before .before .before .args .p .now .now) (c .before .before .before .before .before .before .args .i) (c .before .before .before .before .before .before .pre .1) (b .0) (b .1)
 
 -- src/lib.rt:184:1
 bound-s-returns-7 : (t : ℕ) → bound-s-lts.Need-returns-7 (bound-s-calls t) (bound-s-at t) bound-s.Post
-bound-s-returns-7 t c = let e = until-bound (c .before .before .before .before .before .before .args .p .now .now) (c .before .before .before .before .before .before .args .i) (c .before .before .before .before .before .before .pre .1) (sym (c .before .before .before .before .node .ensures .kind-is) ∙ c .before .before .before .match .keys7) in bounded-s (c .before .before .before .before .before .before .args .p .now .now) (c .before .before .before .before .before .before .args .i) (c .before .before .before .before .before .before .pre .1) (cc (e .0)) (cc (e .1))
+bound-s-returns-7 t c = let b = until-said (c .before .before .before .before .before .before .args .p .now .now) (c .before .before .before .before .before .before .args .i) (c .before .before .before .before .before .before .pre .1) (sym (c .before .before .before .before .node .ensures .kind-is) ∙ c .before .before .before .match .keys7) (c .before .before .before .before .node .ensures .a-is) (c .before .before .before .before .node .ensures .b-is) (c .before .before .bound-s8 .ensures .eval-is, c .before .before .bound-s8 .ensures .update-is) (c .before .bound-c .ensures .eval-is, c .before .bound-c .ensures .update-is) (c .leaving .ensures) in bounded-s (c .before .before .before .before .before .before .args .p .now .now) (c .before .before .before .before .before .before .args .i) (c .before .before .before .before .before .before .pre .1) (b .0) (b .1)
 
 -- src/lib.rt:184:1
 bound-s-returns-8 : (t : ℕ) → bound-s-lts.Need-returns-8 (bound-s-calls t) (bound-s-at t) bound-s.Post
-bound-s-returns-8 t c = let e = time-bound (c .before .before .before .before .args .p .now .now) (c .before .before .before .before .args .i) (c .before .before .before .before .pre .1) (time-left (c .before .before .before .before .args .p .now .now) (c .before .before .before .before .args .i) (c .before .before .before .before .pre .1 .node) (c .before .before .node .ensures .kind-is) (c .before .match .rest)) in bounded-s (c .before .before .before .before .args .p .now .now) (c .before .before .before .before .args .i) (c .before .before .before .before .pre .1) (cc (e .0)) (cc (e .1))
+bound-s-returns-8 t c = let b = alone-said (c .before .before .before .before .args .p .now .now) (c .before .before .before .before .args .i) (c .before .before .before .before .pre .1) (time-bound (c .before .before .before .before .args .p .now .now) (c .before .before .before .before .args .i) (c .before .before .before .before .pre .1) (time-left (c .before .before .before .before .args .p .now .now) (c .before .before .before .before .args .i) (c .before .before .before .before .pre .1 .node) (c .before .before .node .ensures .kind-is) (c .before .match .rest))) (c .bounds2 .ensures) in bounded-s (c .before .before .before .before .args .p .now .now) (c .before .before .before .before .args .i) (c .before .before .before .before .pre .1) (b .0) (b .1)
 
 pub +bound-b+bound-c+bound-s-spec : {M : Type 1} → statement M
 +bound-b+bound-c+bound-s-spec = close μ-bound-b μ-bound-c μ-bound-s (λ t. bound-b-lts.spec (bound-b-calls t) (bound-b-at t)

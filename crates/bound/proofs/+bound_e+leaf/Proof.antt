@@ -1,4 +1,4 @@
-use Rattle.bound.proofs.ExprBounds.{variable-bound, constant-bound, negation-part, negation-bound, just-part, just-bound, choice-parts, choice-bound, taking-parts, taking-bound, operation-parts, operation-bound}
+use Rattle.bound.proofs.ExprBounds.{variable-bound, constant-bound, negation-part, negation-bound, just-part, just-bound, choice-parts, choice-bound, taking-parts, taking-bound, operation-parts, operation-bound, over-said, both-said, arms-said}
 use Rattle.bound.proofs.Parts.{Part, read, bounded-e}
 use Rattle.rules.proofs.Expressions.{left}
 use mathlib.Core.Path.{_≡_, refl, sym, ap, _∙_}
@@ -110,31 +110,31 @@ bound-e-over-both-requires t c κs = search needs
 
 -- src/lib.rt:152:1
 bound-e-returns : (t : ℕ) → bound-e-lts.Need-returns (bound-e-calls t) (bound-e-at t) bound-e.Post
-bound-e-returns t c = bounded-e (c .before .before .before .args .p .now .now) (c .before .before .before .args .i) (c .before .before .before .pre .1) (cc (variable-bound (c .before .before .before .args .p .now .now) (c .before .before .before .args .i) (c .before .before .before .pre .1) (sym (c .before .node .ensures .kind-is) ∙ c .match .keys1)))
+bound-e-returns t c = bounded-e (c .before .before .before .args .p .now .now) (c .before .before .before .args .i) (c .before .before .before .pre .1) (sym (variable-bound (c .before .before .before .args .p .now .now) (c .before .before .before .args .i) (c .before .before .before .pre .1) (sym (c .before .node .ensures .kind-is) ∙ c .match .keys1)))
 
 -- src/lib.rt:152:1
 bound-e-returns-2 : (t : ℕ) → bound-e-lts.Need-returns-2 (bound-e-calls t) (bound-e-at t) bound-e.Post
-bound-e-returns-2 t c = bounded-e (c .before .before .before .args .p .now .now) (c .before .before .before .args .i) (c .before .before .before .pre .1) (cc (constant-bound (c .before .before .before .args .p .now .now) (c .before .before .before .args .i) (c .before .before .before .pre .1) (sym (c .before .node .ensures .kind-is) ∙ c .match .keys2)))
+bound-e-returns-2 t c = bounded-e (c .before .before .before .args .p .now .now) (c .before .before .before .args .i) (c .before .before .before .pre .1) (sym (constant-bound (c .before .before .before .args .p .now .now) (c .before .before .before .args .i) (c .before .before .before .pre .1) (sym (c .before .node .ensures .kind-is) ∙ c .match .keys2)))
 
 -- src/lib.rt:152:1
 bound-e-returns-3 : (t : ℕ) → bound-e-lts.Need-returns-3 (bound-e-calls t) (bound-e-at t) bound-e.Post
-bound-e-returns-3 t c = bounded-e (c .before .before .before .before .before .args .p .now .now) (c .before .before .before .before .before .args .i) (c .before .before .before .before .before .pre .1) (cc (negation-bound (c .before .before .before .before .before .args .p .now .now) (c .before .before .before .before .before .args .i) (c .before .before .before .before .before .pre .1) (sym (c .before .before .before .node .ensures .kind-is) ∙ c .before .before .match .keys3)))
+bound-e-returns-3 t c = bounded-e (c .before .before .before .before .before .args .p .now .now) (c .before .before .before .before .before .args .i) (c .before .before .before .before .before .pre .1) (over-said (c .before .before .before .before .before .args .p .now .now) (c .before .before .before .before .before .args .i) (c .before .before .before .before .before .pre .1) (negation-bound (c .before .before .before .before .before .args .p .now .now) (c .before .before .before .before .before .args .i) (c .before .before .before .before .before .pre .1) (sym (c .before .before .before .node .ensures .kind-is) ∙ c .before .before .match .keys3)) (c .before .before .before .node .ensures .a-is) (c .before .leaf .ensures .0) (c .over .ensures))
 
 -- src/lib.rt:152:1
 bound-e-returns-4 : (t : ℕ) → bound-e-lts.Need-returns-4 (bound-e-calls t) (bound-e-at t) bound-e.Post
-bound-e-returns-4 t c = bounded-e (c .before .before .before .before .before .before .before .args .p .now .now) (c .before .before .before .before .before .before .before .args .i) (c .before .before .before .before .before .before .before .pre .1) (cc (choice-bound (c .before .before .before .before .before .before .before .args .p .now .now) (c .before .before .before .before .before .before .before .args .i) (c .before .before .before .before .before .before .before .pre .1) (sym (c .before .before .before .before .before .node .ensures .kind-is) ∙ c .before .before .before .before .match .keys4)))
+bound-e-returns-4 t c = bounded-e (c .before .before .before .before .before .before .before .args .p .now .now) (c .before .before .before .before .before .before .before .args .i) (c .before .before .before .before .before .before .before .pre .1) (arms-said (c .before .before .before .before .before .before .before .args .p .now .now) (c .before .before .before .before .before .before .before .args .i) (c .before .before .before .before .before .before .before .pre .1) (choice-bound (c .before .before .before .before .before .before .before .args .p .now .now) (c .before .before .before .before .before .before .before .args .i) (c .before .before .before .before .before .before .before .pre .1) (sym (c .before .before .before .before .before .node .ensures .kind-is) ∙ c .before .before .before .before .match .keys4)) (c .before .before .before .before .before .node .ensures .a-is) (c .before .before .before .before .before .node .ensures .b-is) (c .before .before .before .before .before .node .ensures .c-is) (c .before .before .before .leaf2 .ensures .0) (c .before .before .leaf3 .ensures .0) (c .before .leaf4 .ensures .0) (c .over-arms .ensures))
 
 -- src/lib.rt:152:1
 bound-e-returns-5 : (t : ℕ) → bound-e-lts.Need-returns-5 (bound-e-calls t) (bound-e-at t) bound-e.Post
-bound-e-returns-5 t c = bounded-e (c .before .before .before .before .before .args .p .now .now) (c .before .before .before .before .before .args .i) (c .before .before .before .before .before .pre .1) (cc (just-bound (c .before .before .before .before .before .args .p .now .now) (c .before .before .before .before .before .args .i) (c .before .before .before .before .before .pre .1) (sym (c .before .before .before .node .ensures .kind-is) ∙ c .before .before .match .keys5)))
+bound-e-returns-5 t c = bounded-e (c .before .before .before .before .before .args .p .now .now) (c .before .before .before .before .before .args .i) (c .before .before .before .before .before .pre .1) (over-said (c .before .before .before .before .before .args .p .now .now) (c .before .before .before .before .before .args .i) (c .before .before .before .before .before .pre .1) (just-bound (c .before .before .before .before .before .args .p .now .now) (c .before .before .before .before .before .args .i) (c .before .before .before .before .before .pre .1) (sym (c .before .before .before .node .ensures .kind-is) ∙ c .before .before .match .keys5)) (c .before .before .before .node .ensures .a-is) (c .before .leaf5 .ensures .0) (c .over2 .ensures))
 
 -- src/lib.rt:152:1
 bound-e-returns-6 : (t : ℕ) → bound-e-lts.Need-returns-6 (bound-e-calls t) (bound-e-at t) bound-e.Post
-bound-e-returns-6 t c = bounded-e (c .before .before .before .before .before .before .before .args .p .now .now) (c .before .before .before .before .before .before .before .args .i) (c .before .before .before .before .before .before .before .pre .1) (cc (taking-bound (c .before .before .before .before .before .before .before .args .p .now .now) (c .before .before .before .before .before .before .before .args .i) (c .before .before .before .before .before .before .before .pre .1) (sym (c .before .before .before .before .before .node .ensures .kind-is) ∙ c .before .before .before .before .match .keys6)))
+bound-e-returns-6 t c = bounded-e (c .before .before .before .before .before .before .before .args .p .now .now) (c .before .before .before .before .before .before .before .args .i) (c .before .before .before .before .before .before .before .pre .1) (arms-said (c .before .before .before .before .before .before .before .args .p .now .now) (c .before .before .before .before .before .before .before .args .i) (c .before .before .before .before .before .before .before .pre .1) (taking-bound (c .before .before .before .before .before .before .before .args .p .now .now) (c .before .before .before .before .before .before .before .args .i) (c .before .before .before .before .before .before .before .pre .1) (sym (c .before .before .before .before .before .node .ensures .kind-is) ∙ c .before .before .before .before .match .keys6)) (c .before .before .before .before .before .node .ensures .a-is) (c .before .before .before .before .before .node .ensures .b-is) (c .before .before .before .before .before .node .ensures .c-is) (c .before .before .before .leaf6 .ensures .0) (c .before .before .leaf7 .ensures .0) (c .before .leaf8 .ensures .0) (c .over-arms2 .ensures))
 
 -- src/lib.rt:152:1
 bound-e-returns-7 : (t : ℕ) → bound-e-lts.Need-returns-7 (bound-e-calls t) (bound-e-at t) bound-e.Post
-bound-e-returns-7 t c = bounded-e (c .before .before .before .before .before .before .args .p .now .now) (c .before .before .before .before .before .before .args .i) (c .before .before .before .before .before .before .pre .1) (cc (operation-bound (c .before .before .before .before .before .before .args .p .now .now) (c .before .before .before .before .before .before .args .i) (c .before .before .before .before .before .before .pre .1) (left (c .before .before .before .before .node .ensures .kind-is) (c .before .before .before .match .rest))))
+bound-e-returns-7 t c = bounded-e (c .before .before .before .before .before .before .args .p .now .now) (c .before .before .before .before .before .before .args .i) (c .before .before .before .before .before .before .pre .1) (both-said (c .before .before .before .before .before .before .args .p .now .now) (c .before .before .before .before .before .before .args .i) (c .before .before .before .before .before .before .pre .1) (operation-bound (c .before .before .before .before .before .before .args .p .now .now) (c .before .before .before .before .before .before .args .i) (c .before .before .before .before .before .before .pre .1) (left (c .before .before .before .before .node .ensures .kind-is) (c .before .before .before .match .rest))) (c .before .before .before .before .node .ensures .a-is) (c .before .before .before .before .node .ensures .b-is) (c .before .before .leaf9 .ensures .0) (c .before .leaf10 .ensures .0) (c .over-both .ensures))
 
 -- src/lib.rt:142:9
 leaf-node-requires : (t : ℕ) → leaf-lts.Need-node-requires (leaf-calls t) (leaf-at t) leaf.Post
@@ -146,11 +146,11 @@ leaf-bound-e-requires t c κs = (omega (arith, c .before .before .before .pre .0
 
 -- src/lib.rt:138:1
 leaf-returns : (t : ℕ) → leaf-lts.Need-returns (leaf-calls t) (leaf-at t) leaf.Post
-leaf-returns t c = bounded-e (c .before .before .before .args .p .now .now) (c .before .before .before .args .i) (c .before .before .before .pre .1) (cc (variable-bound (c .before .before .before .args .p .now .now) (c .before .before .before .args .i) (c .before .before .before .pre .1) (sym (c .before .node .ensures .kind-is) ∙ c .match .keys1)))
+leaf-returns t c = bounded-e (c .before .before .before .args .p .now .now) (c .before .before .before .args .i) (c .before .before .before .pre .1) (sym (variable-bound (c .before .before .before .args .p .now .now) (c .before .before .before .args .i) (c .before .before .before .pre .1) (sym (c .before .node .ensures .kind-is) ∙ c .match .keys1)))
 
 -- src/lib.rt:138:1
 leaf-returns-2 : (t : ℕ) → leaf-lts.Need-returns-2 (leaf-calls t) (leaf-at t) leaf.Post
-leaf-returns-2 t c = bounded-e (c .before .before .before .args .p .now .now) (c .before .before .before .args .i) (c .before .before .before .pre .1) (cc (constant-bound (c .before .before .before .args .p .now .now) (c .before .before .before .args .i) (c .before .before .before .pre .1) (sym (c .before .node .ensures .kind-is) ∙ c .match .keys2)))
+leaf-returns-2 t c = bounded-e (c .before .before .before .args .p .now .now) (c .before .before .before .args .i) (c .before .before .before .pre .1) (sym (constant-bound (c .before .before .before .args .p .now .now) (c .before .before .before .args .i) (c .before .before .before .pre .1) (sym (c .before .node .ensures .kind-is) ∙ c .match .keys2)))
 
 -- src/lib.rt:138:1
 leaf-returns-3 : (t : ℕ) → leaf-lts.Need-returns-3 (leaf-calls t) (leaf-at t) leaf.Post

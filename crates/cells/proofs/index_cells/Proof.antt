@@ -15,7 +15,7 @@ use Rattle.cells.proofs.index_cells.Lts as lts
 use Rattle.cells.proofs.has_cell.Reads as has-cell-reads
 use Rattle.cells.proofs.kind_of.Reads as kind-of-reads
 use Rattle.cells.proofs.index_branches.Reads as index-branches-reads
-use Rattle.cells.proofs.index_places.Reads as index-places-reads
+use Rattle.cells.proofs.index_rows.Reads as index-rows-reads
 
 abbrev Inv-loop : tie.InvT-loop
 Inv-loop p index₀ count seen₀ i₀ index seen i = (i ≤ count) × (seen ≡ cellsBefore p i) × (length index ≡ length index₀) × Below p index i
@@ -78,19 +78,19 @@ loop-again c = let p = c .before .before .before .before .before .before .before
 
 -- src/lib.rt:210:5
 index-branches-requires : tie.Need-index-branches-requires Inv-loop μ-loop
-index-branches-requires c κs = (c .before .before .before .before .before .pre .0, c .before .before .before .before .before .pre .1, c .before .before .before .before .before .pre .2, omega (arith, c .before .before .before .before .before .pre .3, c .before .before .loop .inv .2))
+index-branches-requires c κs = (c .before .before .before .before .before .pre .0, c .before .before .before .before .before .pre .1, c .before .before .before .before .before .pre .2, omega (arith, c .before .before .before .before .before .pre .0 .small, c .before .before .before .before .before .pre .2, c .before .before .before .before .before .pre .3, c .before .before .loop .inv .2))
 
 -- src/lib.rt:211:5
-index-places-requires : tie.Need-index-places-requires Inv-loop μ-loop
-index-places-requires c κs = let x = c .before .before .before .before .before .before .before .before .before .pre in (x .0, x .2, omega (arith, x .3, c .before .before .before .index-branches .kept .1 .0, c .before .before .before .before .before .before .loop .inv .2), c .before .before .before .index-branches .ensures .0, λ i w. c .before .before .before .index-branches .ensures .1 i w ∙ c .before .before .before .before .before .before .loop .inv .3 i (omega (arith, x .2, w .inside)))
+index-rows-requires : tie.Need-index-rows-requires Inv-loop μ-loop
+index-rows-requires c κs = let x = c .before .before .before .before .before .before .before .before .before .pre in (x .0, x .2, omega (arith, x .3, c .before .before .before .index-branches .kept .1 .0, c .before .before .before .before .before .before .loop .inv .2), c .before .before .before .index-branches .ensures .0, λ i w. c .before .before .before .index-branches .ensures .1 i w ∙ c .before .before .before .before .before .before .loop .inv .3 i (omega (arith, x .2, w .inside)))
 
 -- src/lib.rt:197:1
 same-length : tie.Need-same-length Inv-loop μ-loop
-same-length c = c .before .before .index-places .kept .1 .0 ∙ c .before .before .before .before .before .before .index-branches .kept .1 .0 ∙ c .before .before .before .before .before .before .before .before .before .loop .inv .2
+same-length c = c .before .before .index-rows .kept .1 .0 ∙ c .before .before .before .before .before .before .index-branches .kept .1 .0 ∙ c .before .before .before .before .before .before .before .before .before .loop .inv .2
 
 -- src/lib.rt:197:1
 returns : tie.Need-returns Inv-loop μ-loop
-returns c = let e : c .before .before .before .before .before .before .before .before .before .loop .i ≡ c .before .before .before .before .before .before .before .before .before .before .before .before .args .count = omega arith in (c .before .before .index-places .ensures, c .before .before .before .before .before .before .before .before .before .loop .inv .1 ∙ ap (cellsBefore (c .before .before .before .before .before .before .before .before .before .before .before .before .args .p .now)) e)
+returns c = let e : c .before .before .before .before .before .before .before .before .before .loop .i ≡ c .before .before .before .before .before .before .before .before .before .before .before .before .args .count = omega arith in (c .before .before .index-rows .ensures, c .before .before .before .before .before .before .before .before .before .loop .inv .1 ∙ ap (cellsBefore (c .before .before .before .before .before .before .before .before .before .before .before .before .args .p .now)) e)
 
 pub index-cells-spec : {M : Type 1} → statement M
 index-cells-spec =
@@ -109,6 +109,6 @@ index-cells-spec =
     loop-less
     loop-again
     index-branches-requires
-    index-places-requires
+    index-rows-requires
     same-length
     returns)

@@ -20,19 +20,19 @@ slice-aggregate-run-records : tie.Need-slice-aggregate-run-records
 slice-aggregate-run-records c = search needs
 
 run-records-requires : tie.Need-run-records-requires
-run-records-requires c κs = let pre = c .before .before .before .before .before .before .pre in (pre .0 .going, omega (arith, pre .2), omega (arith, pre .2))
+run-records-requires c κs = let pre = c .before .before .before .before .before .before .before .pre in (pre .0 .going, omega (arith, pre .2), omega (arith, pre .2), pre .0 .noted)
 
 enum-known-work : tie.Need-enum-known-work
 enum-known-work c = search needs
 
 stepped-requires : tie.Need-stepped-requires
-stepped-requires c κs = c .before .before .before .before .before .before .before .before .before .before .before .before .before .before .before .pre .2
+stepped-requires c κs = c .before .before .before .before .before .before .before .before .before .before .before .before .before .before .before .before .pre .2
 
-add-t23 : tie.Need-add-t23
-add-t23 c = omega (arith, c .before .before .before .before .before .before .before .before .before .before .before .before .before .before .before .before .pre .1)
+add-t25 : tie.Need-add-t25
+add-t25 c = omega (arith, c .before .before .before .before .before .before .before .before .before .before .before .before .before .before .before .before .before .pre .1)
 
 in-all-requires : tie.Need-in-all-requires
-in-all-requires c κs = let pre = c .before .before .before .before .before .before .before .before .before .before .before .before .before .before .before .before .pre in omega (arith, pre .0 .fits, pre .1, spent (c .before .before .before .before .work .given .1) (c .before .before .before .before .before .before .before .before .before .run-records .ensures .2) (pre .2))
+in-all-requires c κs = let pre = c .before .before .before .before .before .before .before .before .before .before .before .before .before .before .before .before .before .pre in omega (arith, pre .0 .fits, pre .1, spent (c .before .before .before .before .work .given .1) (c .before .before .before .before .before .before .before .before .before .run-records .ensures .2) (pre .2))
 
 enum-known-r : tie.Need-enum-known-r
 enum-known-r c = search needs
@@ -49,13 +49,13 @@ same-length c = search needs
 returns : tie.Need-returns
 unfolding byteAt
 returns c =
-    let pre = c .before .before .before .before .before .before .before .before .before .before .before .before .before .before .before .before .before .pre in
+    let pre = c .before .before .before .before .before .before .before .before .before .before .before .before .before .before .before .before .before .before .pre in
     let ran = c .before .before .before .before .before .before .before .before .before .before .run-records .ensures in
-    let e = finishes (replicate 8 0) (c .before .before .before .before .before .before .before .before .before .before .before .before .before .before .before .before .before .args .steps) (c .before .before .before .before .before .before .before .before .before .before .before .before .before .before .before .before .before .args .total) (pre .2) refl (record { small = λ i. omega (arith, c .before .before .before .before .before .before .before .before .before .before .before .before .before .before .before .before .shared-slice-known .given i) }) (record { small = λ i. omega (arith, c .before .before .before .before .before .before .before .before .before .before .before .before .before .before .slice-known .given i) }) (record { small = λ i. omega (arith, c .before .before .before .before .before .before .before .before .before .before .before .before .before .before .before .shared-slice-known2 .given i) }) (pre .0 .going .accepted) (pre .0 .going .well) (ran .0) (c .before .before .before .before .before .work .given .1) in (
+    let e = finishes (replicate 8 0) (c .before .before .before .before .before .before .before .before .before .before .before .before .before .before .before .before .before .before .args .steps) (c .before .before .before .before .before .before .before .before .before .before .before .before .before .before .before .before .before .before .args .total) (pre .2) refl (record { small = λ i. omega (arith, c .before .before .before .before .before .before .before .before .before .before .before .before .before .before .before .before .before .shared-slice-known .given i) }) (record { small = λ i. omega (arith, c .before .before .before .before .before .before .before .before .before .before .before .before .before .before .before .slice-known .given i) }) (record { small = λ i. omega (arith, c .before .before .before .before .before .before .before .before .before .before .before .before .before .before .before .before .shared-slice-known2 .given i) }) (pre .0 .going .accepted) (pre .0 .going .well) (ran .0) (c .before .before .before .before .before .work .given .1) in (
       c .before .stepped .ensures .0,
       (
         turned e (c .before .stepped .ensures .1) refl (omega arith) (c .in-all .ensures) refl,
-        record { going = ran .1; few = omega (arith, pre .1); fits = omega (arith, pre .0 .fits, c .in-all .ensures, spent (c .before .before .before .before .before .work .given .1) (ran .2) (pre .2)) },
+        record { going = ran .1; noted = ran .3; few = omega (arith, pre .1); fits = omega (arith, pre .0 .fits, c .in-all .ensures, spent (c .before .before .before .before .before .work .given .1) (ran .2) (pre .2)) },
       ),
     )
 
@@ -65,13 +65,13 @@ same-length-2 c = search needs
 returns-2 : tie.Need-returns-2
 unfolding byteAt
 returns-2 c =
-    let pre = c .before .before .before .before .before .before .before .before .before .before .before .before .before .before .before .before .pre in
+    let pre = c .before .before .before .before .before .before .before .before .before .before .before .before .before .before .before .before .before .pre in
     let ran = c .before .before .before .before .before .before .before .before .before .run-records .ensures in
-    let e = refuses (replicate 8 0) (c .before .before .before .before .before .before .before .before .before .before .before .before .before .before .before .before .args .steps) (c .before .before .before .before .before .before .before .before .before .before .before .before .before .before .before .before .args .total) (pre .2) refl (record { small = λ i. omega (arith, c .before .before .before .before .before .before .before .before .before .before .before .before .before .before .before .shared-slice-known .given i) }) (record { small = λ i. omega (arith, c .before .before .before .before .before .before .before .before .before .before .before .before .before .slice-known .given i) }) (record { small = λ i. omega (arith, c .before .before .before .before .before .before .before .before .before .before .before .before .before .before .shared-slice-known2 .given i) }) (pre .0 .going .accepted) (pre .0 .going .well) (ran .0) (c .before .before .before .before .r .given .1) in (
+    let e = refuses (replicate 8 0) (c .before .before .before .before .before .before .before .before .before .before .before .before .before .before .before .before .before .args .steps) (c .before .before .before .before .before .before .before .before .before .before .before .before .before .before .before .before .before .args .total) (pre .2) refl (record { small = λ i. omega (arith, c .before .before .before .before .before .before .before .before .before .before .before .before .before .before .before .before .shared-slice-known .given i) }) (record { small = λ i. omega (arith, c .before .before .before .before .before .before .before .before .before .before .before .before .before .before .slice-known .given i) }) (record { small = λ i. omega (arith, c .before .before .before .before .before .before .before .before .before .before .before .before .before .before .before .shared-slice-known2 .given i) }) (pre .0 .going .accepted) (pre .0 .going .well) (ran .0) (c .before .before .before .before .r .given .1) in (
       c .refused-line .ensures .0,
       (
         turned e (c .refused-line .ensures .1 ∙ ap refusedLine (c .before .before .placed .ensures)) refl refl refl refl,
-        record { going = ran .1; few = pre .0 .few; fits = pre .0 .fits },
+        record { going = ran .1; noted = ran .3; few = pre .0 .few; fits = pre .0 .fits },
       ),
     )
 
@@ -83,7 +83,7 @@ taken-spec =
     run-records-requires
     enum-known-work
     stepped-requires
-    add-t23
+    add-t25
     in-all-requires
     enum-known-r
     placed-requires

@@ -14,16 +14,16 @@ is-record-requires : tie.Need-is-record-requires
 is-record-requires c κs = search needs
 
 taken-requires : tie.Need-taken-requires
-taken-requires c κs = let pre = c .before .before .before .before .before .before .before .before .pre in (pre .0, record-early (c .before .before .before .before .before .before .before .before .args .got) (sym (c .before .before .before .before .is-record .ensures) ∙ c .before .before .before .if1 .taken) .0, pre .2)
+taken-requires c κs = let pre = c .before .before .before .before .before .before .before .before .before .pre in (pre .0, record-early (c .before .before .before .before .before .before .before .before .before .args .got) (sym (c .before .before .before .before .before .is-record .ensures) ∙ c .before .before .before .before .if1 .taken) .0, pre .2)
 
 same-length : tie.Need-same-length
 same-length c = search needs
 
 returns : tie.Need-returns
 returns c =
-    let pre = c .before .before .before .before .before .before .before .before .before .before .before .pre in
+    let pre = c .before .before .before .before .before .before .before .before .before .before .before .before .pre in
     let t = c .before .before .taken .ensures in
-    (t .0, (turned-as (turn-record _ _ _ _ (c .before .before .before .before .before .before .before .before .before .before .before .args .total) _ (pre .1) (pre .2) (sym (c .before .before .before .before .before .before .before .is-record .ensures) ∙ c .before .before .before .before .before .before .if1 .taken)) (t .1 .0), t .1 .1))
+    (t .0, (turned-as (turn-record _ _ _ _ (c .before .before .before .before .before .before .before .before .before .before .before .before .args .total) _ (pre .1) (pre .2) (sym (c .before .before .before .before .before .before .before .before .is-record .ensures) ∙ c .before .before .before .before .before .before .before .if1 .taken)) (t .1 .0), t .1 .1))
 
 last-requires : tie.Need-last-requires
 last-requires c κs = search needs

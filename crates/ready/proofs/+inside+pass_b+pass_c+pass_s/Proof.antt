@@ -1,7 +1,6 @@
 -- Each arm is what is found in a signal of its kind, from what is found in its parts; a let's mark is put back.
 use Rattle.rules.proofs.PutBack.{put-back}
 use Rattle.places.proofs.NumberLaws.{no-place}
-use Rattle.rules.specs.Layout.{aAt}
 use mathlib.Core.Path.{refl, sym, ap, _∙_}
 use native.Mathlib.Omega.{arith}
 use borrow.Author.Needs.{needs}
@@ -10,11 +9,12 @@ use Prim.Native.Nat.{_*_, _+_}
 use lib.ListN.{set, getD}
 use Rattle.rules.proofs.Kids.{read}
 use Rattle.rules.proofs.Signals.{time-left, ext-kid, delay-kid, let-kids, switch-kids, group-kids, until-kids, branch-kid, branch-next, case-kid, case-next}
-use Rattle.rules.specs.Tree.{signalAt}
+use Rattle.rules.specs.Tree.{signalAt, casesAt}
+use Rattle.rules.specs.Ready.{readyC}
 use Rattle.ready.specs.Regions.{markedIn}
-use Rattle.ready.specs.Found.{Lets, foundS}
-use Rattle.ready.proofs.RegionLaws.{entered, apart, marked, marked-entered}
-use Rattle.ready.proofs.PassLaws.{delay-passed, switch-passed}
+use Rattle.ready.specs.Found.{Lets, adding, foundS}
+use Rattle.ready.proofs.RegionLaws.{entered, marked, marked-entered}
+use Rattle.ready.proofs.PassLaws.{delay-passed, switch-passed, event-passed, of-two, part-e, part-s, later-s, later-b}
 use Rattle.ready.proofs.ReadyLaws.{case-last-ready, case-more-ready}
 use Rattle.ready.proofs.FoundLaws.{input-found, time-found, ext-found, let-found, group-found, until-found, branch-last-found, branch-more-found}
 use Prim.Native.Nat.{ℕ, _<_}
@@ -143,7 +143,7 @@ pass-b-sooner-requires t c κs = search needs
 
 -- src/lib.rt:141:9
 pass-b-returns : (t : ℕ) → pass-b-lts.Need-returns (pass-b-calls t) (pass-b-at t) pass-b.Post
-pass-b-returns t c = (cc (branch-last-found (c .before .before .before .before .before .before .before .args .p .now .now) (c .before .before .before .before .before .before .before .args .j) (c .before .before .before .before .before .before .before .pre .1 .node) (markedIn (c .before .before .before .before .before .before .before .args .marks .now) (c .before .before .before .before .before .before .before .args .region)) (sym (c .before .before .before .before .before .node .ensures .b-is) ∙ c .before .if1 .taken), no-place), c .before .before .before .pass-s .ensures .1)
+pass-b-returns t c = (of-two (branch-last-found (c .before .before .before .before .before .before .before .args .p .now .now) (c .before .before .before .before .before .before .before .args .j) (c .before .before .before .before .before .before .before .pre .1 .node) (markedIn (c .before .before .before .before .before .before .before .args .marks .now) (c .before .before .before .before .before .before .before .args .region)) (sym (c .before .before .before .before .before .node .ensures .b-is) ∙ c .before .if1 .taken)) (part-s (c .before .before .before .before .before .before .before .args .p .now .now) (markedIn (c .before .before .before .before .before .before .before .args .marks .now) (c .before .before .before .before .before .before .before .args .region)) (c .before .before .before .before .before .node .ensures .a-is) (c .before .before .before .pass-s .ensures .0)) no-place (c .sooner .ensures), c .before .before .before .pass-s .ensures .1)
 
 -- src/lib.rt:143:9
 pass-b-pass-b-requires : (t : ℕ) → pass-b-lts.Need-pass-b-requires (pass-b-calls t) (pass-b-at t) pass-b.Post
@@ -155,7 +155,7 @@ pass-b-sooner-requires-2 t c κs = search needs
 
 -- src/lib.rt:134:1
 pass-b-returns-2 : (t : ℕ) → pass-b-lts.Need-returns-2 (pass-b-calls t) (pass-b-at t) pass-b.Post
-pass-b-returns-2 t c = (cc (branch-more-found (c .before .before .before .before .before .before .before .before .before .args .p .now .now) (c .before .before .before .before .before .before .before .before .before .args .j) (c .before .before .before .before .before .before .before .before .before .pre .1 .node) (markedIn (c .before .before .before .before .before .before .before .before .before .args .marks .now) (c .before .before .before .before .before .before .before .before .before .args .region)) (λ h. c .before .before .before .if1 .left (c .before .before .before .before .before .before .before .node .ensures .b-is ∙ h))), c .before .pass-b .ensures .1 ∙ c .before .before .before .before .before .pass-s .ensures .1)
+pass-b-returns-2 t c = (of-two (branch-more-found (c .before .before .before .before .before .before .before .before .before .args .p .now .now) (c .before .before .before .before .before .before .before .before .before .args .j) (c .before .before .before .before .before .before .before .before .before .pre .1 .node) (markedIn (c .before .before .before .before .before .before .before .before .before .args .marks .now) (c .before .before .before .before .before .before .before .before .before .args .region)) (λ h. c .before .before .before .if1 .left (c .before .before .before .before .before .before .before .node .ensures .b-is ∙ h))) (part-s (c .before .before .before .before .before .before .before .before .before .args .p .now .now) (markedIn (c .before .before .before .before .before .before .before .before .before .args .marks .now) (c .before .before .before .before .before .before .before .before .before .args .region)) (c .before .before .before .before .before .before .before .node .ensures .a-is) (c .before .before .before .before .before .pass-s .ensures .0)) (later-b (c .before .before .before .before .before .before .before .before .before .args .p .now .now) (c .before .before .before .before .before .before .before .before .before .args .region) (c .before .before .before .before .before .pass-s .ensures .1) (c .before .before .before .before .before .before .before .node .ensures .b-is) (c .before .pass-b .ensures .0)) (c .sooner2 .ensures), c .before .pass-b .ensures .1 ∙ c .before .before .before .before .before .pass-s .ensures .1)
 
 -- src/lib.rt:152:9
 pass-c-node-requires : (t : ℕ) → pass-c-lts.Need-node-requires (pass-c-calls t) (pass-c-at t) pass-c.Post
@@ -175,7 +175,7 @@ pass-c-sooner-requires t c κs = search needs
 
 -- src/lib.rt:155:9
 pass-c-returns : (t : ℕ) → pass-c-lts.Need-returns (pass-c-calls t) (pass-c-at t) pass-c.Post
-pass-c-returns t c = (cc (case-last-ready (c .before .before .before .before .before .before .before .before .args .p .now .now) (c .before .before .before .before .before .before .before .before .args .j) (c .before .before .before .before .before .before .before .before .pre .1 .node) (sym (c .before .before .before .before .before .before .node .ensures .b-is) ∙ c .before .if1 .taken), apart (c .before .before .before .before .before .before .before .before .pre .1) ((case-kid (c .before .before .before .before .before .before .before .before .args .p .now .now) (c .before .before .before .before .before .before .before .before .args .j) (c .before .before .before .before .before .before .before .before .pre .1 .node)) .less) (signalAt (c .before .before .before .before .before .before .before .before .args .p .now .now) (aAt (c .before .before .before .before .before .before .before .before .args .p .now .now) (c .before .before .before .before .before .before .before .before .args .j))), no-place), c .before .before .before .pass-s .ensures .1)
+pass-c-returns t c = (of-two (case-last-ready (c .before .before .before .before .before .before .before .before .args .p .now .now) (c .before .before .before .before .before .before .before .before .args .j) (c .before .before .before .before .before .before .before .before .pre .1 .node) (sym (c .before .before .before .before .before .before .node .ensures .b-is) ∙ c .before .if1 .taken)) (event-passed (c .before .before .before .before .before .before .before .before .pre .1) (c .before .before .before .before .before .before .node .ensures .a-is) (c .before .before .before .pass-s .ensures .0)) no-place (c .sooner .ensures), c .before .before .before .pass-s .ensures .1)
 
 -- src/lib.rt:157:9
 pass-c-pass-c-requires : (t : ℕ) → pass-c-lts.Need-pass-c-requires (pass-c-calls t) (pass-c-at t) pass-c.Post
@@ -187,7 +187,7 @@ pass-c-sooner-requires-2 t c κs = search needs
 
 -- src/lib.rt:148:1
 pass-c-returns-2 : (t : ℕ) → pass-c-lts.Need-returns-2 (pass-c-calls t) (pass-c-at t) pass-c.Post
-pass-c-returns-2 t c = (cc (case-more-ready (c .before .before .before .before .before .before .before .before .before .before .args .p .now .now) (c .before .before .before .before .before .before .before .before .before .before .args .j) (c .before .before .before .before .before .before .before .before .before .before .pre .1 .node) (λ h. c .before .before .before .if1 .left (c .before .before .before .before .before .before .before .before .node .ensures .b-is ∙ h)), apart (c .before .before .before .before .before .before .before .before .before .before .pre .1) ((case-kid (c .before .before .before .before .before .before .before .before .before .before .args .p .now .now) (c .before .before .before .before .before .before .before .before .before .before .args .j) (c .before .before .before .before .before .before .before .before .before .before .pre .1 .node)) .less) (signalAt (c .before .before .before .before .before .before .before .before .before .before .args .p .now .now) (aAt (c .before .before .before .before .before .before .before .before .before .before .args .p .now .now) (c .before .before .before .before .before .before .before .before .before .before .args .j)))), c .before .pass-c .ensures .1 ∙ c .before .before .before .before .before .pass-s .ensures .1)
+pass-c-returns-2 t c = (of-two (case-more-ready (c .before .before .before .before .before .before .before .before .before .before .args .p .now .now) (c .before .before .before .before .before .before .before .before .before .before .args .j) (c .before .before .before .before .before .before .before .before .before .before .pre .1 .node) (λ h. c .before .before .before .if1 .left (c .before .before .before .before .before .before .before .before .node .ensures .b-is ∙ h))) (event-passed (c .before .before .before .before .before .before .before .before .before .before .pre .1) (c .before .before .before .before .before .before .before .before .node .ensures .a-is) (c .before .before .before .before .before .pass-s .ensures .0)) (c .before .pass-c .ensures .0 ∙ ap (λ (x : ℕ). readyC (casesAt (c .before .before .before .before .before .before .before .before .before .before .args .p .now .now) x)) (c .before .before .before .before .before .before .before .before .node .ensures .b-is)) (c .sooner2 .ensures), c .before .pass-c .ensures .1 ∙ c .before .before .before .before .before .pass-s .ensures .1)
 
 -- src/lib.rt:87:9
 pass-s-node-requires : (t : ℕ) → pass-s-lts.Need-node-requires (pass-s-calls t) (pass-s-at t) pass-s.Post
@@ -267,11 +267,11 @@ pass-s-sooner-requires-5 t c κs = search needs
 
 -- src/lib.rt:83:1
 pass-s-returns : (t : ℕ) → pass-s-lts.Need-returns (pass-s-calls t) (pass-s-at t) pass-s.Post
-pass-s-returns t c = (cc (input-found (c .before .before .before .args .p .now .now) (c .before .before .before .args .i) (c .before .before .before .pre .1 .node) (markedIn (c .before .before .before .args .marks .now) (c .before .before .before .args .region)) (sym (c .before .node .ensures .kind-is) ∙ c .match .keys1), no-place), refl)
+pass-s-returns t c = (no-place ∙ sym (input-found (c .before .before .before .args .p .now .now) (c .before .before .before .args .i) (c .before .before .before .pre .1 .node) (markedIn (c .before .before .before .args .marks .now) (c .before .before .before .args .region)) (sym (c .before .node .ensures .kind-is) ∙ c .match .keys1)), refl)
 
 -- src/lib.rt:83:1
 pass-s-returns-2 : (t : ℕ) → pass-s-lts.Need-returns-2 (pass-s-calls t) (pass-s-at t) pass-s.Post
-pass-s-returns-2 t c = (cc (ext-found (c .before .before .before .before .before .args .p .now .now) (c .before .before .before .before .before .args .i) (c .before .before .before .before .before .pre .1 .node) (markedIn (c .before .before .before .before .before .args .marks .now) (c .before .before .before .before .before .args .region)) (sym (c .before .before .before .node .ensures .kind-is) ∙ c .before .before .match .keys2)), refl)
+pass-s-returns-2 t c = (part-e (c .before .before .before .before .before .args .p .now .now) (markedIn (c .before .before .before .before .before .args .marks .now) (c .before .before .before .before .before .args .region)) (c .before .before .before .node .ensures .a-is) (c .pass-e .ensures) ∙ sym (ext-found (c .before .before .before .before .before .args .p .now .now) (c .before .before .before .before .before .args .i) (c .before .before .before .before .before .pre .1 .node) (markedIn (c .before .before .before .before .before .args .marks .now) (c .before .before .before .before .before .args .region)) (sym (c .before .before .before .node .ensures .kind-is) ∙ c .before .before .match .keys2)), refl)
 
 -- src/lib.rt:83:1
 pass-s-returns-3 : (t : ℕ) → pass-s-lts.Need-returns-3 (pass-s-calls t) (pass-s-at t) pass-s.Post
@@ -282,7 +282,7 @@ pass-s-returns-3 t c =
 
 -- src/lib.rt:83:1
 pass-s-returns-4 : (t : ℕ) → pass-s-lts.Need-returns-4 (pass-s-calls t) (pass-s-at t) pass-s.Post
-pass-s-returns-4 t c = (cc (let-found (c .before .before .before .before .before .before .before .before .args .p .now .now) (c .before .before .before .before .before .before .before .before .args .i) (c .before .before .before .before .before .before .before .before .pre .1 .node) (markedIn (c .before .before .before .before .before .before .before .before .args .marks .now) (c .before .before .before .before .before .before .before .before .args .region)) (sym (c .before .before .before .before .before .before .node .ensures .kind-is) ∙ c .before .before .before .before .before .match .keys4)), c .before .pass-s2 .ensures .1 ∙ c .before .before .before .inside .ensures .1)
+pass-s-returns-4 t c = (of-two (let-found (c .before .before .before .before .before .before .before .before .args .p .now .now) (c .before .before .before .before .before .before .before .before .args .i) (c .before .before .before .before .before .before .before .before .pre .1 .node) (markedIn (c .before .before .before .before .before .before .before .before .args .marks .now) (c .before .before .before .before .before .before .before .before .args .region)) (sym (c .before .before .before .before .before .before .node .ensures .kind-is) ∙ c .before .before .before .before .before .match .keys4)) (part-s (c .before .before .before .before .before .before .before .before .args .p .now .now) (adding (c .before .before .before .before .before .before .before .before .args .i) (markedIn (c .before .before .before .before .before .before .before .before .args .marks .now) (c .before .before .before .before .before .before .before .before .args .region))) (c .before .before .before .before .before .before .node .ensures .a-is) (c .before .before .before .inside .ensures .0)) (later-s (c .before .before .before .before .before .before .before .before .args .p .now .now) (c .before .before .before .before .before .before .before .before .args .region) (c .before .before .before .inside .ensures .1) (c .before .before .before .before .before .before .node .ensures .b-is) (c .before .pass-s2 .ensures .0)) (c .sooner .ensures), c .before .pass-s2 .ensures .1 ∙ c .before .before .before .inside .ensures .1)
 
 -- src/lib.rt:83:1
 pass-s-returns-5 : (t : ℕ) → pass-s-lts.Need-returns-5 (pass-s-calls t) (pass-s-at t) pass-s.Post
@@ -299,15 +299,15 @@ pass-s-returns-5 t c =
 
 -- src/lib.rt:83:1
 pass-s-returns-6 : (t : ℕ) → pass-s-lts.Need-returns-6 (pass-s-calls t) (pass-s-at t) pass-s.Post
-pass-s-returns-6 t c = (cc (group-found (c .before .before .before .before .before .before .before .before .args .p .now .now) (c .before .before .before .before .before .before .before .before .args .i) (c .before .before .before .before .before .before .before .before .pre .1 .node) (markedIn (c .before .before .before .before .before .before .before .before .args .marks .now) (c .before .before .before .before .before .before .before .before .args .region)) (sym (c .before .before .before .before .before .before .node .ensures .kind-is) ∙ c .before .before .before .before .before .match .keys6)), c .before .pass-b .ensures .1 ∙ c .before .before .before .pass-s6 .ensures .1)
+pass-s-returns-6 t c = (of-two (group-found (c .before .before .before .before .before .before .before .before .args .p .now .now) (c .before .before .before .before .before .before .before .before .args .i) (c .before .before .before .before .before .before .before .before .pre .1 .node) (markedIn (c .before .before .before .before .before .before .before .before .args .marks .now) (c .before .before .before .before .before .before .before .before .args .region)) (sym (c .before .before .before .before .before .before .node .ensures .kind-is) ∙ c .before .before .before .before .before .match .keys6)) (part-s (c .before .before .before .before .before .before .before .before .args .p .now .now) (markedIn (c .before .before .before .before .before .before .before .before .args .marks .now) (c .before .before .before .before .before .before .before .before .args .region)) (c .before .before .before .before .before .before .node .ensures .a-is) (c .before .before .before .pass-s6 .ensures .0)) (later-b (c .before .before .before .before .before .before .before .before .args .p .now .now) (c .before .before .before .before .before .before .before .before .args .region) (c .before .before .before .pass-s6 .ensures .1) (c .before .before .before .before .before .before .node .ensures .b-is) (c .before .pass-b .ensures .0)) (c .sooner4 .ensures), c .before .pass-b .ensures .1 ∙ c .before .before .before .pass-s6 .ensures .1)
 
 -- src/lib.rt:83:1
 pass-s-returns-7 : (t : ℕ) → pass-s-lts.Need-returns-7 (pass-s-calls t) (pass-s-at t) pass-s.Post
-pass-s-returns-7 t c = (cc (until-found (c .before .before .before .before .before .before .before .before .args .p .now .now) (c .before .before .before .before .before .before .before .before .args .i) (c .before .before .before .before .before .before .before .before .pre .1 .node) (markedIn (c .before .before .before .before .before .before .before .before .args .marks .now) (c .before .before .before .before .before .before .before .before .args .region)) (sym (c .before .before .before .before .before .before .node .ensures .kind-is) ∙ c .before .before .before .before .before .match .keys7)), c .before .pass-c .ensures .1 ∙ c .before .before .before .pass-s7 .ensures .1)
+pass-s-returns-7 t c = (of-two (until-found (c .before .before .before .before .before .before .before .before .args .p .now .now) (c .before .before .before .before .before .before .before .before .args .i) (c .before .before .before .before .before .before .before .before .pre .1 .node) (markedIn (c .before .before .before .before .before .before .before .before .args .marks .now) (c .before .before .before .before .before .before .before .before .args .region)) (sym (c .before .before .before .before .before .before .node .ensures .kind-is) ∙ c .before .before .before .before .before .match .keys7)) (part-s (c .before .before .before .before .before .before .before .before .args .p .now .now) (markedIn (c .before .before .before .before .before .before .before .before .args .marks .now) (c .before .before .before .before .before .before .before .before .args .region)) (c .before .before .before .before .before .before .node .ensures .a-is) (c .before .before .before .pass-s7 .ensures .0)) (c .before .pass-c .ensures .0 ∙ ap (λ (x : ℕ). readyC (casesAt (c .before .before .before .before .before .before .before .before .args .p .now .now) x)) (c .before .before .before .before .before .before .node .ensures .b-is)) (c .sooner5 .ensures), c .before .pass-c .ensures .1 ∙ c .before .before .before .pass-s7 .ensures .1)
 
 -- src/lib.rt:83:1
 pass-s-returns-8 : (t : ℕ) → pass-s-lts.Need-returns-8 (pass-s-calls t) (pass-s-at t) pass-s.Post
-pass-s-returns-8 t c = (cc (time-found (c .before .before .before .args .p .now .now) (c .before .before .before .args .i) (c .before .before .before .pre .1 .node) (markedIn (c .before .before .before .args .marks .now) (c .before .before .before .args .region)) (time-left (c .before .before .before .args .p .now .now) (c .before .before .before .args .i) (c .before .before .before .pre .1 .node) (c .before .node .ensures .kind-is) (c .match .rest)), no-place), refl)
+pass-s-returns-8 t c = (no-place ∙ sym (time-found (c .before .before .before .args .p .now .now) (c .before .before .before .args .i) (c .before .before .before .pre .1 .node) (markedIn (c .before .before .before .args .marks .now) (c .before .before .before .args .region)) (time-left (c .before .before .before .args .p .now .now) (c .before .before .before .args .i) (c .before .before .before .pre .1 .node) (c .before .node .ensures .kind-is) (c .match .rest))), refl)
 
 pub +inside+pass-b+pass-c+pass-s-spec : {M : Type 1} → statement M
 +inside+pass-b+pass-c+pass-s-spec =

@@ -1,12 +1,14 @@
 -- Each arm is what is found in an expression of its kind, from what is found in its parts.
-use mathlib.Core.Path.{refl, sym, _∙_}
+use mathlib.Core.Path.{refl, sym, ap, _∙_}
 use native.Mathlib.Omega.{arith}
 use borrow.Author.Needs.{needs}
 use Rattle.rules.proofs.Kids.{read}
 use Rattle.places.proofs.NumberLaws.{no-place}
 use Rattle.rules.proofs.Expressions.{left, negation-kid, just-kid, choice-kids, taking-kids, operation-kids}
+use Rattle.rules.specs.Places.{wrongIf}
 use Rattle.ready.specs.Regions.{markedIn}
 use Rattle.ready.proofs.RegionLaws.{entered}
+use Rattle.ready.proofs.PassLaws.{of-two, of-three, part-e}
 use Rattle.ready.proofs.FoundLaws.{variable-found, constant-found, negation-found, just-found, choice-found, taking-found, operation-found}
 use Prim.Native.Nat.{ℕ, _+_, _*_, _<_}
 use borrow.Fn.Kinds.{In}
@@ -117,31 +119,31 @@ pass-e-sooner-requires-5 t c κs = search needs
 
 -- src/lib.rt:51:1
 pass-e-returns : (t : ℕ) → pass-e-lts.Need-returns (pass-e-calls t) (pass-e-at t) pass-e.Post
-pass-e-returns t c = cc (variable-found (c .before .before .before .before .args .p .now .now) (c .before .before .before .before .args .i) (c .before .before .before .before .pre .1 .node) (markedIn (c .before .before .before .before .args .marks .now) (c .before .before .before .before .args .region)) (sym (c .before .before .node .ensures .kind-is) ∙ c .before .match .keys1))
+pass-e-returns t c = c .needed .ensures ∙ ap (λ (x : ℕ). wrongIf (markedIn (c .before .before .before .before .args .marks .now) (c .before .before .before .before .args .region) x) x) (c .before .before .node .ensures .a-is) ∙ sym (variable-found (c .before .before .before .before .args .p .now .now) (c .before .before .before .before .args .i) (c .before .before .before .before .pre .1 .node) (markedIn (c .before .before .before .before .args .marks .now) (c .before .before .before .before .args .region)) (sym (c .before .before .node .ensures .kind-is) ∙ c .before .match .keys1))
 
 -- src/lib.rt:51:1
 pass-e-returns-2 : (t : ℕ) → pass-e-lts.Need-returns-2 (pass-e-calls t) (pass-e-at t) pass-e.Post
-pass-e-returns-2 t c = cc (constant-found (c .before .before .before .args .p .now .now) (c .before .before .before .args .i) (c .before .before .before .pre .1 .node) (markedIn (c .before .before .before .args .marks .now) (c .before .before .before .args .region)) (sym (c .before .node .ensures .kind-is) ∙ c .match .keys2), no-place)
+pass-e-returns-2 t c = no-place ∙ sym (constant-found (c .before .before .before .args .p .now .now) (c .before .before .before .args .i) (c .before .before .before .pre .1 .node) (markedIn (c .before .before .before .args .marks .now) (c .before .before .before .args .region)) (sym (c .before .node .ensures .kind-is) ∙ c .match .keys2))
 
 -- src/lib.rt:51:1
 pass-e-returns-3 : (t : ℕ) → pass-e-lts.Need-returns-3 (pass-e-calls t) (pass-e-at t) pass-e.Post
-pass-e-returns-3 t c = cc (negation-found (c .before .before .before .before .args .p .now .now) (c .before .before .before .before .args .i) (c .before .before .before .before .pre .1 .node) (markedIn (c .before .before .before .before .args .marks .now) (c .before .before .before .before .args .region)) (sym (c .before .before .node .ensures .kind-is) ∙ c .before .match .keys3))
+pass-e-returns-3 t c = part-e (c .before .before .before .before .args .p .now .now) (markedIn (c .before .before .before .before .args .marks .now) (c .before .before .before .before .args .region)) (c .before .before .node .ensures .a-is) (c .leaf .ensures) ∙ sym (negation-found (c .before .before .before .before .args .p .now .now) (c .before .before .before .before .args .i) (c .before .before .before .before .pre .1 .node) (markedIn (c .before .before .before .before .args .marks .now) (c .before .before .before .before .args .region)) (sym (c .before .before .node .ensures .kind-is) ∙ c .before .match .keys3))
 
 -- src/lib.rt:51:1
 pass-e-returns-4 : (t : ℕ) → pass-e-lts.Need-returns-4 (pass-e-calls t) (pass-e-at t) pass-e.Post
-pass-e-returns-4 t c = cc (choice-found (c .before .before .before .before .before .before .before .before .args .p .now .now) (c .before .before .before .before .before .before .before .before .args .i) (c .before .before .before .before .before .before .before .before .pre .1 .node) (markedIn (c .before .before .before .before .before .before .before .before .args .marks .now) (c .before .before .before .before .before .before .before .before .args .region)) (sym (c .before .before .before .before .before .before .node .ensures .kind-is) ∙ c .before .before .before .before .before .match .keys4))
+pass-e-returns-4 t c = of-three (choice-found (c .before .before .before .before .before .before .before .before .args .p .now .now) (c .before .before .before .before .before .before .before .before .args .i) (c .before .before .before .before .before .before .before .before .pre .1 .node) (markedIn (c .before .before .before .before .before .before .before .before .args .marks .now) (c .before .before .before .before .before .before .before .before .args .region)) (sym (c .before .before .before .before .before .before .node .ensures .kind-is) ∙ c .before .before .before .before .before .match .keys4)) (part-e (c .before .before .before .before .before .before .before .before .args .p .now .now) (markedIn (c .before .before .before .before .before .before .before .before .args .marks .now) (c .before .before .before .before .before .before .before .before .args .region)) (c .before .before .before .before .before .before .node .ensures .a-is) (c .before .before .before .before .leaf2 .ensures)) (part-e (c .before .before .before .before .before .before .before .before .args .p .now .now) (markedIn (c .before .before .before .before .before .before .before .before .args .marks .now) (c .before .before .before .before .before .before .before .before .args .region)) (c .before .before .before .before .before .before .node .ensures .b-is) (c .before .before .before .leaf3 .ensures)) (part-e (c .before .before .before .before .before .before .before .before .args .p .now .now) (markedIn (c .before .before .before .before .before .before .before .before .args .marks .now) (c .before .before .before .before .before .before .before .before .args .region)) (c .before .before .before .before .before .before .node .ensures .c-is) (c .before .before .leaf4 .ensures)) (c .before .sooner .ensures) (c .sooner2 .ensures)
 
 -- src/lib.rt:51:1
 pass-e-returns-5 : (t : ℕ) → pass-e-lts.Need-returns-5 (pass-e-calls t) (pass-e-at t) pass-e.Post
-pass-e-returns-5 t c = cc (just-found (c .before .before .before .before .args .p .now .now) (c .before .before .before .before .args .i) (c .before .before .before .before .pre .1 .node) (markedIn (c .before .before .before .before .args .marks .now) (c .before .before .before .before .args .region)) (sym (c .before .before .node .ensures .kind-is) ∙ c .before .match .keys5))
+pass-e-returns-5 t c = part-e (c .before .before .before .before .args .p .now .now) (markedIn (c .before .before .before .before .args .marks .now) (c .before .before .before .before .args .region)) (c .before .before .node .ensures .a-is) (c .leaf5 .ensures) ∙ sym (just-found (c .before .before .before .before .args .p .now .now) (c .before .before .before .before .args .i) (c .before .before .before .before .pre .1 .node) (markedIn (c .before .before .before .before .args .marks .now) (c .before .before .before .before .args .region)) (sym (c .before .before .node .ensures .kind-is) ∙ c .before .match .keys5))
 
 -- src/lib.rt:51:1
 pass-e-returns-6 : (t : ℕ) → pass-e-lts.Need-returns-6 (pass-e-calls t) (pass-e-at t) pass-e.Post
-pass-e-returns-6 t c = cc (taking-found (c .before .before .before .before .before .before .before .before .args .p .now .now) (c .before .before .before .before .before .before .before .before .args .i) (c .before .before .before .before .before .before .before .before .pre .1 .node) (markedIn (c .before .before .before .before .before .before .before .before .args .marks .now) (c .before .before .before .before .before .before .before .before .args .region)) (sym (c .before .before .before .before .before .before .node .ensures .kind-is) ∙ c .before .before .before .before .before .match .keys6))
+pass-e-returns-6 t c = of-three (taking-found (c .before .before .before .before .before .before .before .before .args .p .now .now) (c .before .before .before .before .before .before .before .before .args .i) (c .before .before .before .before .before .before .before .before .pre .1 .node) (markedIn (c .before .before .before .before .before .before .before .before .args .marks .now) (c .before .before .before .before .before .before .before .before .args .region)) (sym (c .before .before .before .before .before .before .node .ensures .kind-is) ∙ c .before .before .before .before .before .match .keys6)) (part-e (c .before .before .before .before .before .before .before .before .args .p .now .now) (markedIn (c .before .before .before .before .before .before .before .before .args .marks .now) (c .before .before .before .before .before .before .before .before .args .region)) (c .before .before .before .before .before .before .node .ensures .a-is) (c .before .before .before .before .leaf6 .ensures)) (part-e (c .before .before .before .before .before .before .before .before .args .p .now .now) (markedIn (c .before .before .before .before .before .before .before .before .args .marks .now) (c .before .before .before .before .before .before .before .before .args .region)) (c .before .before .before .before .before .before .node .ensures .b-is) (c .before .before .before .leaf7 .ensures)) (part-e (c .before .before .before .before .before .before .before .before .args .p .now .now) (markedIn (c .before .before .before .before .before .before .before .before .args .marks .now) (c .before .before .before .before .before .before .before .before .args .region)) (c .before .before .before .before .before .before .node .ensures .c-is) (c .before .before .leaf8 .ensures)) (c .before .sooner3 .ensures) (c .sooner4 .ensures)
 
 -- src/lib.rt:51:1
 pass-e-returns-7 : (t : ℕ) → pass-e-lts.Need-returns-7 (pass-e-calls t) (pass-e-at t) pass-e.Post
-pass-e-returns-7 t c = cc (operation-found (c .before .before .before .before .before .before .args .p .now .now) (c .before .before .before .before .before .before .args .i) (c .before .before .before .before .before .before .pre .1 .node) (markedIn (c .before .before .before .before .before .before .args .marks .now) (c .before .before .before .before .before .before .args .region)) (left (c .before .before .before .before .node .ensures .kind-is) (c .before .before .before .match .rest)))
+pass-e-returns-7 t c = of-two (operation-found (c .before .before .before .before .before .before .args .p .now .now) (c .before .before .before .before .before .before .args .i) (c .before .before .before .before .before .before .pre .1 .node) (markedIn (c .before .before .before .before .before .before .args .marks .now) (c .before .before .before .before .before .before .args .region)) (left (c .before .before .before .before .node .ensures .kind-is) (c .before .before .before .match .rest))) (part-e (c .before .before .before .before .before .before .args .p .now .now) (markedIn (c .before .before .before .before .before .before .args .marks .now) (c .before .before .before .before .before .before .args .region)) (c .before .before .before .before .node .ensures .a-is) (c .before .before .leaf9 .ensures)) (part-e (c .before .before .before .before .before .before .args .p .now .now) (markedIn (c .before .before .before .before .before .before .args .marks .now) (c .before .before .before .before .before .before .args .region)) (c .before .before .before .before .node .ensures .b-is) (c .before .leaf10 .ensures)) (c .sooner5 .ensures)
 
 -- src/lib.rt:41:9
 leaf-node-requires : (t : ℕ) → leaf-lts.Need-node-requires (leaf-calls t) (leaf-at t) leaf.Post
@@ -157,11 +159,11 @@ leaf-pass-e-requires t c κs = (omega (arith, c .before .before .before .pre .0)
 
 -- src/lib.rt:37:1
 leaf-returns : (t : ℕ) → leaf-lts.Need-returns (leaf-calls t) (leaf-at t) leaf.Post
-leaf-returns t c = cc (variable-found (c .before .before .before .before .args .p .now .now) (c .before .before .before .before .args .i) (c .before .before .before .before .pre .1 .node) (markedIn (c .before .before .before .before .args .marks .now) (c .before .before .before .before .args .region)) (sym (c .before .before .node .ensures .kind-is) ∙ c .before .match .keys1))
+leaf-returns t c = c .needed .ensures ∙ ap (λ (x : ℕ). wrongIf (markedIn (c .before .before .before .before .args .marks .now) (c .before .before .before .before .args .region) x) x) (c .before .before .node .ensures .a-is) ∙ sym (variable-found (c .before .before .before .before .args .p .now .now) (c .before .before .before .before .args .i) (c .before .before .before .before .pre .1 .node) (markedIn (c .before .before .before .before .args .marks .now) (c .before .before .before .before .args .region)) (sym (c .before .before .node .ensures .kind-is) ∙ c .before .match .keys1))
 
 -- src/lib.rt:37:1
 leaf-returns-2 : (t : ℕ) → leaf-lts.Need-returns-2 (leaf-calls t) (leaf-at t) leaf.Post
-leaf-returns-2 t c = cc (constant-found (c .before .before .before .args .p .now .now) (c .before .before .before .args .i) (c .before .before .before .pre .1 .node) (markedIn (c .before .before .before .args .marks .now) (c .before .before .before .args .region)) (sym (c .before .node .ensures .kind-is) ∙ c .match .keys2), no-place)
+leaf-returns-2 t c = no-place ∙ sym (constant-found (c .before .before .before .args .p .now .now) (c .before .before .before .args .i) (c .before .before .before .pre .1 .node) (markedIn (c .before .before .before .args .marks .now) (c .before .before .before .args .region)) (sym (c .before .node .ensures .kind-is) ∙ c .match .keys2))
 
 -- src/lib.rt:37:1
 leaf-returns-3 : (t : ℕ) → leaf-lts.Need-returns-3 (leaf-calls t) (leaf-at t) leaf.Post

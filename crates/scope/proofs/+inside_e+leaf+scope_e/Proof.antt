@@ -2,7 +2,7 @@
 use Rattle.rules.proofs.PutBack.{put-back}
 use Rattle.places.proofs.NumberLaws.{no-place}
 use lib.ListN.{set, getD}
-use Rattle.scope.proofs.ScopeLaws.{variable-scope, constant-scope, negation-scope, just-scope, choice-scope, taking-scope, operation-scope}
+use Rattle.scope.proofs.ScopeLaws.{constant-scope, negation-scope, just-scope, variable-parts, one-part, choice-parts, taking-parts, operation-parts}
 use Rattle.rules.proofs.Expressions.{left, negation-kid, just-kid, choice-kids, taking-kids, operation-kids}
 use Rattle.rules.proofs.Kids.{Child, read}
 use Rattle.rules.specs.Scope.{mark}
@@ -108,11 +108,11 @@ leaf-scope-e-requires t c κs = (omega (arith, c .before .before .before .before
 
 -- src/lib.rt:32:1
 leaf-returns : (t : ℕ) → leaf-lts.Need-returns (leaf-calls t) (leaf-at t) leaf.Post
-leaf-returns t c = (cc (variable-scope (c .before .before .before .before .before .before .args .p .now .now) (c .before .before .before .before .before .before .args .i) (c .before .before .before .before .before .before .pre .1) (c .before .before .before .before .before .before .args .marks .now) (sym (c .before .before .before .before .node .ensures .kind-is) ∙ c .before .before .before .match .keys1)), refl)
+leaf-returns t c = (variable-parts (c .before .before .before .before .before .before .args .p .now .now) (c .before .before .before .before .before .before .args .i) (c .before .before .before .before .before .before .pre .1) (c .before .before .before .before .before .before .args .marks .now) (sym (c .before .before .before .before .node .ensures .kind-is) ∙ c .before .before .before .match .keys1) (c .before .before .before .before .node .ensures .a-is) (c .before .marked .ensures) (c .wrong-unless .ensures), refl)
 
 -- src/lib.rt:32:1
 leaf-returns-2 : (t : ℕ) → leaf-lts.Need-returns-2 (leaf-calls t) (leaf-at t) leaf.Post
-leaf-returns-2 t c = (cc (constant-scope (c .before .before .before .args .p .now .now) (c .before .before .before .args .i) (c .before .before .before .pre .1) (c .before .before .before .args .marks .now) (sym (c .before .node .ensures .kind-is) ∙ c .match .keys2), no-place), refl)
+leaf-returns-2 t c = (no-place ∙ sym (constant-scope (c .before .before .before .args .p .now .now) (c .before .before .before .args .i) (c .before .before .before .pre .1) (c .before .before .before .args .marks .now) (sym (c .before .node .ensures .kind-is) ∙ c .match .keys2)), refl)
 
 -- src/lib.rt:32:1
 leaf-returns-3 : (t : ℕ) → leaf-lts.Need-returns-3 (leaf-calls t) (leaf-at t) leaf.Post
@@ -192,31 +192,31 @@ scope-e-sooner-requires-5 t c κs = search needs
 
 -- src/lib.rt:45:1
 scope-e-returns : (t : ℕ) → scope-e-lts.Need-returns (scope-e-calls t) (scope-e-at t) scope-e.Post
-scope-e-returns t c = (cc (variable-scope (c .before .before .before .before .before .before .args .p .now .now) (c .before .before .before .before .before .before .args .i) (c .before .before .before .before .before .before .pre .1) (c .before .before .before .before .before .before .args .marks .now) (sym (c .before .before .before .before .node .ensures .kind-is) ∙ c .before .before .before .match .keys1)), refl)
+scope-e-returns t c = (variable-parts (c .before .before .before .before .before .before .args .p .now .now) (c .before .before .before .before .before .before .args .i) (c .before .before .before .before .before .before .pre .1) (c .before .before .before .before .before .before .args .marks .now) (sym (c .before .before .before .before .node .ensures .kind-is) ∙ c .before .before .before .match .keys1) (c .before .before .before .before .node .ensures .a-is) (c .before .marked .ensures) (c .wrong-unless .ensures), refl)
 
 -- src/lib.rt:45:1
 scope-e-returns-2 : (t : ℕ) → scope-e-lts.Need-returns-2 (scope-e-calls t) (scope-e-at t) scope-e.Post
-scope-e-returns-2 t c = (cc (constant-scope (c .before .before .before .args .p .now .now) (c .before .before .before .args .i) (c .before .before .before .pre .1) (c .before .before .before .args .marks .now) (sym (c .before .node .ensures .kind-is) ∙ c .match .keys2), no-place), refl)
+scope-e-returns-2 t c = (no-place ∙ sym (constant-scope (c .before .before .before .args .p .now .now) (c .before .before .before .args .i) (c .before .before .before .pre .1) (c .before .before .before .args .marks .now) (sym (c .before .node .ensures .kind-is) ∙ c .match .keys2)), refl)
 
 -- src/lib.rt:45:1
 scope-e-returns-3 : (t : ℕ) → scope-e-lts.Need-returns-3 (scope-e-calls t) (scope-e-at t) scope-e.Post
-scope-e-returns-3 t c = (cc (negation-scope (c .before .before .before .before .before .args .p .now .now) (c .before .before .before .before .before .args .i) (c .before .before .before .before .before .pre .1) (c .before .before .before .before .before .args .marks .now) (sym (c .before .before .before .node .ensures .kind-is) ∙ c .before .before .match .keys3)), c .leaf .ensures .1)
+scope-e-returns-3 t c = (one-part (c .before .before .before .before .before .args .p .now .now) (c .before .before .before .before .before .args .i) (c .before .before .before .before .before .pre .1) (c .before .before .before .before .before .args .marks .now) (negation-scope (c .before .before .before .before .before .args .p .now .now) (c .before .before .before .before .before .args .i) (c .before .before .before .before .before .pre .1) (c .before .before .before .before .before .args .marks .now) (sym (c .before .before .before .node .ensures .kind-is) ∙ c .before .before .match .keys3)) (c .before .before .before .node .ensures .a-is) (c .leaf .ensures .0), c .leaf .ensures .1)
 
 -- src/lib.rt:45:1
 scope-e-returns-4 : (t : ℕ) → scope-e-lts.Need-returns-4 (scope-e-calls t) (scope-e-at t) scope-e.Post
-scope-e-returns-4 t c = (cc (choice-scope (c .before .before .before .before .before .before .before .before .before .before .before .args .p .now .now) (c .before .before .before .before .before .before .before .before .before .before .before .args .i) (c .before .before .before .before .before .before .before .before .before .before .before .pre .1) (c .before .before .before .before .before .before .before .before .before .before .before .args .marks .now) (sym (c .before .before .before .before .before .before .before .before .before .node .ensures .kind-is) ∙ c .before .before .before .before .before .before .before .before .match .keys4)), c .before .before .leaf4 .ensures .1 ∙ c .before .before .before .before .leaf3 .ensures .1 ∙ c .before .before .before .before .before .before .leaf2 .ensures .1)
+scope-e-returns-4 t c = (choice-parts (c .before .before .before .before .before .before .before .before .before .before .before .args .p .now .now) (c .before .before .before .before .before .before .before .before .before .before .before .args .i) (c .before .before .before .before .before .before .before .before .before .before .before .pre .1) (c .before .before .before .before .before .before .before .before .before .before .before .args .marks .now) (sym (c .before .before .before .before .before .before .before .before .before .node .ensures .kind-is) ∙ c .before .before .before .before .before .before .before .before .match .keys4) (c .before .before .before .before .before .before .before .before .before .node .ensures .a-is) (c .before .before .before .before .before .before .before .before .before .node .ensures .b-is) (c .before .before .before .before .before .before .before .before .before .node .ensures .c-is) (c .before .before .before .before .before .before .leaf2 .ensures .0) (c .before .before .before .before .before .before .leaf2 .ensures .1) (c .before .before .before .before .leaf3 .ensures .0) (c .before .before .before .before .leaf3 .ensures .1) (c .before .before .leaf4 .ensures .0) (c .before .sooner .ensures) (c .sooner2 .ensures), c .before .before .leaf4 .ensures .1 ∙ c .before .before .before .before .leaf3 .ensures .1 ∙ c .before .before .before .before .before .before .leaf2 .ensures .1)
 
 -- src/lib.rt:45:1
 scope-e-returns-5 : (t : ℕ) → scope-e-lts.Need-returns-5 (scope-e-calls t) (scope-e-at t) scope-e.Post
-scope-e-returns-5 t c = (cc (just-scope (c .before .before .before .before .before .args .p .now .now) (c .before .before .before .before .before .args .i) (c .before .before .before .before .before .pre .1) (c .before .before .before .before .before .args .marks .now) (sym (c .before .before .before .node .ensures .kind-is) ∙ c .before .before .match .keys5)), c .leaf5 .ensures .1)
+scope-e-returns-5 t c = (one-part (c .before .before .before .before .before .args .p .now .now) (c .before .before .before .before .before .args .i) (c .before .before .before .before .before .pre .1) (c .before .before .before .before .before .args .marks .now) (just-scope (c .before .before .before .before .before .args .p .now .now) (c .before .before .before .before .before .args .i) (c .before .before .before .before .before .pre .1) (c .before .before .before .before .before .args .marks .now) (sym (c .before .before .before .node .ensures .kind-is) ∙ c .before .before .match .keys5)) (c .before .before .before .node .ensures .a-is) (c .leaf5 .ensures .0), c .leaf5 .ensures .1)
 
 -- src/lib.rt:45:1
 scope-e-returns-6 : (t : ℕ) → scope-e-lts.Need-returns-6 (scope-e-calls t) (scope-e-at t) scope-e.Post
-scope-e-returns-6 t c = (cc (taking-scope (c .before .before .before .before .before .before .before .before .before .before .before .args .p .now .now) (c .before .before .before .before .before .before .before .before .before .before .before .args .i) (c .before .before .before .before .before .before .before .before .before .before .before .pre .1) (c .before .before .before .before .before .before .before .before .before .before .before .args .marks .now) (sym (c .before .before .before .before .before .before .before .before .before .node .ensures .kind-is) ∙ c .before .before .before .before .before .before .before .before .match .keys6)), c .before .before .inside-e .ensures .1 ∙ c .before .before .before .before .leaf7 .ensures .1 ∙ c .before .before .before .before .before .before .leaf6 .ensures .1)
+scope-e-returns-6 t c = (taking-parts (c .before .before .before .before .before .before .before .before .before .before .before .args .p .now .now) (c .before .before .before .before .before .before .before .before .before .before .before .args .i) (c .before .before .before .before .before .before .before .before .before .before .before .pre .1) (c .before .before .before .before .before .before .before .before .before .before .before .args .marks .now) (sym (c .before .before .before .before .before .before .before .before .before .node .ensures .kind-is) ∙ c .before .before .before .before .before .before .before .before .match .keys6) (c .before .before .before .before .before .before .before .before .before .node .ensures .a-is) (c .before .before .before .before .before .before .before .before .before .node .ensures .b-is) (c .before .before .before .before .before .before .before .before .before .node .ensures .c-is) (c .before .before .before .before .before .before .leaf6 .ensures .0) (c .before .before .before .before .before .before .leaf6 .ensures .1) (c .before .before .before .before .leaf7 .ensures .0) (c .before .before .before .before .leaf7 .ensures .1) (c .before .before .inside-e .ensures .0) (c .before .sooner3 .ensures) (c .sooner4 .ensures), c .before .before .inside-e .ensures .1 ∙ c .before .before .before .before .leaf7 .ensures .1 ∙ c .before .before .before .before .before .before .leaf6 .ensures .1)
 
 -- src/lib.rt:45:1
 scope-e-returns-7 : (t : ℕ) → scope-e-lts.Need-returns-7 (scope-e-calls t) (scope-e-at t) scope-e.Post
-scope-e-returns-7 t c = (cc (operation-scope (c .before .before .before .before .before .before .before .before .args .p .now .now) (c .before .before .before .before .before .before .before .before .args .i) (c .before .before .before .before .before .before .before .before .pre .1) (c .before .before .before .before .before .before .before .before .args .marks .now) (left (c .before .before .before .before .before .before .node .ensures .kind-is) (c .before .before .before .before .before .match .rest))), c .before .leaf9 .ensures .1 ∙ c .before .before .before .leaf8 .ensures .1)
+scope-e-returns-7 t c = (operation-parts (c .before .before .before .before .before .before .before .before .args .p .now .now) (c .before .before .before .before .before .before .before .before .args .i) (c .before .before .before .before .before .before .before .before .pre .1) (c .before .before .before .before .before .before .before .before .args .marks .now) (left (c .before .before .before .before .before .before .node .ensures .kind-is) (c .before .before .before .before .before .match .rest)) (c .before .before .before .before .before .before .node .ensures .a-is) (c .before .before .before .before .before .before .node .ensures .b-is) (c .before .before .before .leaf8 .ensures .0) (c .before .before .before .leaf8 .ensures .1) (c .before .leaf9 .ensures .0) (c .sooner5 .ensures), c .before .leaf9 .ensures .1 ∙ c .before .before .before .leaf8 .ensures .1)
 
 pub +inside-e+leaf+scope-e-spec : {M : Type 1} → statement M
 +inside-e+leaf+scope-e-spec = close μ-inside-e μ-leaf μ-scope-e (λ t. inside-e-lts.spec (inside-e-calls t) (inside-e-at t)

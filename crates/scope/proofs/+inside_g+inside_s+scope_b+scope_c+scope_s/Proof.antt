@@ -1,4 +1,4 @@
-use Rattle.scope.proofs.ByParts.{let-parts, switch-parts, group-parts, last-case-parts, more-case-parts}
+use Rattle.scope.proofs.ByParts.{ext-part, delay-part, until-parts, last-branch-parts, more-branch-parts, let-parts, switch-parts, group-parts, last-case-parts, more-case-parts}
 use mathlib.Core.Path.{_≡_, refl, sym, ap, _∙_}
 use native.Mathlib.Omega.{arith}
 use borrow.Author.Needs.{needs}
@@ -11,7 +11,7 @@ use Rattle.rules.proofs.Kids.{Child, read}
 use Rattle.rules.proofs.Signals.{ext-kid, delay-kid, let-kids, switch-kids, group-kids, until-kids, branch-kid, branch-next, case-kid, case-next}
 use Rattle.scope.specs.Open.{offersBelow}
 use Rattle.scope.proofs.DoorLaws.{has-edition, left-as, at-part, at-end, ended, first-small, at-inside, at-all, inside-offers}
-use Rattle.scope.proofs.SignalScope.{ext-scope, delay-scope, let-scope, switch-scope, group-scope, until-scope, leaf-scope, branch-last-scope, branch-more-scope, case-last-scope, case-more-scope}
+use Rattle.scope.proofs.SignalScope.{leaf-scope}
 use Rattle.places.proofs.NumberLaws.{no-place}
 use Rattle.rules.proofs.PutBack.{put-back}
 use Prim.Native.Nat.{ℕ, _<_}
@@ -186,7 +186,7 @@ scope-b-sooner-requires t c κs = search needs
 
 -- src/lib.rt:215:9
 scope-b-returns : (t : ℕ) → scope-b-lts.Need-returns (scope-b-calls t) (scope-b-at t) scope-b.Post
-scope-b-returns t c = (cc (branch-last-scope (edition (c .before .before .before .before .before .before .before .before .args .p .now .now)) (c .before .before .before .before .before .before .before .before .args .p .now .now) (c .before .before .before .before .before .before .before .before .args .j) (c .before .before .before .before .before .before .before .before .pre .1 .0) (c .before .before .before .before .before .before .before .before .args .marks .now) (offersBelow (c .before .before .before .before .before .before .before .before .args .p .now .now) (c .before .before .before .before .before .before .before .before .args .doors .now) (c .before .before .before .before .before .before .before .before .args .limit)) (sym (c .before .before .before .before .before .before .node .ensures .b-is) ∙ c .before .if1 .taken), no-place), c .before .before .before .inside-s .ensures .1, c .before .before .before .inside-s .ensures .2)
+scope-b-returns t c = (last-branch-parts (c .before .before .before .before .before .before .before .before .args .marks .now) (c .before .before .before .before .before .before .before .before .pre .1 .1) (c .before .before .before .before .before .before .before .before .pre .1 .0) (sym (c .before .before .before .before .before .before .node .ensures .b-is) ∙ c .before .if1 .taken) (c .before .before .before .before .before .before .node .ensures .a-is) (c .before .before .before .inside-s .ensures .0) no-place (c .sooner .ensures), c .before .before .before .inside-s .ensures .1, c .before .before .before .inside-s .ensures .2)
 
 -- src/lib.rt:217:9
 scope-b-scope-b-requires : (t : ℕ) → scope-b-lts.Need-scope-b-requires (scope-b-calls t) (scope-b-at t) scope-b.Post
@@ -198,7 +198,7 @@ scope-b-sooner-requires-2 t c κs = search needs
 
 -- src/lib.rt:208:1
 scope-b-returns-2 : (t : ℕ) → scope-b-lts.Need-returns-2 (scope-b-calls t) (scope-b-at t) scope-b.Post
-scope-b-returns-2 t c = (cc (branch-more-scope (edition (c .before .before .before .before .before .before .before .before .before .before .before .args .p .now .now)) (c .before .before .before .before .before .before .before .before .before .before .before .args .p .now .now) (c .before .before .before .before .before .before .before .before .before .before .before .args .j) (c .before .before .before .before .before .before .before .before .before .before .before .pre .1 .0) (c .before .before .before .before .before .before .before .before .before .before .before .args .marks .now) (offersBelow (c .before .before .before .before .before .before .before .before .before .before .before .args .p .now .now) (c .before .before .before .before .before .before .before .before .before .before .before .args .doors .now) (c .before .before .before .before .before .before .before .before .before .before .before .args .limit)) (λ h. c .before .before .before .before .if1 .left (c .before .before .before .before .before .before .before .before .before .node .ensures .b-is ∙ h))), c .before .scope-b .ensures .1 ∙ c .before .before .before .before .before .before .inside-s .ensures .1, c .before .scope-b .ensures .2 ∙ c .before .before .before .before .before .before .inside-s .ensures .2)
+scope-b-returns-2 t c = (more-branch-parts (c .before .before .before .before .before .before .before .before .before .before .before .args .marks .now) (c .before .before .before .before .before .before .before .before .before .before .before .pre .1 .1) (c .before .before .before .before .before .before .before .before .before .before .before .pre .1 .0) (λ h. c .before .before .before .before .if1 .left (c .before .before .before .before .before .before .before .before .before .node .ensures .b-is ∙ h)) (c .before .before .before .before .before .before .before .before .before .node .ensures .a-is) (c .before .before .before .before .before .before .before .before .before .node .ensures .b-is) (c .before .before .before .before .before .before .inside-s .ensures .0) (c .before .before .before .before .before .before .inside-s .ensures .1) (c .before .before .before .before .before .before .inside-s .ensures .2) (c .before .scope-b .ensures .0) (c .sooner2 .ensures), c .before .scope-b .ensures .1 ∙ c .before .before .before .before .before .before .inside-s .ensures .1, c .before .scope-b .ensures .2 ∙ c .before .before .before .before .before .before .inside-s .ensures .2)
 
 abbrev scope-c-calls : ℕ → scope-c-lts.Claims
 scope-c-calls t = (node-reads.Asked, node-reads.Learnt, offered-reads.Asked, offered-reads.Learnt, wrong-unless-reads.Asked, wrong-unless-reads.Learnt, scope-s-below t, scope-s.Post, sooner-reads.Asked, sooner-reads.Learnt, scope-c-below t, scope-c.Post)
@@ -312,11 +312,11 @@ scope-s-sooner-requires-4 t c κs = search needs
 
 -- src/lib.rt:128:1
 scope-s-returns : (t : ℕ) → scope-s-lts.Need-returns (scope-s-calls t) (scope-s-at t) scope-s.Post
-scope-s-returns t c = (cc (ext-scope (edition (c .before .before .before .before .before .args .p .now .now)) (c .before .before .before .before .before .args .p .now .now) (c .before .before .before .before .before .args .i) (c .before .before .before .before .before .pre .1 .0) (c .before .before .before .before .before .args .marks .now) (offersBelow (c .before .before .before .before .before .args .p .now .now) (c .before .before .before .before .before .args .doors .now) (c .before .before .before .before .before .args .limit)) (sym (c .before .before .before .node .ensures .kind-is) ∙ c .before .before .match .keys1)), c .scope-e .ensures .1, refl)
+scope-s-returns t c = (ext-part (c .before .before .before .before .before .args .marks .now) (c .before .before .before .before .before .pre .1 .1) (c .before .before .before .before .before .pre .1 .0) (sym (c .before .before .before .node .ensures .kind-is) ∙ c .before .before .match .keys1) (c .before .before .before .node .ensures .a-is) (c .scope-e .ensures .0), c .scope-e .ensures .1, refl)
 
 -- src/lib.rt:128:1
 scope-s-returns-2 : (t : ℕ) → scope-s-lts.Need-returns-2 (scope-s-calls t) (scope-s-at t) scope-s.Post
-scope-s-returns-2 t c = (cc (delay-scope (edition (c .before .before .before .before .before .before .args .p .now .now)) (c .before .before .before .before .before .before .args .p .now .now) (c .before .before .before .before .before .before .args .i) (c .before .before .before .before .before .before .pre .1 .0) (c .before .before .before .before .before .before .args .marks .now) (offersBelow (c .before .before .before .before .before .before .args .p .now .now) (c .before .before .before .before .before .before .args .doors .now) (c .before .before .before .before .before .before .args .limit)) (sym (c .before .before .before .before .node .ensures .kind-is) ∙ c .before .before .before .match .keys2), ended (c .before .before .before .before .before .before .pre .1 .1)), c .scope-s .ensures .1, c .scope-s .ensures .2)
+scope-s-returns-2 t c = (delay-part (c .before .before .before .before .before .before .args .marks .now) (c .before .before .before .before .before .before .pre .1 .1) (c .before .before .before .before .before .before .pre .1 .0) (sym (c .before .before .before .before .node .ensures .kind-is) ∙ c .before .before .before .match .keys2) (c .before .before .before .before .node .ensures .a-is) (c .scope-s .ensures .0), c .scope-s .ensures .1, c .scope-s .ensures .2)
 
 -- src/lib.rt:128:1
 scope-s-returns-3 : (t : ℕ) → scope-s-lts.Need-returns-3 (scope-s-calls t) (scope-s-at t) scope-s.Post
@@ -332,11 +332,11 @@ scope-s-returns-5 t c = c .inside-g .ensures
 
 -- src/lib.rt:128:1
 scope-s-returns-6 : (t : ℕ) → scope-s-lts.Need-returns-6 (scope-s-calls t) (scope-s-at t) scope-s.Post
-scope-s-returns-6 t c = (cc (until-scope (edition (c .before .before .before .before .before .before .before .before .before .before .args .p .now .now)) (c .before .before .before .before .before .before .before .before .before .before .args .p .now .now) (c .before .before .before .before .before .before .before .before .before .before .args .i) (c .before .before .before .before .before .before .before .before .before .before .pre .1 .0) (c .before .before .before .before .before .before .before .before .before .before .args .marks .now) (offersBelow (c .before .before .before .before .before .before .before .before .before .before .args .p .now .now) (c .before .before .before .before .before .before .before .before .before .before .args .doors .now) (c .before .before .before .before .before .before .before .before .before .before .args .limit)) (sym (c .before .before .before .before .before .before .before .before .node .ensures .kind-is) ∙ c .before .before .before .before .before .before .before .match .keys6), ended (c .before .before .before .before .before .before .before .before .before .before .pre .1 .1)), c .before .scope-c .ensures .1 ∙ c .before .before .before .before .scope-s4 .ensures .1, c .before .scope-c .ensures .2 ∙ c .before .before .before .before .scope-s4 .ensures .2)
+scope-s-returns-6 t c = (until-parts (c .before .before .before .before .before .before .before .before .before .before .args .marks .now) (c .before .before .before .before .before .before .before .before .before .before .pre .1 .1) (c .before .before .before .before .before .before .before .before .before .before .pre .1 .0) (sym (c .before .before .before .before .before .before .before .before .node .ensures .kind-is) ∙ c .before .before .before .before .before .before .before .match .keys6) (c .before .before .before .before .before .before .before .before .node .ensures .a-is) (c .before .before .before .before .before .before .before .before .node .ensures .b-is) (c .before .before .before .before .scope-s4 .ensures .0) (c .before .before .before .before .scope-s4 .ensures .1) (c .before .before .before .before .scope-s4 .ensures .2) (c .before .scope-c .ensures .0) (c .sooner4 .ensures), c .before .scope-c .ensures .1 ∙ c .before .before .before .before .scope-s4 .ensures .1, c .before .scope-c .ensures .2 ∙ c .before .before .before .before .scope-s4 .ensures .2)
 
 -- src/lib.rt:128:1
 scope-s-returns-7 : (t : ℕ) → scope-s-lts.Need-returns-7 (scope-s-calls t) (scope-s-at t) scope-s.Post
-scope-s-returns-7 t c = (cc (leaf-scope (edition (c .before .before .before .args .p .now .now)) (c .before .before .before .args .p .now .now) (c .before .before .before .args .i) (c .before .before .before .pre .1 .0) (c .before .before .before .args .marks .now) (offersBelow (c .before .before .before .args .p .now .now) (c .before .before .before .args .doors .now) (c .before .before .before .args .limit)) (c .before .node .ensures .kind-is) (c .match .rest), no-place), refl, refl)
+scope-s-returns-7 t c = (no-place ∙ sym (leaf-scope (edition (c .before .before .before .args .p .now .now)) (c .before .before .before .args .p .now .now) (c .before .before .before .args .i) (c .before .before .before .pre .1 .0) (c .before .before .before .args .marks .now) (offersBelow (c .before .before .before .args .p .now .now) (c .before .before .before .args .doors .now) (c .before .before .before .args .limit)) (c .before .node .ensures .kind-is) (c .match .rest)), refl, refl)
 
 pub +inside-g+inside-s+scope-b+scope-c+scope-s-spec : {M : Type 1} → statement M
 +inside-g+inside-s+scope-b+scope-c+scope-s-spec =

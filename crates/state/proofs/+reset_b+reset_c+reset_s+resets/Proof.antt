@@ -18,7 +18,7 @@ use Rattle.state.proofs.+reset_b+reset_c+reset_s+resets.Lts-reset_c as 
 use Rattle.state.proofs.reset_s.Reads as reset-s
 use Rattle.state.proofs.reset_s.Kinds as reset-s-kinds
 use Rattle.state.proofs.+reset_b+reset_c+reset_s+resets.Lts-reset_s as reset-s-lts
-use Rattle.state.proofs.first_value.Reads as first-value-reads
+use Rattle.cells.proofs.value_by.Reads as value-by-reads
 use Rattle.state.proofs.set_own.Reads as set-own-reads
 use Rattle.cells.proofs.node_by.Reads as node-by-reads
 use Rattle.state.proofs.+reset_b+reset_c+reset_s+resets.{statement}
@@ -71,7 +71,7 @@ abbrev reset-c-calls : ℕ → reset-c-lts.Claims
 reset-c-calls t = (node-by-reads.Asked, node-by-reads.Learnt, resets-below t, resets.Post, reset-c-below t, reset-c.Post)
 
 abbrev reset-s-calls : ℕ → reset-s-lts.Claims
-reset-s-calls t = (node-by-reads.Asked, node-by-reads.Learnt, first-value-reads.Asked, first-value-reads.Learnt, set-own-reads.Asked, set-own-reads.Learnt, resets-below t, resets.Post, reset-b-below t, reset-b.Post, reset-c-below t, reset-c.Post)
+reset-s-calls t = (node-by-reads.Asked, node-by-reads.Learnt, value-by-reads.Asked, value-by-reads.Learnt, set-own-reads.Asked, set-own-reads.Learnt, resets-below t, resets.Post, reset-b-below t, reset-b.Post, reset-c-below t, reset-c.Post)
 
 abbrev resets-calls : ℕ → resets-lts.Claims
 resets-calls t = (kind-by-reads.Asked, kind-by-reads.Learnt, reset-s-below t, reset-s.Post)
@@ -165,21 +165,23 @@ reset-s-node-by-requires t c κs =
     (w .indexed, w .node .shaped, w .node .inside)
 
 -- src/lib.rt:69:35
-reset-s-first-value-requires : (t : ℕ) → reset-s-lts.Need-first-value-requires (reset-s-calls t) (reset-s-at t) reset-s.Post
-reset-s-first-value-requires t c κs = search needs
+reset-s-value-by-requires : (t : ℕ) → reset-s-lts.Need-value-by-requires (reset-s-calls t) (reset-s-at t) reset-s.Post
+reset-s-value-by-requires t c κs =
+    let w = c .before .before .before .before .before .before .before .pre .1 in
+    (w .indexed, w .node .shaped, w .node .inside)
 
 -- src/lib.rt:69:13
 reset-s-set-own-requires : (t : ℕ) → reset-s-lts.Need-set-own-requires (reset-s-calls t) (reset-s-at t) reset-s.Post
 reset-s-set-own-requires t c κs =
-    let s = c .before .before .before .before .before .before .before in
-    own-delay (s .args .p .now .now) (s .args .index .now) _ (s .args .i) (s .pre .1) (sym (c .before .before .before .before .node-by .ensures .kind-is) ∙ c .before .before .before .match .keys1)
+    let s = c .before .before .before .before .before .before .before .before in
+    own-delay (s .args .p .now .now) (s .args .index .now) _ (s .args .i) (s .pre .1) (sym (c .before .before .before .before .before .node-by .ensures .kind-is) ∙ c .before .before .before .before .match .keys1)
 
 -- src/lib.rt:70:13
 reset-s-resets-requires : (t : ℕ) → reset-s-lts.Need-resets-requires (reset-s-calls t) (reset-s-at t) reset-s.Post
 reset-s-resets-requires t c κs =
-    let s = c .before .before .before .before .before .before .before .before .before .before .before in
-    let node = c .before .before .before .before .before .before .before .before .node-by .ensures in
-    let k = read (node .a-is) (delay-kid (s .args .p .now .now) (s .args .i) (s .pre .1 .node) (sym (node .kind-is) ∙ c .before .before .before .before .before .before .before .match .keys1)) in
+    let s = c .before .before .before .before .before .before .before .before .before .before .before .before in
+    let node = c .before .before .before .before .before .before .before .before .before .node-by .ensures in
+    let k = read (node .a-is) (delay-kid (s .args .p .now .now) (s .args .i) (s .pre .1 .node) (sym (node .kind-is) ∙ c .before .before .before .before .before .before .before .before .match .keys1)) in
     (omega (arith, k .less, s .pre .0), carried (s .pre .1) (c .before .before .before .set-own .kept .1 .0) k)
 
 -- src/lib.rt:73:13
@@ -273,8 +275,8 @@ reset-s-same-length t c = c .before .before .resets .kept .1 .1 .0 ∙ c .before
 -- src/lib.rt:61:1
 reset-s-returns : (t : ℕ) → reset-s-lts.Need-returns (reset-s-calls t) (reset-s-at t) reset-s.Post
 reset-s-returns t c =
-    let s = c .before .before .before .before .before .before .before .before .before .before .before .before .before .before in
-    cc (delay-reset (s .args .p .now .now) (s .args .index .now) _ (s .args .i) (s .pre .1) (s .args .st .now) (sym (c .before .before .before .before .before .before .before .before .before .before .before .node-by .ensures .kind-is) ∙ c .before .before .before .before .before .before .before .before .before .before .match .keys1))
+    let s = c .before .before .before .before .before .before .before .before .before .before .before .before .before .before .before in
+    cc (delay-reset (s .args .p .now .now) (s .args .index .now) _ (s .args .i) (s .pre .1) (s .args .st .now) (sym (c .before .before .before .before .before .before .before .before .before .before .before .before .node-by .ensures .kind-is) ∙ c .before .before .before .before .before .before .before .before .before .before .before .match .keys1))
 
 -- src/lib.rt:61:1
 reset-s-same-length-2 : (t : ℕ) → reset-s-lts.Need-same-length-2 (reset-s-calls t) (reset-s-at t) reset-s.Post
@@ -365,7 +367,7 @@ pub +reset-b+reset-c+reset-s+resets-spec : {M : Type 1} → statement M
     (λ t. reset-s-lts.spec (reset-s-calls t) (reset-s-at t)
     reset-s.Post
     (reset-s-node-by-requires t)
-    (reset-s-first-value-requires t)
+    (reset-s-value-by-requires t)
     (reset-s-set-own-requires t)
     (reset-s-resets-requires t)
     (reset-s-resets-requires-2 t)

@@ -1,4 +1,4 @@
-use Rattle.typing.proofs.ExprLaws.{variable-typed, constant-typed, negation-typed, just-typed, choice-typed, taking-typed, operation-typed}
+use Rattle.typing.proofs.ExprLaws.{variable-said, constant-said, negation-said, just-said, choice-said, taking-said, operation-said}
 use Rattle.rules.proofs.Expressions.{left, IsOperation, negation-kid, just-kid, choice-kids, taking-kids, operation-kids}
 use Rattle.rules.proofs.Kids.{Child, read}
 use mathlib.Core.Path.{_≡_, refl, sym, ap, _∙_}
@@ -69,11 +69,11 @@ leaf-type-e-requires t c κs = (omega (arith, c .before .before .before .pre .0)
 
 -- src/lib.rt:216:1
 leaf-returns : (t : ℕ) → leaf-lts.Need-returns (leaf-calls t) (leaf-at t) leaf.Post
-leaf-returns t c = let e = variable-typed (c .before .before .before .before .before .before .args .p .now .now) (c .before .before .before .before .before .before .args .i) (c .before .before .before .before .before .before .pre .1) (sym (c .before .before .before .before .node .ensures .kind-is) ∙ c .before .before .before .match .keys1) in (cc (e .0), cc (e .1, no-place))
+leaf-returns t c = variable-said (c .before .before .before .before .before .before .args .p .now .now) (c .before .before .before .before .before .before .args .i) (c .before .before .before .before .before .before .pre .1) (sym (c .before .before .before .before .node .ensures .kind-is) ∙ c .before .before .before .match .keys1) (c .before .before .before .before .node .ensures .a-is) (c .before .declared .ensures) no-place (c .typed-at .ensures)
 
 -- src/lib.rt:216:1
 leaf-returns-2 : (t : ℕ) → leaf-lts.Need-returns-2 (leaf-calls t) (leaf-at t) leaf.Post
-leaf-returns-2 t c = let e = constant-typed (c .before .before .before .before .args .p .now .now) (c .before .before .before .before .args .i) (c .before .before .before .before .pre .1) (sym (c .before .before .node .ensures .kind-is) ∙ c .before .match .keys2) in (cc (e .0), cc (e .1, no-place))
+leaf-returns-2 t c = constant-said (c .before .before .before .before .args .p .now .now) (c .before .before .before .before .args .i) (c .before .before .before .before .pre .1) (sym (c .before .before .node .ensures .kind-is) ∙ c .before .match .keys2) (c .before .before .node .ensures .type-is) no-place (c .typed-at2 .ensures)
 
 -- src/lib.rt:216:1
 leaf-returns-3 : (t : ℕ) → leaf-lts.Need-returns-3 (leaf-calls t) (leaf-at t) leaf.Post
@@ -155,31 +155,31 @@ type-e-operation-requires t c κs = omega (arith, c .before .before .before .bef
 
 -- src/lib.rt:235:1
 type-e-returns : (t : ℕ) → type-e-lts.Need-returns (type-e-calls t) (type-e-at t) type-e.Post
-type-e-returns t c = let e = variable-typed (c .before .before .before .before .before .before .args .p .now .now) (c .before .before .before .before .before .before .args .i) (c .before .before .before .before .before .before .pre .1) (sym (c .before .before .before .before .node .ensures .kind-is) ∙ c .before .before .before .match .keys1) in (cc (e .0), cc (e .1, no-place))
+type-e-returns t c = variable-said (c .before .before .before .before .before .before .args .p .now .now) (c .before .before .before .before .before .before .args .i) (c .before .before .before .before .before .before .pre .1) (sym (c .before .before .before .before .node .ensures .kind-is) ∙ c .before .before .before .match .keys1) (c .before .before .before .before .node .ensures .a-is) (c .before .declared .ensures) no-place (c .typed-at .ensures)
 
 -- src/lib.rt:235:1
 type-e-returns-2 : (t : ℕ) → type-e-lts.Need-returns-2 (type-e-calls t) (type-e-at t) type-e.Post
-type-e-returns-2 t c = let e = constant-typed (c .before .before .before .before .args .p .now .now) (c .before .before .before .before .args .i) (c .before .before .before .before .pre .1) (sym (c .before .before .node .ensures .kind-is) ∙ c .before .match .keys2) in (cc (e .0), cc (e .1, no-place))
+type-e-returns-2 t c = constant-said (c .before .before .before .before .args .p .now .now) (c .before .before .before .before .args .i) (c .before .before .before .before .pre .1) (sym (c .before .before .node .ensures .kind-is) ∙ c .before .match .keys2) (c .before .before .node .ensures .type-is) no-place (c .typed-at2 .ensures)
 
 -- src/lib.rt:235:1
 type-e-returns-3 : (t : ℕ) → type-e-lts.Need-returns-3 (type-e-calls t) (type-e-at t) type-e.Post
-type-e-returns-3 t c = let e = negation-typed (c .before .before .before .before .before .args .p .now .now) (c .before .before .before .before .before .args .i) (c .before .before .before .before .before .pre .1) (sym (c .before .before .before .node .ensures .kind-is) ∙ c .before .before .match .keys3) in (cc (e .0), cc (e .1))
+type-e-returns-3 t c = negation-said (c .before .before .before .before .before .args .p .now .now) (c .before .before .before .before .before .args .i) (c .before .before .before .before .before .pre .1) (sym (c .before .before .before .node .ensures .kind-is) ∙ c .before .before .match .keys3) (c .before .before .before .node .ensures .a-is) (c .before .leaf .ensures) (c .negation .ensures)
 
 -- src/lib.rt:235:1
 type-e-returns-4 : (t : ℕ) → type-e-lts.Need-returns-4 (type-e-calls t) (type-e-at t) type-e.Post
-type-e-returns-4 t c = let e = choice-typed (c .before .before .before .before .before .before .before .args .p .now .now) (c .before .before .before .before .before .before .before .args .i) (c .before .before .before .before .before .before .before .pre .1) (sym (c .before .before .before .before .before .node .ensures .kind-is) ∙ c .before .before .before .before .match .keys4) in (cc (e .0), cc (e .1))
+type-e-returns-4 t c = choice-said (c .before .before .before .before .before .before .before .args .p .now .now) (c .before .before .before .before .before .before .before .args .i) (c .before .before .before .before .before .before .before .pre .1) (sym (c .before .before .before .before .before .node .ensures .kind-is) ∙ c .before .before .before .before .match .keys4) (c .before .before .before .before .before .node .ensures .a-is) (c .before .before .before .before .before .node .ensures .b-is) (c .before .before .before .before .before .node .ensures .c-is) (c .before .before .before .leaf2 .ensures) (c .before .before .leaf3 .ensures) (c .before .leaf4 .ensures) (c .choice .ensures)
 
 -- src/lib.rt:235:1
 type-e-returns-5 : (t : ℕ) → type-e-lts.Need-returns-5 (type-e-calls t) (type-e-at t) type-e.Post
-type-e-returns-5 t c = let e = just-typed (c .before .before .before .before .before .args .p .now .now) (c .before .before .before .before .before .args .i) (c .before .before .before .before .before .pre .1) (sym (c .before .before .before .node .ensures .kind-is) ∙ c .before .before .match .keys5) in (cc (e .0), cc (e .1))
+type-e-returns-5 t c = just-said (c .before .before .before .before .before .args .p .now .now) (c .before .before .before .before .before .args .i) (c .before .before .before .before .before .pre .1) (sym (c .before .before .before .node .ensures .kind-is) ∙ c .before .before .match .keys5) (c .before .before .before .node .ensures .a-is) (c .before .leaf5 .ensures) (c .justly .ensures)
 
 -- src/lib.rt:235:1
 type-e-returns-6 : (t : ℕ) → type-e-lts.Need-returns-6 (type-e-calls t) (type-e-at t) type-e.Post
-type-e-returns-6 t c = let e = taking-typed (c .before .before .before .before .before .before .before .args .p .now .now) (c .before .before .before .before .before .before .before .args .i) (c .before .before .before .before .before .before .before .pre .1) (sym (c .before .before .before .before .before .node .ensures .kind-is) ∙ c .before .before .before .before .match .keys6) in (cc (e .0), cc (e .1))
+type-e-returns-6 t c = taking-said (c .before .before .before .before .before .before .before .args .p .now .now) (c .before .before .before .before .before .before .before .args .i) (c .before .before .before .before .before .before .before .pre .1) (sym (c .before .before .before .before .before .node .ensures .kind-is) ∙ c .before .before .before .before .match .keys6) (c .before .before .before .before .before .node .ensures .type-is) (c .before .before .before .before .before .node .ensures .a-is) (c .before .before .before .before .before .node .ensures .b-is) (c .before .before .before .before .before .node .ensures .c-is) (c .before .before .before .leaf6 .ensures) (c .before .before .leaf7 .ensures) (c .before .leaf8 .ensures) (c .taking .ensures)
 
 -- src/lib.rt:235:1
 type-e-returns-7 : (t : ℕ) → type-e-lts.Need-returns-7 (type-e-calls t) (type-e-at t) type-e.Post
-type-e-returns-7 t c = let e = operation-typed (c .before .before .before .before .before .before .args .p .now .now) (c .before .before .before .before .before .before .args .i) (c .before .before .before .before .before .before .pre .1) (left (c .before .before .before .before .node .ensures .kind-is) (c .before .before .before .match .rest)) in (cc (e .0), cc (e .1))
+type-e-returns-7 t c = operation-said (c .before .before .before .before .before .before .args .p .now .now) (c .before .before .before .before .before .before .args .i) (c .before .before .before .before .before .before .pre .1) (left (c .before .before .before .before .node .ensures .kind-is) (c .before .before .before .match .rest)) (c .before .before .before .before .node .ensures .kind-is) (c .before .before .before .before .node .ensures .a-is) (c .before .before .before .before .node .ensures .b-is) (c .before .before .leaf9 .ensures) (c .before .leaf10 .ensures) (c .operation .ensures)
 
 pub +leaf+type-e-spec : {M : Type 1} → statement M
 +leaf+type-e-spec = close μ-leaf μ-type-e (λ t. leaf-lts.spec (leaf-calls t) (leaf-at t)

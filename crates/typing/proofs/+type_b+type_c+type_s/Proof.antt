@@ -1,4 +1,4 @@
-use Rattle.typing.proofs.SignalLaws.{input-typed, ext-typed, delay-typed, let-typed, switch-typed, group-typed, until-typed, time-typed, branch-last, branch-more, case-last, case-more}
+use Rattle.typing.proofs.SignalLaws.{input-said, ext-said, delay-said, let-said, switch-said, group-said, until-said, time-said, last-said, more-said, last-case-said, more-case-said}
 use Rattle.rules.proofs.Signals.{ext-kid, delay-kid, let-kids, switch-kids, group-kids, until-kids, time-left, branch-kid, branch-next, case-kid, case-next}
 use Rattle.rules.proofs.Kids.{Child, read}
 use mathlib.Core.Path.{_≡_, refl, sym, ap, _∙_}
@@ -100,7 +100,7 @@ type-b-bodies-requires t c κs = search needs
 
 -- src/lib.rt:326:9
 type-b-returns : (t : ℕ) → type-b-lts.Need-returns (type-b-calls t) (type-b-at t) type-b.Post
-type-b-returns t c = let e = branch-last (c .before .before .before .before .before .before .before .before .before .before .args .p .now .now) (c .before .before .before .before .before .before .before .before .before .before .args .j) (c .before .before .before .before .before .before .before .before .before .before .pre .1) (c .before .before .before .before .before .before .before .before .before .before .args .t) (sym (c .before .before .before .before .before .before .before .before .node .ensures .b-is) ∙ c .before .before .before .before .if1 .taken) in (cc (e .0), cc (e .1, no-place))
+type-b-returns t c = last-said (c .before .before .before .before .before .before .before .before .before .before .args .p .now .now) (c .before .before .before .before .before .before .before .before .before .before .args .j) (c .before .before .before .before .before .before .before .before .before .before .pre .1) (c .before .before .before .before .before .before .before .before .before .before .args .t) (sym (c .before .before .before .before .before .before .before .before .node .ensures .b-is) ∙ c .before .before .before .before .if1 .taken) (c .before .before .before .before .before .before .before .before .node .ensures .a-is) (c .before .before .before .before .before .before .before .type-s .ensures) (c .before .before .before .before .before .before .place-in .ensures) (c .before .before .before .type-in .ensures) (c .before .before .both .ensures) no-place (c .before .sooner .ensures) (c .bodies .ensures)
 
 -- src/lib.rt:331:9
 type-b-type-b-requires : (t : ℕ) → type-b-lts.Need-type-b-requires (type-b-calls t) (type-b-at t) type-b.Post
@@ -128,7 +128,7 @@ type-b-bodies-requires-2 t c κs = search needs
 
 -- src/lib.rt:318:1
 type-b-returns-2 : (t : ℕ) → type-b-lts.Need-returns-2 (type-b-calls t) (type-b-at t) type-b.Post
-type-b-returns-2 t c = let e = branch-more (c .before .before .before .before .before .before .before .before .before .before .before .before .before .args .p .now .now) (c .before .before .before .before .before .before .before .before .before .before .before .before .before .args .j) (c .before .before .before .before .before .before .before .before .before .before .before .before .before .pre .1) (c .before .before .before .before .before .before .before .before .before .before .before .before .before .args .t) (λ h. c .before .before .before .before .before .before .before .if1 .left (c .before .before .before .before .before .before .before .before .before .before .before .node .ensures .b-is ∙ h)) in (cc (e .0), cc (e .1))
+type-b-returns-2 t c = more-said (c .before .before .before .before .before .before .before .before .before .before .before .before .before .args .p .now .now) (c .before .before .before .before .before .before .before .before .before .before .before .before .before .args .j) (c .before .before .before .before .before .before .before .before .before .before .before .before .before .pre .1) (c .before .before .before .before .before .before .before .before .before .before .before .before .before .args .t) (λ h. c .before .before .before .before .before .before .before .if1 .left (c .before .before .before .before .before .before .before .before .before .before .before .node .ensures .b-is ∙ h)) (c .before .before .before .before .before .before .before .before .before .before .before .node .ensures .a-is) (c .before .before .before .before .before .before .before .before .before .before .before .node .ensures .b-is) (c .before .before .before .before .before .before .before .before .before .before .type-s .ensures) (c .before .before .before .before .before .before .type-b .ensures) (c .before .before .before .before .before .before .before .before .before .place-in .ensures) (c .before .before .before .before .type-in2 .ensures) (c .before .before .before .same-in .ensures) (c .before .before .before .before .before .place-in2 .ensures) (c .before .before .both2 .ensures) (c .before .sooner2 .ensures) (c .bodies2 .ensures)
 
 -- src/lib.rt:344:9
 type-c-node-requires : (t : ℕ) → type-c-lts.Need-node-requires (type-c-calls t) (type-c-at t) type-c.Post
@@ -158,7 +158,7 @@ type-c-under-requires t c κs = omega (arith, c .before .before .before .before 
 
 -- src/lib.rt:349:9
 type-c-returns : (t : ℕ) → type-c-lts.Need-returns (type-c-calls t) (type-c-at t) type-c.Post
-type-c-returns t c = cc (case-last (c .before .before .before .before .before .before .before .before .before .before .before .args .p .now .now) (c .before .before .before .before .before .before .before .before .before .before .before .args .j) (c .before .before .before .before .before .before .before .before .before .before .before .pre .1) (sym (c .before .before .before .before .before .before .before .before .before .node .ensures .b-is) ∙ c .before .if1 .taken), no-place)
+type-c-returns t c = last-case-said (c .before .before .before .before .before .before .before .before .before .before .before .args .p .now .now) (c .before .before .before .before .before .before .before .before .before .before .before .args .j) (c .before .before .before .before .before .before .before .before .before .before .before .pre .1) (sym (c .before .before .before .before .before .before .before .before .before .node .ensures .b-is) ∙ c .before .if1 .taken) (c .before .before .before .before .before .before .before .before .before .node .ensures .a-is) (c .before .before .before .before .before .before .before .before .before .node .ensures .c-is) (c .before .before .before .before .before .before .before .before .type-s .ensures) (c .before .before .before .before .before .before .before .type-in .ensures) (c .before .before .before .before .before .declared .ensures) (c .before .before .before .before .is-maybe .ensures) (c .before .before .before .place-in .ensures) no-place (c .under .ensures)
 
 -- src/lib.rt:351:9
 type-c-type-c-requires : (t : ℕ) → type-c-lts.Need-type-c-requires (type-c-calls t) (type-c-at t) type-c.Post
@@ -170,7 +170,7 @@ type-c-under-requires-2 t c κs = omega (arith, c .before .before .before .befor
 
 -- src/lib.rt:340:1
 type-c-returns-2 : (t : ℕ) → type-c-lts.Need-returns-2 (type-c-calls t) (type-c-at t) type-c.Post
-type-c-returns-2 t c = cc (case-more (c .before .before .before .before .before .before .before .before .before .before .before .before .args .p .now .now) (c .before .before .before .before .before .before .before .before .before .before .before .before .args .j) (c .before .before .before .before .before .before .before .before .before .before .before .before .pre .1) (λ h. c .before .before .if1 .left (c .before .before .before .before .before .before .before .before .before .before .node .ensures .b-is ∙ h)))
+type-c-returns-2 t c = more-case-said (c .before .before .before .before .before .before .before .before .before .before .before .before .args .p .now .now) (c .before .before .before .before .before .before .before .before .before .before .before .before .args .j) (c .before .before .before .before .before .before .before .before .before .before .before .before .pre .1) (λ h. c .before .before .if1 .left (c .before .before .before .before .before .before .before .before .before .before .node .ensures .b-is ∙ h)) (c .before .before .before .before .before .before .before .before .before .before .node .ensures .a-is) (c .before .before .before .before .before .before .before .before .before .before .node .ensures .b-is) (c .before .before .before .before .before .before .before .before .before .before .node .ensures .c-is) (c .before .before .before .before .before .before .before .before .before .type-s .ensures) (c .before .before .before .before .before .before .before .before .type-in .ensures) (c .before .before .before .before .before .before .declared .ensures) (c .before .before .before .before .before .is-maybe .ensures) (c .before .before .before .before .place-in .ensures) (c .before .type-c .ensures) (c .under2 .ensures)
 
 -- src/lib.rt:276:9
 type-s-node-requires : (t : ℕ) → type-s-lts.Need-node-requires (type-s-calls t) (type-s-at t) type-s.Post
@@ -264,35 +264,35 @@ type-s-typed-at-requires-3 t c κs = search needs
 
 -- src/lib.rt:272:1
 type-s-returns : (t : ℕ) → type-s-lts.Need-returns (type-s-calls t) (type-s-at t) type-s.Post
-type-s-returns t c = let e = input-typed (c .before .before .before .before .before .args .p .now .now) (c .before .before .before .before .before .args .i) (c .before .before .before .before .before .pre .1) (sym (c .before .before .before .node .ensures .kind-is) ∙ c .before .before .match .keys1) in (cc (e .0), cc (e .1, no-place))
+type-s-returns t c = input-said (c .before .before .before .before .before .args .p .now .now) (c .before .before .before .before .before .args .i) (c .before .before .before .before .before .pre .1) (sym (c .before .before .before .node .ensures .kind-is) ∙ c .before .before .match .keys1) (c .before .before .before .node .ensures .a-is) (c .before .channel-type .ensures) no-place (c .typed-at .ensures)
 
 -- src/lib.rt:272:1
 type-s-returns-2 : (t : ℕ) → type-s-lts.Need-returns-2 (type-s-calls t) (type-s-at t) type-s.Post
-type-s-returns-2 t c = let e = ext-typed (c .before .before .before .before .args .p .now .now) (c .before .before .before .before .args .i) (c .before .before .before .before .pre .1) (sym (c .before .before .node .ensures .kind-is) ∙ c .before .match .keys2) in (cc (e .0), cc (e .1))
+type-s-returns-2 t c = ext-said (c .before .before .before .before .args .p .now .now) (c .before .before .before .before .args .i) (c .before .before .before .before .pre .1) (sym (c .before .before .node .ensures .kind-is) ∙ c .before .match .keys2) (c .before .before .node .ensures .a-is) (c .type-e .ensures)
 
 -- src/lib.rt:272:1
 type-s-returns-3 : (t : ℕ) → type-s-lts.Need-returns-3 (type-s-calls t) (type-s-at t) type-s.Post
-type-s-returns-3 t c = let e = delay-typed (c .before .before .before .before .before .args .p .now .now) (c .before .before .before .before .before .args .i) (c .before .before .before .before .before .pre .1) (sym (c .before .before .before .node .ensures .kind-is) ∙ c .before .before .match .keys3) in (cc (e .0), cc (e .1))
+type-s-returns-3 t c = delay-said (c .before .before .before .before .before .args .p .now .now) (c .before .before .before .before .before .args .i) (c .before .before .before .before .before .pre .1) (sym (c .before .before .before .node .ensures .kind-is) ∙ c .before .before .match .keys3) (c .before .before .before .node .ensures .type-is) (c .before .before .before .node .ensures .a-is) (c .before .type-s .ensures) (c .delayed .ensures)
 
 -- src/lib.rt:272:1
 type-s-returns-4 : (t : ℕ) → type-s-lts.Need-returns-4 (type-s-calls t) (type-s-at t) type-s.Post
-type-s-returns-4 t c = let e = let-typed (c .before .before .before .before .before .before .args .p .now .now) (c .before .before .before .before .before .before .args .i) (c .before .before .before .before .before .before .pre .1) (sym (c .before .before .before .before .node .ensures .kind-is) ∙ c .before .before .before .match .keys4) in (cc (e .0), cc (e .1))
+type-s-returns-4 t c = let-said (c .before .before .before .before .before .before .args .p .now .now) (c .before .before .before .before .before .before .args .i) (c .before .before .before .before .before .before .pre .1) (sym (c .before .before .before .before .node .ensures .kind-is) ∙ c .before .before .before .match .keys4) (c .before .before .before .before .node .ensures .type-is) (c .before .before .before .before .node .ensures .a-is) (c .before .before .before .before .node .ensures .b-is) (c .before .before .type-s2 .ensures) (c .before .type-s3 .ensures) (c .letting .ensures)
 
 -- src/lib.rt:272:1
 type-s-returns-5 : (t : ℕ) → type-s-lts.Need-returns-5 (type-s-calls t) (type-s-at t) type-s.Post
-type-s-returns-5 t c = let e = switch-typed (c .before .before .before .before .before .before .before .args .p .now .now) (c .before .before .before .before .before .before .before .args .i) (c .before .before .before .before .before .before .before .pre .1) (sym (c .before .before .before .before .before .node .ensures .kind-is) ∙ c .before .before .before .before .match .keys5) in (cc (e .0), cc (e .1))
+type-s-returns-5 t c = switch-said (c .before .before .before .before .before .before .before .args .p .now .now) (c .before .before .before .before .before .before .before .args .i) (c .before .before .before .before .before .before .before .pre .1) (sym (c .before .before .before .before .before .node .ensures .kind-is) ∙ c .before .before .before .before .match .keys5) (c .before .before .before .before .before .node .ensures .type-is) (c .before .before .before .before .before .node .ensures .a-is) (c .before .before .before .before .before .node .ensures .b-is) (c .before .before .before .before .before .node .ensures .c-is) (c .before .before .before .type-s4 .ensures) (c .before .before .type-s5 .ensures) (c .before .type-s6 .ensures) (c .switching .ensures)
 
 -- src/lib.rt:272:1
 type-s-returns-6 : (t : ℕ) → type-s-lts.Need-returns-6 (type-s-calls t) (type-s-at t) type-s.Post
-type-s-returns-6 t c = let e = group-typed (c .before .before .before .before .before .before .before .args .p .now .now) (c .before .before .before .before .before .before .before .args .i) (c .before .before .before .before .before .before .before .pre .1) (sym (c .before .before .before .before .before .node .ensures .kind-is) ∙ c .before .before .before .before .match .keys6) in (cc (e .0), cc (e .1))
+type-s-returns-6 t c = group-said (c .before .before .before .before .before .before .before .args .p .now .now) (c .before .before .before .before .before .before .before .args .i) (c .before .before .before .before .before .before .before .pre .1) (sym (c .before .before .before .before .before .node .ensures .kind-is) ∙ c .before .before .before .before .match .keys6) (c .before .before .before .before .before .node .ensures .a-is) (c .before .before .before .before .before .node .ensures .b-is) (c .before .before .before .type-s7 .ensures) (c .before .before .type-in .ensures) (c .before .type-b .ensures) (c .grouping .ensures)
 
 -- src/lib.rt:272:1
 type-s-returns-7 : (t : ℕ) → type-s-lts.Need-returns-7 (type-s-calls t) (type-s-at t) type-s.Post
-type-s-returns-7 t c = let e = until-typed (c .before .before .before .before .before .before .before .before .before .args .p .now .now) (c .before .before .before .before .before .before .before .before .before .args .i) (c .before .before .before .before .before .before .before .before .before .pre .1) (sym (c .before .before .before .before .before .before .before .node .ensures .kind-is) ∙ c .before .before .before .before .before .before .match .keys7) in (cc (e .0), cc (e .1))
+type-s-returns-7 t c = until-said (c .before .before .before .before .before .before .before .before .before .args .p .now .now) (c .before .before .before .before .before .before .before .before .before .args .i) (c .before .before .before .before .before .before .before .before .before .pre .1) (sym (c .before .before .before .before .before .before .before .node .ensures .kind-is) ∙ c .before .before .before .before .before .before .match .keys7) (c .before .before .before .before .before .before .before .node .ensures .a-is) (c .before .before .before .before .before .before .before .node .ensures .b-is) (c .before .before .before .before .before .type-s8 .ensures) (c .before .before .type-in2 .ensures) (c .before .before .before .place-in .ensures) (c .before .before .before .before .type-c .ensures) (c .before .sooner .ensures) (c .typed-at2 .ensures)
 
 -- src/lib.rt:272:1
 type-s-returns-8 : (t : ℕ) → type-s-lts.Need-returns-8 (type-s-calls t) (type-s-at t) type-s.Post
-type-s-returns-8 t c = let e = time-typed (c .before .before .before .before .args .p .now .now) (c .before .before .before .before .args .i) (c .before .before .before .before .pre .1) (time-left (c .before .before .before .before .args .p .now .now) (c .before .before .before .before .args .i) (c .before .before .before .before .pre .1) (c .before .before .node .ensures .kind-is) (c .before .match .rest)) in (cc (e .0), cc (e .1, no-place))
+type-s-returns-8 t c = time-said (c .before .before .before .before .args .p .now .now) (c .before .before .before .before .args .i) (c .before .before .before .before .pre .1) (time-left (c .before .before .before .before .args .p .now .now) (c .before .before .before .before .args .i) (c .before .before .before .before .pre .1) (c .before .before .node .ensures .kind-is) (c .before .match .rest)) no-place (c .typed-at3 .ensures)
 
 pub +type-b+type-c+type-s-spec : {M : Type 1} → statement M
 +type-b+type-c+type-s-spec = close μ-type-b μ-type-c μ-type-s (λ t. type-b-lts.spec (type-b-calls t) (type-b-at t)

@@ -1,4 +1,5 @@
 -- The type and the place are those that the callees answer, read back from one number.
+use Rattle.typing.proofs.RuleLaws.{over-one, test-right}
 use borrow.Author.Needs.{needs}
 use Rattle.typing.proofs.delayed.Statement.{statement}
 use Rattle.typing.proofs.delayed.Tie as tie
@@ -22,7 +23,7 @@ typed-at-requires : tie.Need-typed-at-requires
 typed-at-requires c κs = search needs
 
 returns : tie.Need-returns
-returns c = (cc, cc)
+returns c = over-one (c .before .before .before .before .before .before .args .i) (c .before .before .before .before .wrong-unless .ensures) (test-right (c .before .before .before .before .before .before .args .t) (c .before .before .before .before .before .type-in .ensures)) (c .before .before .before .place-in .ensures) (c .before .sooner .ensures) (c .before .before .type-in2 .ensures) (c .typed-at .ensures)
 
 pub delayed-spec : {M : Type 1} → statement M
 delayed-spec = tie.close (tie.spec type-in-requires wrong-unless-requires place-in-requires type-in-requires-2 sooner-requires typed-at-requires returns)

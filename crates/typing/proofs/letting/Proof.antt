@@ -1,4 +1,5 @@
 -- The type and the place are those that the callees answer, read back from one number.
+use Rattle.typing.proofs.RuleLaws.{over-two, test-right}
 use borrow.Author.Needs.{needs}
 use Rattle.typing.proofs.letting.Statement.{statement}
 use Rattle.typing.proofs.letting.Tie as tie
@@ -22,7 +23,7 @@ typed-at-requires : tie.Need-typed-at-requires
 typed-at-requires c κs = search needs
 
 returns : tie.Need-returns
-returns c = (cc, cc)
+returns c = over-two (c .before .before .before .before .before .before .args .i) (test-right (c .before .before .before .before .before .before .args .t) (c .before .before .type-in2 .ensures)) (c .before .before .before .before .before .place-in .ensures) (c .before .before .before .before .place-in2 .ensures) (c .before .before .before .type-in .ensures) (c .before .under .ensures) (c .typed-at .ensures)
 
 pub letting-spec : {M : Type 1} → statement M
 letting-spec = tie.close (tie.spec place-in-requires place-in-requires-2 type-in-requires type-in-requires-2 under-requires typed-at-requires returns)

@@ -1,4 +1,6 @@
 -- The type and the place are those that the callees answer, read back from one number.
+use mathlib.Core.Path.{refl}
+use Rattle.typing.proofs.RuleLaws.{over-one, test-right}
 use borrow.Author.Needs.{needs}
 use Rattle.typing.proofs.negation.Statement.{statement}
 use Rattle.typing.proofs.negation.Tie as tie
@@ -19,7 +21,7 @@ typed-at-requires : tie.Need-typed-at-requires
 typed-at-requires c κs = search needs
 
 returns : tie.Need-returns
-returns c = (cc, cc)
+returns c = over-one (c .before .before .before .before .before .args .i) (c .before .before .before .wrong-unless .ensures) (test-right 2 (c .before .before .before .before .type-in .ensures)) (c .before .before .place-in .ensures) (c .before .sooner .ensures) refl (c .typed-at .ensures)
 
 pub negation-spec : {M : Type 1} → statement M
 negation-spec = tie.close (tie.spec type-in-requires wrong-unless-requires place-in-requires sooner-requires typed-at-requires returns)

@@ -1,5 +1,6 @@
 use Rattle.starting.proofs.StartLaws.{counted, all-cells}
 use Rattle.watch.proofs.Calling.{checks-fit, lent-fine, fits-most, run-lent, run-fits as run-goes}
+use Rattle.noted.proofs.FillLaws.{noted-fresh}
 use Rattle.rules.proofs.Rooted.{root-of}
 use Rattle.rules.specs.Bytes.{byteAt}
 use Rattle.rules.specs.Evaluate.{unbound}
@@ -54,7 +55,7 @@ enum-told c = search needs
 -- src/lib.rt:144:13
 run-records-requires : tie.Need-run-records-requires
 unfolding unbound
-run-records-requires c κs = let f = lent-fine _ _ _ _ _ (sym (c .before .before .before .before .before .before .lent-verdict .ensures) ∙ c .before .before .before .before .enum-told .given .1) in (record { accepted = c .before .before .before .before .before .before .before .before .before .before .before .before .before .before .before .before .before .before .pre .0; indexed = c .before .before .before .before .before .before .before .before .before .before .before .before .index-cells .ensures .0; counted = c .before .before .before .before .before .before .before .before .before .before .before .before .before .before .before .before .before .before .pre .1; well = f .well; blank = refl }, fits-most _ (sym (c .before .before .before .before .before .before .before .before .before .before .run-fits .ensures) ∙ f .fitting), f .room)
+run-records-requires c κs = let f = lent-fine _ _ _ _ _ (sym (c .before .before .before .before .before .before .before .lent-verdict .ensures) ∙ c .before .before .before .before .before .enum-told .given .1) in (record { accepted = c .before .before .before .before .before .before .before .before .before .before .before .before .before .before .before .before .before .before .before .pre .0; indexed = c .before .before .before .before .before .before .before .before .before .before .before .before .before .index-cells .ensures .0; counted = c .before .before .before .before .before .before .before .before .before .before .before .before .before .before .before .before .before .before .before .pre .1; well = f .well; blank = refl }, fits-most _ (sym (c .before .before .before .before .before .before .before .before .before .before .before .run-fits .ensures) ∙ f .fitting), f .room, noted-fresh _)
 
 -- src/lib.rt:131:1
 same-length : tie.Need-same-length
@@ -78,7 +79,7 @@ same-length-4 c = search needs
 
 -- src/lib.rt:131:1
 returns-2 : tie.Need-returns-2
-returns-2 c = rw (run-goes _ _ _ _ _ (ap (lentRest _ _ _ _) (sym (c .before .before .before .before .before .before .before .before .before .before .before .before .before .before .before .run-fits .ensures)) ∙ sym (c .before .before .before .before .before .before .before .before .before .before .before .lent-verdict .ensures) ∙ c .before .before .before .before .before .before .before .before .before .enum-told .given .1)) (c .before .before .before .before .run-records .ensures .0)
+returns-2 c = rw (run-goes _ _ _ _ _ (ap (lentRest _ _ _ _) (sym (c .before .before .before .before .before .before .before .before .before .before .before .before .before .before .before .before .run-fits .ensures)) ∙ sym (c .before .before .before .before .before .before .before .before .before .before .before .before .lent-verdict .ensures) ∙ c .before .before .before .before .before .before .before .before .before .before .enum-told .given .1)) (c .before .before .before .before .run-records .ensures .0)
 
 pub run-accepted-spec : {M : Type 1} → statement M
 run-accepted-spec =

@@ -1,6 +1,7 @@
 -- `watchrun::started` meets its contract: a program that is started may make its steps. Assumes nothing.
 use mathlib.Core.Path.{refl}
 use Rattle.rules.specs.Evaluate.{unbound}
+use Rattle.noted.proofs.FillLaws.{noted-fresh}
 use borrow.Author.Needs.{needs}
 use Rattle.watchrun.proofs.started.Statement.{statement}
 use Rattle.watchrun.proofs.started.Tie as tie
@@ -18,9 +19,9 @@ enum-told c = search needs
 steps-requires : tie.Need-steps-requires
 unfolding unbound
 steps-requires c κs =
-    let begun = c .before .before .before .before .before .before .before .before .begin .ensures in
-    let pre = c .before .before .before .before .before .before .before .before .before .before .before .before .before .before .pre in
-    record { accepted = pre .0; indexed = begun .indexed; counted = pre .1; well = begun .well (c .before .before .before .before .enum-told .given .1); blank = refl }
+    let begun = c .before .before .before .before .before .before .before .before .before .begin .ensures in
+    let pre = c .before .before .before .before .before .before .before .before .before .before .before .before .before .before .before .pre in
+    (record { accepted = pre .0; indexed = begun .indexed; counted = pre .1; well = begun .well (c .before .before .before .before .before .enum-told .given .1); blank = refl }, noted-fresh _)
 
 enum-told-2 : tie.Need-enum-told-2
 enum-told-2 c = search needs

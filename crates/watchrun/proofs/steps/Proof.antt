@@ -13,23 +13,23 @@ use Rattle.watchrun.proofs.steps.Lts as lts
 use Rattle.watchrun.proofs.step.Reads as step-reads
 
 abbrev Inv-loop : tie.InvT-loop
-Inv-loop program index state₀ env₀ input₀ count at₀ end₀ done₀ total₀ more₀ state env input at end done total more =
-    (length state ≡ length state₀) × (length input ≡ length input₀) × (more ≡ true → Under program index state env count done total)
+Inv-loop program index state₀ env₀ input₀ count memo₀ here₀ state env input memo here =
+    (length state ≡ length state₀) × (length input ≡ length input₀)
+    × (here .more ≡ true → Under program index state env memo count (here .steps) (here .total))
 
 abbrev μ-loop : tie.MeasureT-loop
-μ-loop program index state₀ env₀ input₀ count at₀ end₀ done₀ total₀ more₀ state env input at end done total more =
-    turnsLeft more done
+μ-loop program index state₀ env₀ input₀ count memo₀ here₀ state env input memo here = turnsLeft (here .more) (here .steps)
 
 loop-holds : tie.Need-loop-holds Inv-loop μ-loop
-loop-holds c = (refl, refl, λ _. record { going = c .before .before .before .pre; few = omega arith; fits = omega arith })
+loop-holds c = (refl, refl, λ _. record { going = c .before .before .before .pre .0; noted = c .before .before .before .pre .1; few = omega arith; fits = omega arith })
 
 step-requires : tie.Need-step-requires Inv-loop μ-loop
-step-requires c κs = c .before .before .before .before .loop .inv .2 (c .before .before .before .loop-test .taken)
+step-requires c κs = c .before .before .before .before .before .loop .inv .2 (c .before .before .before .before .loop-test .taken)
 
 loop-less : tie.Need-loop-less Inv-loop μ-loop
 loop-less c =
-    let under = c .before .before .before .before .before .before .before .before .before .loop .inv .2 (c .before .before .before .before .before .before .before .before .loop-test .taken) in
-    rw (c .before .before .before .before .before .before .before .before .loop-test .taken) (fewer _ _ _ (under .few) (c .before .before .before .before .step .ensures .1))
+    let under = c .before .before .before .before .before .before .before .before .before .before .loop .inv .2 (c .before .before .before .before .before .before .before .before .before .loop-test .taken) in
+    rw (c .before .before .before .before .before .before .before .before .before .loop-test .taken) (fewer _ _ _ (under .few) (c .before .before .before .before .step .ensures .1))
 
 loop-again : tie.Need-loop-again Inv-loop μ-loop
 loop-again c = (search needs, search needs, c .before .before .before .before .step .ensures .0)

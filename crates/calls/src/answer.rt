@@ -1,9 +1,11 @@
 // The calls, and their answers: the line, then each lent room that may be written in hex, a line each.
 ghost use Prim.Native.Nat.{_≤_};
 ghost use lib.ListN.{length};
-use crate::entries::give;
-use crate::entries::take;
-use wire::Request;
+use feed::give_entries;
+use feed::take_entries;
+use mends::Mended;
+use rules::Ran;
+use watched::Watched;
 
 // Puts at most 2,048 bytes in hex to the output, and answers how many bytes of output wait.
 fn hex_piece(s: &[u8], full: usize, out: &mut [u8]) -> usize
@@ -40,8 +42,14 @@ fn hex_line(s: &[u8], full: usize, out: &mut [u8]) -> usize {
     feed::append(b"\n", out, waits)
 }
 
+// Puts two rooms in hex to the output, a line each.
+fn hex_two(one: &[u8], two: &[u8], full: usize, out: &mut [u8]) -> usize {
+    let waits = hex_line(one, full, out);
+    hex_line(two, waits, out)
+}
+
 // Makes a check.
-fn check_answer(program: &[u8], full: usize, out: &mut [u8]) -> usize {
+pub fn check_answer(program: &[u8], full: usize, out: &mut [u8]) -> usize {
     let mut line = [0u8; 64];
     let n = wire::checked_line(watch::check(program), &mut line);
     feed::append(&line[..n], out, full)
@@ -55,6 +63,14 @@ fn start_answer(program: &[u8], state: &mut [u8], full: usize, out: &mut [u8]) -
     hex_line(state, waits, out)
 }
 
+// Puts the answer of a run to the output, and its rooms.
+fn ran_answer(ran: Ran, state: &[u8], room: &[u8], full: usize, out: &mut [u8]) -> usize {
+    let mut line = [0u8; 64];
+    let n = wire::ran_line(ran, &mut line);
+    let waits = feed::append(&line[..n], out, full);
+    hex_two(state, room, waits, out)
+}
+
 // Makes a run, and puts the answer to the output.
 fn run_answer(
     program: &[u8],
@@ -64,18 +80,24 @@ fn run_answer(
     full: usize,
     out: &mut [u8],
 ) -> usize {
-    let mut line = [0u8; 64];
-    let n = wire::ran_line(watch::run(program, state, records, room), &mut line);
-    let waits = feed::append(&line[..n], out, full);
-    let more = hex_line(state, waits, out);
-    hex_line(room, more, out)
+    let ran = watch::run(program, state, records, room);
+    ran_answer(ran, state, room, full, out)
 }
 
-// Puts three rooms in hex to the output, a line each.
-fn hex_lines(one: &[u8], two: &[u8], three: &[u8], full: usize, out: &mut [u8]) -> usize {
-    let waits = hex_line(one, full, out);
-    let more = hex_line(two, waits, out);
-    hex_line(three, more, out)
+// Puts the answer of a watched run to the output, and its rooms.
+fn watched_answer(
+    found: Watched,
+    state: &[u8],
+    room: &[u8],
+    shown: &[u8],
+    full: usize,
+    out: &mut [u8],
+) -> usize {
+    let mut line = [0u8; 64];
+    let n = wire::watched_line(found, &mut line);
+    let waits = feed::append(&line[..n], out, full);
+    let more = hex_two(state, room, waits, out);
+    hex_line(shown, more, out)
 }
 
 // Makes a watched run with a list of entries, and puts the answer, the state, the output and the second room to the output.
@@ -83,19 +105,14 @@ fn watch_answer(
     program: &[u8],
     state: &mut [u8],
     records: &[u8],
-    entries: &mut [u16],
-    list: &[u8],
+    entries: &[u16],
     room: &mut [u8],
     shown: &mut [u8],
     full: usize,
     out: &mut [u8],
 ) -> usize {
-    take(list, entries);
-    let mut line = [0u8; 64];
     let found = peeking::watched(program, state, records, entries, room, shown);
-    let n = wire::watched_line(found, &mut line);
-    let waits = feed::append(&line[..n], out, full);
-    hex_lines(state, room, shown, waits, out)
+    watched_answer(found, state, room, shown, full, out)
 }
 
 // Explains in a room of entries, and puts the answer and the room's bytes to the output.
@@ -106,12 +123,20 @@ fn chain_answer(
     full: usize,
     out: &mut [u8],
 ) -> usize {
-    take(bytes, entries);
+    take_entries(bytes, entries);
     let mut line = [0u8; 64];
     let n = wire::explained_line(explain::explain(program, entries), &mut line);
-    give(entries, bytes);
+    give_entries(entries, bytes);
     let waits = feed::append(&line[..n], out, full);
     hex_line(bytes, waits, out)
+}
+
+// Puts the answer of a mend to the output, the state and the list's bytes.
+fn mended_answer(found: Mended, state: &[u8], bytes: &[u8], full: usize, out: &mut [u8]) -> usize {
+    let mut line = [0u8; 64];
+    let n = wire::mended_line(found, &mut line);
+    let waits = feed::append(&line[..n], out, full);
+    hex_two(state, bytes, waits, out)
 }
 
 // Brings a state back, and puts the answer, the state and the list's bytes to the output.
@@ -123,13 +148,10 @@ fn mend_answer(
     full: usize,
     out: &mut [u8],
 ) -> usize {
-    take(bytes, entries);
-    let mut line = [0u8; 64];
-    let n = wire::mended_line(mend::mend(program, state, entries), &mut line);
-    give(entries, bytes);
-    let waits = feed::append(&line[..n], out, full);
-    let more = hex_line(state, waits, out);
-    hex_line(bytes, more, out)
+    take_entries(bytes, entries);
+    let found = mend::mend(program, state, entries);
+    give_entries(entries, bytes);
+    mended_answer(found, state, bytes, full, out)
 }
 
 // Tidies a table, and puts the answer and the room to the output.
@@ -149,7 +171,7 @@ fn pair_answer(
     full: usize,
     out: &mut [u8],
 ) -> usize {
-    take(bytes, entries);
+    take_entries(bytes, entries);
     let mut line = [0u8; 64];
     let n = wire::paired_line(pairing::paired(old, new, entries), &mut line);
     feed::append(&line[..n], out, full)
@@ -172,7 +194,13 @@ fn print_answer(program: &[u8], room: &mut [u8], full: usize, out: &mut [u8]) ->
 }
 
 // A start with the first n bytes of state.
-fn start_call(program: &[u8], n: usize, state: &mut [u8], full: usize, out: &mut [u8]) -> usize {
+pub fn start_call(
+    program: &[u8],
+    n: usize,
+    state: &mut [u8],
+    full: usize,
+    out: &mut [u8],
+) -> usize {
     if n > state.len() {
         return full;
     }
@@ -180,7 +208,7 @@ fn start_call(program: &[u8], n: usize, state: &mut [u8], full: usize, out: &mut
 }
 
 // A run with the first n bytes of state and the first m of the output room.
-fn run_call(
+pub fn run_call(
     program: &[u8],
     n: usize,
     state: &mut [u8],
@@ -199,15 +227,13 @@ fn run_call(
     run_answer(program, &mut state[..n], records, &mut room[..m], full, out)
 }
 
-// A watch with the first s bytes of state, the first n entries, and the first o and w bytes of its rooms.
-fn watch_call(
+// A watch with the first s bytes of state, and the first o and w bytes of its rooms.
+pub fn watch_call(
     program: &[u8],
     s: usize,
     state: &mut [u8],
     records: &[u8],
-    n: usize,
-    entries: &mut [u16],
-    list: &[u8],
+    entries: &[u16],
     o: usize,
     room: &mut [u8],
     w: usize,
@@ -216,9 +242,6 @@ fn watch_call(
     out: &mut [u8],
 ) -> usize {
     if s > state.len() {
-        return full;
-    }
-    if n > entries.len() {
         return full;
     }
     if o > room.len() {
@@ -231,8 +254,7 @@ fn watch_call(
         program,
         &mut state[..s],
         records,
-        &mut entries[..n],
-        list,
+        entries,
         &mut room[..o],
         &mut shown[..w],
         full,
@@ -241,7 +263,7 @@ fn watch_call(
 }
 
 // A chain whose room is the first n entries, two bytes each.
-fn chain_call(
+pub fn chain_call(
     program: &[u8],
     n: usize,
     entries: &mut [u16],
@@ -259,7 +281,7 @@ fn chain_call(
 }
 
 // A mend with the first s bytes of state, whose list's room is the first n entries.
-fn mend_call(
+pub fn mend_call(
     program: &[u8],
     s: usize,
     state: &mut [u8],
@@ -289,7 +311,7 @@ fn mend_call(
 }
 
 // A tidy whose room is the first n bytes.
-fn tidy_call(program: &[u8], n: usize, room: &mut [u8], full: usize, out: &mut [u8]) -> usize {
+pub fn tidy_call(program: &[u8], n: usize, room: &mut [u8], full: usize, out: &mut [u8]) -> usize {
     if n > room.len() {
         return full;
     }
@@ -297,7 +319,7 @@ fn tidy_call(program: &[u8], n: usize, room: &mut [u8], full: usize, out: &mut [
 }
 
 // A pair whose pairing is the first n entries.
-fn pair_call(
+pub fn pair_call(
     old: &[u8],
     new: &[u8],
     n: usize,
@@ -313,7 +335,7 @@ fn pair_call(
 }
 
 // A read whose room is the first n bytes.
-fn read_call(text: &[u8], n: usize, room: &mut [u8], full: usize, out: &mut [u8]) -> usize {
+pub fn read_call(text: &[u8], n: usize, room: &mut [u8], full: usize, out: &mut [u8]) -> usize {
     if n > room.len() {
         return full;
     }
@@ -321,96 +343,9 @@ fn read_call(text: &[u8], n: usize, room: &mut [u8], full: usize, out: &mut [u8]
 }
 
 // A print whose room is the first n bytes.
-fn print_call(program: &[u8], n: usize, room: &mut [u8], full: usize, out: &mut [u8]) -> usize {
+pub fn print_call(program: &[u8], n: usize, room: &mut [u8], full: usize, out: &mut [u8]) -> usize {
     if n > room.len() {
         return full;
     }
     print_answer(program, &mut room[..n], full, out)
-}
-
-// Makes a call that takes a table alone, or two, or a text, and puts the answer to the output.
-fn table_call(
-    request: Request,
-    program: &[u8],
-    records: &[u8],
-    room: &mut [u8],
-    entries: &mut [u16],
-    full: usize,
-    out: &mut [u8],
-) -> usize {
-    match request {
-        Request::Check(p) => check_answer(feed::first(program, p as usize), full, out),
-        Request::Chain(p, n) => {
-            let of = feed::first(program, p as usize);
-            chain_call(of, n as usize, entries, room, full, out)
-        }
-        Request::Tidy(p, n) => {
-            let of = feed::first(program, p as usize);
-            tidy_call(of, n as usize, room, full, out)
-        }
-        Request::Pair(p, q, n) => {
-            let old = feed::first(program, p as usize);
-            let new = feed::first(records, q as usize);
-            pair_call(old, new, n as usize, entries, room, full, out)
-        }
-        Request::Read(t, n) => {
-            let text = feed::first(program, t as usize);
-            read_call(text, n as usize, room, full, out)
-        }
-        Request::Print(p, n) => {
-            let of = feed::first(program, p as usize);
-            print_call(of, n as usize, room, full, out)
-        }
-        _ => full,
-    }
-}
-
-// Makes the call of a request whose memory is read, and puts the answer to the output.
-pub fn call(
-    request: Request,
-    program: &[u8],
-    state: &mut [u8],
-    records: &[u8],
-    room: &mut [u8],
-    entries: &mut [u16],
-    list: &[u8],
-    shown: &mut [u8],
-    full: usize,
-    out: &mut [u8],
-) -> usize {
-    match request {
-        Request::Start(p, s) => {
-            let of = feed::first(program, p as usize);
-            start_call(of, s as usize, state, full, out)
-        }
-        Request::Run(p, s, r, o) => {
-            let of = feed::first(program, p as usize);
-            let given = feed::first(records, r as usize);
-            run_call(of, s as usize, state, given, o as usize, room, full, out)
-        }
-        Request::Watch(p, s, l, r, o, w) => {
-            let of = feed::first(program, p as usize);
-            let given = feed::first(records, r as usize);
-            watch_call(
-                of,
-                s as usize,
-                state,
-                given,
-                l as usize / 2,
-                entries,
-                list,
-                o as usize,
-                room,
-                w as usize,
-                shown,
-                full,
-                out,
-            )
-        }
-        Request::Mend(p, s, n) => {
-            let of = feed::first(program, p as usize);
-            mend_call(of, s as usize, state, n as usize, entries, room, full, out)
-        }
-        other => table_call(other, program, records, room, entries, full, out),
-    }
 }

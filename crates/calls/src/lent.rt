@@ -1,5 +1,5 @@
 // The memory of a request: program or text, state, a watch's list, records or the new program of a pair, the room that is written or the entries,
-// and a watch's second room, one after another in the input.
+// and a watch's second room, one after another in the input. The list's bytes go into the second room, which is read behind them.
 use feed::Filled;
 use feed::Place;
 use wire::Request;
@@ -79,7 +79,7 @@ fn read_three(
     feed::fill(after, input, third, c)
 }
 
-// Reads all memory of a request.
+// Reads all memory of a request; the entries of a watch's list stand at the start of its room of entries.
 pub fn read(
     request: Request,
     place: Place,
@@ -88,23 +88,16 @@ pub fn read(
     state: &mut [u8],
     records: &mut [u8],
     room: &mut [u8],
-    list: &mut [u8],
+    entries: &mut [u16],
     shown: &mut [u8],
 ) -> Filled {
     let n = lengths(request);
-    let done = read_three(
-        place,
-        n.program,
-        n.state,
-        n.list,
-        input,
-        program,
-        state,
-        list,
-    );
+    let l = n.list;
+    let done = read_three(place, n.program, n.state, l, input, program, state, shown);
     if !done.whole {
         return done;
     }
+    feed::take_entries(feed::first(shown, l), entries);
     let after = done.place;
     read_three(
         after,

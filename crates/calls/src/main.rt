@@ -1,8 +1,9 @@
 // Answers a stream of requests to the calls on standard input: see second/README.md, `calls serve`.
 mod answer;
-mod entries;
+mod asking;
 mod lent;
 
+use feed::Filled;
 use feed::Place;
 use wire::Request;
 
@@ -14,20 +15,62 @@ struct After {
     more: bool,
 }
 
-// What is no request ends the stream.
-fn no_request(full: usize, out: &mut [u8]) -> After {
-    let waits = feed::append(b"NO REQUEST\n", out, full);
+// The header of a request: what it asks for, what is unread behind it, and whether there was any.
+struct Asked {
+    request: Request,
+    place: Place,
+    any: bool,
+}
+
+// The stream is at its end.
+fn ended(full: usize) -> After {
     After {
         at: 0,
         end: 0,
-        full: waits,
+        full: full,
         more: false,
     }
 }
 
-// Reads the memory of a request, makes the call, and puts the answer to the output.
+// The stream goes on at a place.
+fn onward(place: Place, full: usize) -> After {
+    After {
+        at: place.at,
+        end: place.end,
+        full: full,
+        more: true,
+    }
+}
+
+// What is no request ends the stream.
+fn no_request(full: usize, out: &mut [u8]) -> After {
+    ended(feed::append(b"NO REQUEST\n", out, full))
+}
+
+// Makes the call of a request r whose memory was read, and puts the answer to the output.
+fn served(
+    filled: Filled,
+    r: Request,
+    program: &[u8],
+    state: &mut [u8],
+    records: &[u8],
+    room: &mut [u8],
+    entries: &mut [u16],
+    shown: &mut [u8],
+    full: usize,
+    out: &mut [u8],
+) -> After {
+    if !filled.whole {
+        return no_request(full, out);
+    }
+    let after = filled.place;
+    let waits = asking::call(r, program, state, records, room, entries, shown, full, out);
+    onward(after, waits)
+}
+
+// Reads the memory of a request r, makes the call, and puts the answer to the output.
 fn serve_one(
-    request: Request,
+    r: Request,
     place: Place,
     full: usize,
     input: &mut [u8],
@@ -36,42 +79,45 @@ fn serve_one(
     records: &mut [u8],
     room: &mut [u8],
     entries: &mut [u16],
-    list: &mut [u8],
     shown: &mut [u8],
     out: &mut [u8],
 ) -> After {
-    let filled = lent::read(
-        request,
+    let got = lent::read(
+        r,
         place,
         input,
         program,
         state,
         records,
         room,
-        list,
+        entries,
         shown,
     );
-    if !filled.whole {
-        return no_request(full, out);
-    }
-    let waits = answer::call(
-        request,
+    served(
+        got,
+        r,
         program,
         state,
         records,
         room,
         entries,
-        list,
         shown,
         full,
         out,
-    );
-    let after = filled.place;
-    After {
-        at: after.at,
-        end: after.end,
-        full: waits,
-        more: true,
+    )
+}
+
+// Reads the header of a request.
+fn heard(place: Place, input: &mut [u8]) -> Asked {
+    let mut text = [0u8; 64];
+    let line = feed::header(place, input, &mut text);
+    let n = line.length;
+    let after = line.place;
+    let request = wire::request_of(&text[..n]);
+    Asked {
+        request: request,
+        place: after,
+        any: n > 0,
     }
 }
 
@@ -85,27 +131,20 @@ fn turn(
     records: &mut [u8],
     room: &mut [u8],
     entries: &mut [u16],
-    list: &mut [u8],
     shown: &mut [u8],
     out: &mut [u8],
 ) -> After {
     let full = feed::rested(place, out, waiting);
-    let mut text = [0u8; 64];
-    let line = feed::header(place, input, &mut text);
-    let n = line.length;
-    if n == 0 {
-        return After {
-            at: 0,
-            end: 0,
-            full: full,
-            more: false,
-        };
+    let header = heard(place, input);
+    if !header.any {
+        return ended(full);
     }
-    let after = line.place;
-    match wire::request_of(&text[..n]) {
+    let after = header.place;
+    let request = header.request;
+    match request {
         Request::Broken => no_request(full, out),
-        request => serve_one(
-            request,
+        whole => serve_one(
+            whole,
             after,
             full,
             input,
@@ -114,7 +153,6 @@ fn turn(
             records,
             room,
             entries,
-            list,
             shown,
             out,
         ),
@@ -129,7 +167,6 @@ fn serve(
     records: &mut [u8],
     room: &mut [u8],
     entries: &mut [u16],
-    list: &mut [u8],
     shown: &mut [u8],
     out: &mut [u8],
 ) {
@@ -151,7 +188,6 @@ fn serve(
             records,
             room,
             entries,
-            list,
             shown,
             out,
         );
@@ -171,7 +207,6 @@ fn main() {
     let mut records = [0u8; 196608];
     let mut room = [0u8; 196608];
     let mut entries = [0u16; 65536];
-    let mut list = io::large_buffer();
     let mut shown = [0u8; 540672];
     let mut out = io::large_buffer();
     serve(
@@ -181,7 +216,6 @@ fn main() {
         &mut records,
         &mut room,
         &mut entries,
-        &mut list,
         &mut shown,
         &mut out,
     );

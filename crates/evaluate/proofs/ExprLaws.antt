@@ -138,7 +138,7 @@ module _ (p : Bytes) (n : ℕ) (w : NodeOf isExpression p n) (s : boundE (exprAt
   chosen-part e {b} {c} r eb ec g = let k = choice-parts e in arm-one b c (PartE p n) r g (read eb (k .1)) (read ec (k .2))
 
 module _ (p : Bytes) (n : ℕ) (w : NodeOf isExpression p n) (env : Env) where
-  pub variable-eval : kindAt p n ≡ 16 → evalE env (exprAt p n) ≡ rule (look env (aAt p n))
+  variable-eval : kindAt p n ≡ 16 → evalE env (exprAt p n) ≡ rule (look env (aAt p n))
   unfolding evalE
   variable-eval e = ap (evalE env) (expr-variable p n e)
 
@@ -151,22 +151,37 @@ module _ (p : Bytes) (n : ℕ) (w : NodeOf isExpression p n) (env : Env) where
   constant-fixed e h q =
       ap (λ (v : Value). rule (give v)) (ap unpacked q ∙ proper-from (typeAt p n) h (bAt p n) (wordAt p n)) ∙ sym (constant-eval e)
 
-  pub negation-eval : kindAt p n ≡ 24 → evalE env (exprAt p n) ≡ rule (negated (evalE env (exprAt p (aAt p n))))
+  negation-eval : kindAt p n ≡ 24 → evalE env (exprAt p n) ≡ rule (negated (evalE env (exprAt p (aAt p n))))
   unfolding evalE
   negation-eval e = ap (evalE env) (negation-tree p n w e)
 
-  pub just-eval : kindAt p n ≡ 28 → evalE env (exprAt p n) ≡ rule (lifted (evalE env (exprAt p (aAt p n))))
+  just-eval : kindAt p n ≡ 28 → evalE env (exprAt p n) ≡ rule (lifted (evalE env (exprAt p (aAt p n))))
   unfolding evalE
   just-eval e = ap (evalE env) (just-tree p n w e)
 
-  pub operation-eval : IsOperation (kindAt p n)
+  operation-eval : IsOperation (kindAt p n)
       → evalE env (exprAt p n) ≡ rule (operated (kindAt p n) (evalE env (exprAt p (aAt p n))) (evalE env (exprAt p (bAt p n))))
   unfolding evalE
   operation-eval o = ap (evalE env) (operation-tree p n w o)
 
-  pub sum-eval : kindAt p n ≡ 18 → evalE env (exprAt p n) ≡ rule (operated 18 (evalE env (exprAt p (aAt p n))) (evalE env (exprAt p (bAt p n))))
-  sum-eval e =
-      operation-eval (sum-operation e) ∙ ap (λ (k : ℕ). rule (operated k (evalE env (exprAt p (aAt p n))) (evalE env (exprAt p (bAt p n))))) e
+  -- By the fields that were read and what is answered for the parts.
+  pub variable-said : kindAt p n ≡ 16 → {a : ℕ} {y : Evaluated} → a ≡ aAt p n → y ≡ rule (look env a) → y ≡ evalE env (exprAt p n)
+  variable-said e ea ey = ey ∙ rw ea (sym (variable-eval e))
+
+  pub negation-said : kindAt p n ≡ 24 → {a : ℕ} {x y : Evaluated} → a ≡ aAt p n → x ≡ evalE env (exprAt p a) → y ≡ rule (negated x) → y ≡ evalE env (exprAt p n)
+  negation-said e ea ex ey = ey ∙ rw (ex, ea) (sym (negation-eval e))
+
+  pub just-said : kindAt p n ≡ 28 → {a : ℕ} {x y : Evaluated} → a ≡ aAt p n → x ≡ evalE env (exprAt p a) → y ≡ rule (lifted x) → y ≡ evalE env (exprAt p n)
+  just-said e ea ex ey = ey ∙ rw (ex, ea) (sym (just-eval e))
+
+  pub operation-said : IsOperation (kindAt p n) → {k a b : ℕ} {env₁ : Env} {x y z : Evaluated} → k ≡ kindAt p n → a ≡ aAt p n → b ≡ bAt p n → env₁ ≡ env
+      → x ≡ evalE env (exprAt p a) → y ≡ evalE env₁ (exprAt p b) → z ≡ rule (operated k x y) → z ≡ evalE env (exprAt p n)
+  operation-said o ek ea eb h ex ey ez = ez ∙ rw (ex, ey, h, ek, ea, eb) (sym (operation-eval o))
+
+  -- The arm that is evaluated after a count.
+  pub later-said : (u : Tally) {m k : ℕ} {env₁ env₂ : Env} {x y : Evaluated} → evalE env (exprAt p n) ≡ rule (after u (evalE env₂ (exprAt p k))) → m ≡ k → env₁ ≡ env₂
+      → x ≡ evalE env₁ (exprAt p m) → y ≡ rule (after u x) → y ≡ evalE env (exprAt p n)
+  later-said u g e h ex ey = ey ∙ rw (ex, h, e) (sym g)
 
   choice-eval : kindAt p n ≡ 27
       → evalE env (exprAt p n) ≡ rule (chosen (evalE env (exprAt p (aAt p n))) (evalE env (exprAt p (bAt p n))) (evalE env (exprAt p (cAt p n))))

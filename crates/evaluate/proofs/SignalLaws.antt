@@ -154,6 +154,11 @@ pub group-cell : {k : ℕ} → k ≡ 7 → hasCell k ≡ true
 unfolding hasCell _or_
 group-cell e = ap hasCell e
 
+-- One rule over a part, by the field that was read.
+pub ruled-part : (p rec st : Bytes) (env : Env) {a k : ℕ} {x y : Evaluated} → a ≡ k → x ≡ evalS rec st env (signalAt p a) → y ≡ rule x
+    → y ≡ rule (evalS rec st env (signalAt p k))
+ruled-part p rec st env ea ex ey = ey ∙ ap rule (ex ∙ ap (λ (m : ℕ). evalS rec st env (signalAt p m)) ea)
+
 module _ (p : Bytes) (n : ℕ) (w : NodeOf isSignal p n) (rec st : Bytes) (env : Env) where
   pub input-eval : kindAt p n ≡ 1 → evalS rec st env (signalAt p n) ≡ rule (give (channelValue rec (aAt p n)))
   unfolding evalS
@@ -170,6 +175,19 @@ module _ (p : Bytes) (n : ℕ) (w : NodeOf isSignal p n) (rec st : Bytes) (env :
   pub until-eval : kindAt p n ≡ 8 → evalS rec st env (signalAt p n) ≡ rule (evalS rec st env (signalAt p (aAt p n)))
   unfolding evalS
   until-eval e = ap (evalS rec st env) (until-tree p n w e)
+
+  -- The same, by the fields that were read and what is answered for the part.
+  pub input-said : kindAt p n ≡ 1 → {a : ℕ} {v : Value} {y : Evaluated} → a ≡ aAt p n → v ≡ channelValue rec a → y ≡ rule (give v) → y ≡ evalS rec st env (signalAt p n)
+  input-said e ea ev ey = ey ∙ rw (ev, ea) (sym (input-eval e))
+
+  pub time-said : kindAt p n ≡ 2 → {t : ℕ} {y : Evaluated} → t ≡ timeIn rec → y ≡ rule (give (Plain intT t)) → y ≡ evalS rec st env (signalAt p n)
+  time-said e et ey = ey ∙ rw et (sym (time-eval e))
+
+  pub ext-said : kindAt p n ≡ 3 → {a : ℕ} {x y : Evaluated} → a ≡ aAt p n → x ≡ evalE env (exprAt p a) → y ≡ rule x → y ≡ evalS rec st env (signalAt p n)
+  ext-said e ea ex ey = ey ∙ rw (ex, ea) (sym (ext-eval e))
+
+  pub until-said : kindAt p n ≡ 8 → {a : ℕ} {y : Evaluated} → a ≡ aAt p n → y ≡ rule (evalS rec st env (signalAt p a)) → y ≡ evalS rec st env (signalAt p n)
+  until-said e ea ey = ey ∙ rw ea (sym (until-eval e))
 
   -- One rule over a part that is evaluated with a value bound, by the fields that were read.
   pub bound-goes : (b : ℕ) {v u : Value} {a k : ℕ} {x y : Evaluated} → v ≡ u → a ≡ k → x ≡ evalS rec st (bind env b v) (signalAt p a) → y ≡ rule x

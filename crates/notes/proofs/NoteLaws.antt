@@ -15,7 +15,6 @@ use Rattle.rules.specs.Layout.{kindAt, aAt, bAt, cAt, cellsBefore, cell, held, 
 use Rattle.rules.specs.Kinds.{isSignal, isBranch}
 use Rattle.rules.specs.Tree.{Signal, Branches, noBranch, branch, signalAt, branchesAt}
 use Rattle.rules.specs.Scope.{hasBranch}
-use Rattle.rules.specs.Work.{rule}
 use Rattle.rules.specs.Evaluate.{Env, bind, evalS}
 use Rattle.rules.specs.Shaped.{NodeOf}
 use Rattle.rules.specs.declared.Value.{Value}
@@ -95,11 +94,6 @@ keep-on l at n r e k room₀ f g q =
 -- A part is ready, with slots that came back.
 pub part-ready : {p : Bytes} {ix : List ℕ} {st : Bytes} {env env₁ : Env} {n x : ℕ} → ReadyS p ix st env n → PartS p n x → env₁ ≡ env → ReadyS p ix st env₁ x
 part-ready r k q = record { node = k .node; indexed = r .indexed; state = r .state; slots = subst Slots (sym q) (r .slots); small = k .small }
-
--- One rule over a part, by the field that was read.
-pub ruled-part : (p rec st : Bytes) (env : Env) {a k : ℕ} {x y : Evaluated} → a ≡ k → x ≡ evalS rec st env (signalAt p a) → y ≡ rule x
-    → y ≡ rule (evalS rec st env (signalAt p k))
-ruled-part p rec st env ea ex ey = ey ∙ ap rule (ex ∙ ap (λ (m : ℕ). evalS rec st env (signalAt p m)) ea)
 
 -- The branch with the number, and none.
 module _ (l : List ℕ) (at : ℕ) (rec st : Bytes) (env : Env) (v : Value) (room : Bytes) where

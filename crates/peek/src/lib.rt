@@ -12,14 +12,14 @@ ghost use Rattle.steps.specs.Going.{Going, Held, Told, Displayed, Taken, Leaves
 ghost use Rattle.noted.specs.Noted.{Noted};
 use cells::put;
 use notes::noted;
+use record::first_wrapped;
+use record::record_verdict;
 use rules::NO_STEP;
 use rules::Ran;
 use rules::Tally;
 use rules::Verdict;
 use steps::advance;
 use steps::display;
-use steps::first_wrapped;
-use steps::record_verdict;
 
 // The output of a step and its row of the second room: the row is cleared, and the root evaluated with what listed nodes give noted in it.
 fn show_listed(

@@ -11,10 +11,11 @@ use lib.ListN.{length}
 use borrow.Author.Tests.{eq-eqb, ne-eqb, eqb-true, ltb-false}
 use Rattle.rules.specs.Bytes.{Bytes, if_then_else_, _and_, _or_}
 use Rattle.rules.specs.WellFormed.{wellFormed}
-use Rattle.rules.specs.Calls.{programVerdict, noStep, runFrom, runOutcome}
+use Rattle.rules.specs.Calls.{_otherwise_, refuseIf, programVerdict, stateVerdict, noStep, runFrom, runOutcome}
 use Rattle.rules.specs.declared.Place.{Place}
 use Rattle.rules.specs.declared.Place.the-variants.{At, Nowhere}
 use Rattle.rules.specs.declared.Refusal.{Refusal}
+use Rattle.rules.specs.declared.Refusal.the-variants.{RecordsLength, OutputLength}
 use Rattle.rules.specs.declared.Verdict.{Verdict}
 use Rattle.rules.specs.declared.Verdict.the-variants.{Fine, Refuse}
 use Rattle.rules.specs.declared.Ran.{Ran}
@@ -71,17 +72,25 @@ lent-fine p st recs l out room e =
       second = eqb-true _ _ (c .1);
     }
 
+-- The verdict, from what its parts were found to be.
+pub lent-said : (p st recs : Bytes) (l : List ℕ) (out room : Bytes) {fit right : Bool} {state records output rest all : Verdict} → state ≡ stateVerdict p st
+    → fit ≡ runFits recs → right ≡ roomsFit recs l out room → records ≡ refuseIf (not fit) RecordsLength → output ≡ refuseIf (not right) OutputLength
+    → rest ≡ (records otherwise output) → all ≡ (state otherwise rest) → all ≡ watchLent p st recs l out room
+unfolding watchLent recordsFit runFits
+lent-said p st recs l out room es ef er ec eo et h = cc
+
 -- What is left of the second room, by what is lent.
 pub room-lent : (p st recs : Bytes) (l : List ℕ) (room : Bytes) (v : Verdict) {r : Refusal} → v ≡ Refuse r → room ≡ watchRoom p st recs l room v
 unfolding watchRoom
 room-lent p st recs l room v e = rw e
 
-pub room-fits : (p st recs : Bytes) (l : List ℕ) (room : Bytes) (v : Verdict) → v ≡ Fine
-    → watchRoom p st recs l room v ≡ shownFrom p recs l (length recs / 40) 0 st room
-unfolding watchRoom
-room-fits p st recs l room v e = rw e
-
 module _ (p st recs : Bytes) (l : List ℕ) (out room : Bytes) where
+  -- What a run of the right list leaves, by what is lent.
+  pub listed-run : (v : Verdict) → v ≡ Fine → {r : Ran} {st₁ out₁ room₁ : Bytes} → Leaves (runFrom p recs (length recs / 40) 0 0 noStep st out) r st₁ out₁
+      → room₁ ≡ shownFrom p recs l (length recs / 40) 0 st room → Leaves (runOutcome p st recs out v) r st₁ out₁ × (room₁ ≡ watchRoom p st recs l room v)
+  unfolding runOutcome watchRoom
+  listed-run v e w f = rw e (w, f)
+
   -- By the first entry that is off.
   pub entry-refused : (q : Place) {j : ℕ} → q ≡ At j → LeavesAll (watchListed p st recs l out room q) (ListEntry j) st out room
   unfolding watchListed offList
@@ -112,3 +121,21 @@ module _ (p st recs : Bytes) (l : List ℕ) (out room : Bytes) where
   pub program-accepted : programVerdict p ≡ Fine → watchCall p st recs l out room ≡ watchAccepted p st recs l out room
   unfolding watchCall watchJudged
   program-accepted e = rw e
+
+  -- The call's answer and what it leaves, part by part.
+  pub refused-parts : {r : Refusal} → programVerdict p ≡ Refuse r → (AsRun (Ran.Refused r 0 noStep) ≡ watchCall p st recs l out room .answer)
+      × (st ≡ watchCall p st recs l out room .state) × (out ≡ watchCall p st recs l out room .output) × (room ≡ watchCall p st recs l out room .room)
+  refused-parts e =
+      let same = sym (program-refused e) in
+      (ap (λ (o : WatchOutcome). o .answer) same, ap (λ (o : WatchOutcome). o .state) same, ap (λ (o : WatchOutcome). o .output) same, ap (λ (o : WatchOutcome). o .room) same)
+
+  pub accepted-parts : programVerdict p ≡ Fine → {a : Watched} {st₁ out₁ room₁ : Bytes} → LeavesAll (watchAccepted p st recs l out room) a st₁ out₁ room₁
+      → (a ≡ watchCall p st recs l out room .answer) × (st₁ ≡ watchCall p st recs l out room .state) × (out₁ ≡ watchCall p st recs l out room .output)
+      × (room₁ ≡ watchCall p st recs l out room .room)
+  accepted-parts e w =
+      let same = sym (program-accepted e) in (
+        w .answer-is ∙ ap (λ (o : WatchOutcome). o .answer) same,
+        w .state-is ∙ ap (λ (o : WatchOutcome). o .state) same,
+        w .output-is ∙ ap (λ (o : WatchOutcome). o .output) same,
+        w .room-is ∙ ap (λ (o : WatchOutcome). o .room) same,
+      )

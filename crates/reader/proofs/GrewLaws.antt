@@ -3,7 +3,7 @@
 use mathlib.Core.Path.{_≡_, refl, sym, ap, subst, _∙_}
 use mathlib.Core.Bool.{Bool, true, false}
 use mathlib.Core.List.{List}
-use Prim.Native.Nat.{ℕ, _+_, _≤_, _<_}
+use Prim.Native.Nat.{ℕ, _+_, _*_, _≤_, _<_}
 use native.Mathlib.Omega.{arith}
 use lib.Dec.{ltb}
 use lib.ListN.{length, getD, set, length-set}
@@ -11,6 +11,13 @@ use lib.Seq.{getD-set-same, getD-set-other}
 use borrow.Author.Tests.{ltb-true, lt-ltb}
 use Rattle.phrases.specs.Gave.{Tables}
 use Rattle.reader.specs.Held.{Ready, Grew, Same, Ended, begunIn}
+
+-- At a level, a node is before the parts of a form, and they are before the form.
+pub level-node : (l : ℕ) {t : ℕ} → 3 * l + 1 ≡ t → 3 * l < t
+level-node l e = omega (arith, e)
+
+pub level-part : (l : ℕ) {t : ℕ} → 3 * l + 2 ≡ t → 3 * l + 1 < t
+level-part l e = omega (arith, e)
 
 pub tables-more : (names : List ℕ) (m n : ℕ) → m ≤ n → Tables names m → Tables names n
 tables-more names m n l t =

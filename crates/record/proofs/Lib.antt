@@ -1,2 +1,3 @@
 pub mod TimeLaws
 pub mod EventLaws
+pub mod WrapLaws

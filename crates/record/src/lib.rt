@@ -1,13 +1,19 @@
-// Records of input: codes 12 and 13.
+// Records of input: codes 12 and 13, the verdict on one, and the first record in whose step a number wrapped.
 ghost use mathlib.Core.Path.{_≡_};
 ghost use Prim.Native.Nat.{_<_, _≤_, _^_};
 ghost use lib.ListN.{length};
 ghost use Rattle.rules.specs.Bytes.{_or_};
 ghost use Rattle.rules.specs.Layout.{headerLength, inputLength, timeIn};
-ghost use Rattle.rules.specs.Calls.{absentWrong, inputWrong, timeWrong};
+ghost use Rattle.rules.specs.Calls.{absentWrong, inputWrong, timeWrong, recordVerdict, firstWrapped};
+use answers::otherwise;
+use answers::refuse_if;
 use cells::last_time;
 use kinds::both;
 use kinds::either;
+use rules::NO_STEP;
+use rules::Refusal;
+use rules::Tally;
+use rules::Verdict;
 use table::u32_at;
 
 // The time of a record.
@@ -65,4 +71,26 @@ pub fn time_wrong(st: &[u8], rec: &[u8]) -> bool
 {
     let last = last_time(st);
     both(last != 4294967295, time_of(rec) < last)
+}
+
+// The verdict on one record, after so many steps: 12, then 13.
+pub fn record_verdict(st: &[u8], rec: &[u8], done: u32) -> Verdict
+    requires { ⌜ (headerLength ≤ length (now st)) × (inputLength ≤ length (now rec)) ⌝ }
+    ensures { λ r. ⌜ r ≡ recordVerdict done (now (st .entry)) (now (rec .entry)) ⌝ }
+{
+    let input = refuse_if(input_wrong(rec), Refusal::InputFault(done));
+    let time = refuse_if(time_wrong(st, rec), Refusal::TimeBack(done));
+    otherwise(input, time)
+}
+
+// The first step in which a number wrapped, after one more step that counted so much.
+pub fn first_wrapped(mark: u32, done: u32, w: Tally) -> u32
+    ensures { λ r. ⌜ r ≡ firstWrapped mark done w ⌝ }
+{
+    if w.wrapped {
+        if mark == NO_STEP {
+            return done;
+        }
+    }
+    mark
 }

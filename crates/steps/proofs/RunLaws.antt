@@ -3,7 +3,7 @@
 use mathlib.Core.Path.{_≡_, refl, sym, ap, _∙_}
 use Prim.Native.Nat.{ℕ, zero, suc, _+_, _-_, _*_, _/_, _<_, _≤_}
 use native.Mathlib.Omega.{arith}
-use Rattle.rules.specs.Bytes.{Bytes, writeAt, if_then_else_, _and_}
+use Rattle.rules.specs.Bytes.{Bytes, writeAt}
 use Rattle.rules.specs.Values.{valueBytes}
 use Rattle.rules.specs.Layout.{inputAt}
 use Rattle.rules.specs.Update.{Made, stepOf}
@@ -19,9 +19,7 @@ use Rattle.rules.specs.WellFormed.{lastMoment}
 use Rattle.rules.specs.declared.Verdict.{Verdict}
 use Rattle.rules.proofs.Verdicts.{both-fine, if-fine}
 use Rattle.promises.proofs.Runs.{in-time}
-use mathlib.Core.Bool.{Bool, true, false}
-use lib.Dec.{eqb}
-use borrow.Author.Tests.{eq-eqb, ne-eqb}
+use mathlib.Core.Bool.{true}
 use mathlib.Core.List.{List}
 use lib.ListN.{length, take, drop}
 use Rattle.rules.specs.WellFormed.{wellFormed}
@@ -30,23 +28,6 @@ use Rattle.rules.proofs.Cells.{length-writeAt}
 use Rattle.promises.proofs.Steps.{well-parts}
 use Rattle.steps.specs.Going.{Going, Taken, Leaves, OnTheWay, mostWork}
 use Rattle.steps.proofs.StepLaws.{gone, small-bound}
-
--- The first wrapped step after one more: it is the first, there was one, or nothing wrapped.
-pub wrapped-first : (mark done : ℕ) (w : Tally) → mark ≡ noStep → w .wrapped ≡ true → done ≡ firstWrapped mark done w
-unfolding firstWrapped _and_
-wrapped-first mark done w e f = rw (eq-eqb mark noStep e, f)
-
-pub wrapped-again : (mark done : ℕ) (w : Tally) → (mark ≡ noStep → ⊥) → mark ≡ firstWrapped mark done w
-unfolding firstWrapped _and_
-wrapped-again mark done w e = rw (ne-eqb mark noStep e)
-
-pub not-wrapped : (mark done : ℕ) (w : Tally) → w .wrapped ≡ false → mark ≡ firstWrapped mark done w
-unfolding firstWrapped _and_
-not-wrapped mark done w f = go (eqb mark noStep) (w .wrapped) f
-  where
-    go : (a b : Bool) → b ≡ false → mark ≡ (if a and b then done else mark)
-    go true b e = rw e
-    go false b e = refl
 
 next : (p recs : Bytes) (left done work mark : ℕ) (st out : Bytes) {v : Value} {st₁ : Bytes} {w : Tally}
     → recordVerdict done st (inputAt recs done) ≡ Fine → stepOf p (inputAt recs done) st ≡ Made v st₁ w

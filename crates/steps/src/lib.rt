@@ -2,42 +2,29 @@
 ghost use mathlib.Core.Path.{_≡_};
 ghost use Prim.Native.Nat.{_+_, _*_, _≤_, _<_, _/_};
 ghost use lib.ListN.{length};
-ghost use Rattle.rules.specs.Layout.{inputLength, headerLength, mostNodes};
+ghost use Rattle.rules.specs.Layout.{inputLength, mostNodes};
 ghost use Rattle.rules.specs.Tree.{root};
 ghost use Rattle.rules.specs.Evaluate.{unbound, evalS};
-ghost use Rattle.rules.specs.Calls.{recordVerdict, noStep, firstWrapped, runFrom};
+ghost use Rattle.rules.specs.Calls.{noStep, runFrom};
 ghost use Rattle.steps.specs.Going.{Going, Held, Told, Displayed, Advanced, Taken, Leaves, mostWork};
 ghost use Rattle.noted.specs.Noted.{Noted};
 ghost use Rattle.outcomes.specs.Combine.{workOf};
 ghost use Rattle.outcomes.specs.Outcome.{outcomeIn, IsOutcome};
 ghost use Rattle.promises.specs.Run.{workIn};
-use answers::otherwise;
-use answers::refuse_if;
 use cells::put64;
 use cells::set_time;
 use evaluate::evaluated;
 use moves::Calm;
 use moves::settled;
 use outcomes::Shown;
-use record::input_wrong;
+use record::first_wrapped;
+use record::record_verdict;
 use record::time_of;
-use record::time_wrong;
 use rules::NO_STEP;
 use rules::Ran;
-use rules::Refusal;
 use rules::Tally;
 use rules::Verdict;
 use update::update_s;
-
-// The verdict on one record, after so many steps: 12, then 13.
-pub fn record_verdict(st: &[u8], rec: &[u8], done: u32) -> Verdict
-    requires { ⌜ (headerLength ≤ length (now st)) × (inputLength ≤ length (now rec)) ⌝ }
-    ensures { λ r. ⌜ r ≡ recordVerdict done (now (st .entry)) (now (rec .entry)) ⌝ }
-{
-    let input = refuse_if(input_wrong(rec), Refusal::InputFault(done));
-    let time = refuse_if(time_wrong(st, rec), Refusal::TimeBack(done));
-    otherwise(input, time)
-}
 
 // The value of an outcome, at a place of the output room. The answer is what was counted.
 pub fn display(outcome: u64, out: &mut [u8], at: usize) -> Tally
@@ -122,18 +109,6 @@ fn make_step(
         work: seen.work + moved.work,
         wrapped: seen.wrapped | moved.wrapped,
     }
-}
-
-// The first step in which a number wrapped, after one more step that counted so much.
-pub fn first_wrapped(mark: u32, done: u32, w: Tally) -> u32
-    ensures { λ r. ⌜ r ≡ firstWrapped mark done w ⌝ }
-{
-    if w.wrapped {
-        if mark == NO_STEP {
-            return done;
-        }
-    }
-    mark
 }
 
 // The records of a run, one after the other, until one is refused. More records may follow in another run, with the same slots of definitions' outcomes. (No step works more than 1,008

@@ -2,76 +2,56 @@
 ghost use mathlib.Core.Path.{_≡_};
 ghost use Prim.Native.Nat.{_<_};
 ghost use Rattle.rules.specs.Layout.{records, kindAt};
+use crate::rows::row;
 use crate::say;
 use crate::say::put;
 use rules::Checked;
 use rules::Refusal;
 
-// The sentence of a code: of a program, from 33 on of the new one of two,
+// The line of a code in the text below: that of 0 where there is no such code.
+fn sentence_row(code: u8) -> u8 {
+    if code > 29 {
+        return 0;
+    }
+    code
+}
+
+// The sentence of a code, a line for each: of a program, from 9 on of what else a call is handed: the memory of a run, lists and rooms, a text,
+// and a pairing.
 fn sentence(code: u8) -> bool {
-    match code {
-        1 => put(b"the program is empty, longer than 24 blocks or not whole blocks of 512 bytes"),
-        2 => put(b"the check sum of this block is not that of its bytes"),
-        3 => put(
-            b"this block has not its own number, the count of all blocks or the edition of block 0",
-        ),
-        4 => put(
-            b"this record of the table by itself is wrong: its kind, type, constant, channel, a field that must be zero, or the end of the records",
-        ),
-        5 => put(b"the nodes do not make one tree of the right sorts"),
-        6 => put(
-            b"the binder of this variable does not hold here, or the target of this case is no branch of a group that it may leave",
-        ),
-        7 => put(b"the types at this node do not agree"),
-        8 => put(b"the definition of this let needs its own value of the same step"),
-        _ => call_sentence(code),
-    }
-}
-
-// of what else a call is handed: the memory of a run,
-fn call_sentence(code: u8) -> bool {
-    match code {
-        9 => put(b"the state is not one that this program can have, or has not its length"),
-        10 => put(b"the records are not whole records of 40 bytes, or more than 4,096"),
-        11 => put(b"the room for values is not 8 bytes for each record"),
-        12 => put(b"this record is not well-formed"),
-        13 => put(b"the time of this record is before the time of the state"),
-        15 => put(b"the state is that of another program"),
-        _ => room_sentence(code),
-    }
-}
-
-// lists and rooms,
-fn room_sentence(code: u8) -> bool {
-    match code {
-        16 => put(b"the room for the list is not one entry for each cell and one more"),
-        17 => put(b"the list of nodes to watch has not 1 to 8 entries"),
-        18 => put(b"this entry of the list is no signal node, or not above the one before"),
-        19 => put(b"the room for the new program is shorter than the old program"),
-        25 => put(b"no let needs its own value of the same step: there is nothing to explain"),
-        26 => put(b"the room for the chain is not 1,008 entries"),
-        _ => pair_sentence(code),
-    }
-}
-
-// and of a pairing and a text.
-fn pair_sentence(code: u8) -> bool {
-    match code {
-        27 => put(b"the pairing has not one entry for each new node"),
-        28 => put(b"this entry of the pairing is wrong"),
-        29 => put(b"the old and the new program are of different editions"),
-        _ => text_sentence(code),
-    }
-}
-
-fn text_sentence(code: u8) -> bool {
-    match code {
-        21 => put(b"this word or parenthesis does not fit here"),
-        22 => put(b"this name is unknown here, or bound twice"),
-        23 => put(b"this constant or channel is out of range"),
-        24 => put(b"the result is longer than the room for it"),
-        _ => put(b"refused"),
-    }
+    put(row(
+        b"refused
+the program is empty, longer than 24 blocks or not whole blocks of 512 bytes
+the check sum of this block is not that of its bytes
+this block has not its own number, the count of all blocks or the edition of block 0
+this record of the table by itself is wrong: its kind, type, constant, channel, a field that must be zero, or the end of the records
+the nodes do not make one tree of the right sorts
+the binder of this variable does not hold here, or the target of this case is no branch of a group that it may leave
+the types at this node do not agree
+the definition of this let needs its own value of the same step
+the state is not one that this program can have, or has not its length
+the records are not whole records of 40 bytes, or more than 4,096
+the room for values is not 8 bytes for each record
+this record is not well-formed
+the time of this record is before the time of the state
+refused
+the state is that of another program
+the room for the list is not one entry for each cell and one more
+the list of nodes to watch has not 1 to 8 entries
+this entry of the list is no signal node, or not above the one before
+the room for the new program is shorter than the old program
+refused
+this word or parenthesis does not fit here
+this name is unknown here, or bound twice
+this constant or channel is out of range
+the result is longer than the room for it
+no let needs its own value of the same step: there is nothing to explain
+the room for the chain is not 1,008 entries
+the pairing has not one entry for each new node
+this entry of the pairing is wrong
+the old and the new program are of different editions",
+        sentence_row(code),
+    ))
 }
 
 // Codes 33 to 40 are 1 to 8 of the new program.
@@ -142,61 +122,16 @@ fn behind(before: &[u8], word: &[u8]) -> bool {
     put(word)
 }
 
-// The word of a kind, and what stands before it; nothing where there is no such kind. (By groups, since the check of a match grows with the
-// square of its texts.)
+// The word of a kind, and what stands before it; nothing where there is no such kind. A line for each kind.
 pub fn kind_word(before: &[u8], kind: u8) -> bool {
-    if kind < 16 {
-        return signal_word(before, kind);
+    let word = row(
+        b"\ninput\ntime\next\ndelay\nlet signal\nswitch\nlet continue\nuntil\nbranch\ncase\n\n\n\n\n\nvariable\nconstant\nadd\nsubtract\nmultiply\ndivide\nless\nequal\nnot\nand\nor\nif\njust\ntake",
+        kind,
+    );
+    if word.len() == 0 {
+        return true;
     }
-    if kind < 24 {
-        return number_word(before, kind);
-    }
-    truth_word(before, kind)
-}
-
-// Of signals, branches and cases,
-fn signal_word(before: &[u8], kind: u8) -> bool {
-    match kind {
-        1 => behind(before, b"input"),
-        2 => behind(before, b"time"),
-        3 => behind(before, b"ext"),
-        4 => behind(before, b"delay"),
-        5 => behind(before, b"let signal"),
-        6 => behind(before, b"switch"),
-        7 => behind(before, b"let continue"),
-        8 => behind(before, b"until"),
-        9 => behind(before, b"branch"),
-        10 => behind(before, b"case"),
-        _ => true,
-    }
-}
-
-// of expressions: variables, constants and what is done with numbers,
-fn number_word(before: &[u8], kind: u8) -> bool {
-    match kind {
-        16 => behind(before, b"variable"),
-        17 => behind(before, b"constant"),
-        18 => behind(before, b"add"),
-        19 => behind(before, b"subtract"),
-        20 => behind(before, b"multiply"),
-        21 => behind(before, b"divide"),
-        22 => behind(before, b"less"),
-        23 => behind(before, b"equal"),
-        _ => true,
-    }
-}
-
-// and what is done with truth values and maybes.
-fn truth_word(before: &[u8], kind: u8) -> bool {
-    match kind {
-        24 => behind(before, b"not"),
-        25 => behind(before, b"and"),
-        26 => behind(before, b"or"),
-        27 => behind(before, b"if"),
-        28 => behind(before, b"just"),
-        29 => behind(before, b"take"),
-        _ => true,
-    }
+    behind(before, word)
 }
 
 // The kind of record r, where there is such a record.
@@ -228,23 +163,24 @@ pub fn nodes(p: &[u8]) -> u32 {
 
 // The place: a block, a record of the table or a node with the word of its kind.
 fn place_words(p: &[u8], code: u8, place: u32) -> bool {
-    match code {
-        2 => numbered(b": block ", place),
-        3 => numbered(b": block ", place),
-        4 => {
-            numbered(b": record ", place);
-            kind_word(b", ", kind_at(p, place as usize))
-        }
-        5 => node_words(p, place),
-        6 => node_words(p, place),
-        7 => node_words(p, place),
-        8 => node_words(p, place),
-        _ => true,
+    if code < 2 {
+        return true;
     }
+    if code < 4 {
+        return numbered(b": block ", place);
+    }
+    if code < 5 {
+        return record_words(b": record ", p, place);
+    }
+    if code < 9 {
+        return record_words(b": node ", p, place);
+    }
+    true
 }
 
-fn node_words(p: &[u8], place: u32) -> bool {
-    numbered(b": node ", place);
+// A record behind a word, with the word of its kind.
+fn record_words(word: &[u8], p: &[u8], place: u32) -> bool {
+    numbered(word, place);
     kind_word(b", ", kind_at(p, place as usize))
 }
 

@@ -47,29 +47,41 @@ fn all(fd: i32, room: &mut [u8]) -> Taken {
     }
 }
 
+// Nothing could be had.
+fn nothing() -> Taken {
+    Taken {
+        count: 0,
+        whole: false,
+    }
+}
+
 // Reads the file that argument i names into room; says on standard error what failed.
 pub fn argument(i: usize, room: &mut [u8]) -> Taken {
     let mut path = io::buffer();
     let n = os::arg(i, &mut path);
     if os::errno() != 0 {
         os::fail(b"tables: no file is named");
-        return Taken {
-            count: 0,
-            whole: false,
-        };
+        return nothing();
     }
-    if same(&path[..n], b"-") {
+    named(&path[..n], room)
+}
+
+// Reads the file of a name.
+fn named(path: &[u8], room: &mut [u8]) -> Taken {
+    if same(path, b"-") {
         return said(all(libc::STDIN_FILENO, room), b"-");
     }
-    let fd = os::open_read(&path[..n]);
+    opened(path, room)
+}
+
+// Opens a file, reads and closes it.
+fn opened(path: &[u8], room: &mut [u8]) -> Taken {
+    let fd = os::open_read(path);
     if fd < 0 {
-        os::fail(&path[..n]);
-        return Taken {
-            count: 0,
-            whole: false,
-        };
+        os::fail(path);
+        return nothing();
     }
-    let taken = said(all(fd, room), &path[..n]);
+    let taken = said(all(fd, room), path);
     libc::close(fd);
     taken
 }

@@ -1,17 +1,18 @@
-// tables WORD ARGUMENTS: the commands over tables. A further command is a module with one public function, a test in `chosen` and a line of help.
+// tables WORD ARGUMENTS: the commands over tables. A further command is a module with one public function, a test below and a line of help.
 mod checking;
 mod codes;
 mod files;
 mod here;
 mod mended;
 mod paired;
+mod rows;
 mod say;
 mod tidying;
 mod typed;
 mod watching;
 mod why;
 
-// Does what a word names: a command over tables,
+// Does what a word names: a command over a table,
 fn chosen(word: &[u8]) {
     if check::same(word, b"check") {
         checking::check();
@@ -29,6 +30,11 @@ fn chosen(word: &[u8]) {
         why::why();
         return;
     }
+    changed(word);
+}
+
+// a command over a table and another file,
+fn changed(word: &[u8]) {
     if check::same(word, b"mend") {
         mended::mend();
         return;

@@ -17,19 +17,22 @@ use rules::Checked;
 // A program is at most 24 blocks and a state 8,072 bytes; one byte more tells that a file is longer.
 pub fn mend() {
     let mut program = [0u8; 12289];
-    let mut state = [0u8; 8073];
-    let table = argument(2, &mut program);
-    if !table.whole {
-        return;
+    let got = argument(2, &mut program);
+    if got.whole {
+        with(feed::first(&program, got.count));
     }
+}
+
+// Reads the state, where it is a file.
+fn with(p: &[u8]) {
     if !is_named() {
         return;
     }
+    let mut state = [0u8; 8073];
     let held = argument(3, &mut state);
-    if !held.whole {
-        return;
+    if held.whole {
+        checked(p, &mut state, held.count);
     }
-    checked(feed::first(&program, table.count), &mut state, held.count);
 }
 
 // The state is a file, since it is written back.

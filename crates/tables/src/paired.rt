@@ -2,6 +2,7 @@
 // says; or a refusal in words, and then REFUSED.
 use crate::codes;
 use crate::files::argument;
+use crate::rows::row;
 use crate::say;
 use crate::say::put;
 use dropped::Paired;
@@ -9,23 +10,26 @@ use dropped::Paired;
 // A program is at most 24 blocks and a pairing 1,008 entries; one more of each tells that a file is longer.
 pub fn pair() {
     let mut old = [0u8; 12289];
+    let got = argument(2, &mut old);
+    if got.whole {
+        with_old(feed::first(&old, got.count));
+    }
+}
+
+fn with_old(old: &[u8]) {
     let mut new = [0u8; 12289];
+    let got = argument(3, &mut new);
+    if got.whole {
+        with_both(old, feed::first(&new, got.count));
+    }
+}
+
+fn with_both(old: &[u8], new: &[u8]) {
     let mut bytes = [0u8; 2018];
-    let olds = argument(2, &mut old);
-    if !olds.whole {
-        return;
+    let got = argument(4, &mut bytes);
+    if got.whole {
+        with(old, new, feed::first(&bytes, got.count));
     }
-    let news = argument(3, &mut new);
-    if !news.whole {
-        return;
-    }
-    let pairs = argument(4, &mut bytes);
-    if !pairs.whole {
-        return;
-    }
-    let old = feed::first(&old, olds.count);
-    let new = feed::first(&new, news.count);
-    with(old, new, feed::first(&bytes, pairs.count));
 }
 
 // Half an entry at the end is no pairing.
@@ -97,25 +101,18 @@ pub(crate) fn entry(pairs: &[u16], i: usize) -> u32 {
     65535
 }
 
-// What an entry has to meet and this one does not.
+// What an entry has to meet and this one does not, a line for each clause.
 fn broken(clause: u8) -> bool {
-    match clause {
-        1 => put(b": it names no old node"),
-        2 => put(b": the old node is of another kind, type, channel or value"),
-        3 => put(b": one of the two nodes has a next, and the other has none"),
-        4 => put(
-            b": its first child is not paired with the old one, nor with what that leads to through lets",
-        ),
-        5 => put(
-            b": its second child is not paired with the old one, nor with what that leads to through lets",
-        ),
-        6 => put(
-            b": its third child is not paired with the old one, nor with what that leads to through lets",
-        ),
-        7 => put(b": its binder or target is not paired with the old one"),
-        8 => put(
-            b": the last node is not paired with the old last one, nor with what that leads to through lets",
-        ),
-        _ => true,
-    }
+    put(row(
+        b"
+: it names no old node
+: the old node is of another kind, type, channel or value
+: one of the two nodes has a next, and the other has none
+: its first child is not paired with the old one, nor with what that leads to through lets
+: its second child is not paired with the old one, nor with what that leads to through lets
+: its third child is not paired with the old one, nor with what that leads to through lets
+: its binder or target is not paired with the old one
+: the last node is not paired with the old last one, nor with what that leads to through lets",
+        clause,
+    ))
 }

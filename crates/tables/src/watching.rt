@@ -310,19 +310,24 @@ fn turns(place: Place, program: &[u8], state: &mut [u8], list: &[u16], input: &m
     }
 }
 
-// Tries the list on no records, and makes the turns.
-fn begun(place: Place, program: &[u8], state: &mut [u8], list: &[u16], input: &mut [u8]) {
+// Tries the list on no records.
+fn tried(program: &[u8], state: &mut [u8], list: &[u16]) -> Watched {
     let none = [0u8; 40];
     let mut value = [0u8; 8];
     let mut row = [0u8; 8];
-    match peeking::watched(
+    peeking::watched(
         program,
         state,
         &none[..0],
         list,
         &mut value[..0],
         &mut row[..0],
-    ) {
+    )
+}
+
+// Tries the list, and makes the turns.
+fn begun(place: Place, program: &[u8], state: &mut [u8], list: &[u16], input: &mut [u8]) {
+    match tried(program, state, list) {
         Watched::AsRun(_) => {
             turns(place, program, state, list, input);
         }

@@ -6,6 +6,7 @@ ghost use Rattle.rules.specs.Layout.{records};
 ghost use Rattle.tables.specs.Fields.{firstField, heldBy};
 use crate::codes;
 use crate::files::argument;
+use crate::rows::row;
 use crate::say;
 use crate::say::put;
 use chains::Explained;
@@ -102,45 +103,79 @@ fn held_by(p: &[u8], i: usize, m: usize) -> u8
     3
 }
 
-// Where a node stands that one of a kind holds by a field: the paper's words for the fields of signals and branches,
-fn held_words(kind: u8, field: u8) -> bool {
+// The number of a kind among those whose fields have words of their own, in the text below; 10 for any other.
+fn worded(kind: u8) -> u8 {
     match kind {
-        3 => put(b": expression of ext"),
-        5 => one_of(field, b": definition of let", b": body of let"),
-        6 => one_of(field, b": first of switch", b": second of switch"),
-        7 => one_of(
-            field,
-            b": body of let continue",
-            b": first branch of let continue",
-        ),
-        8 => put(b": signal of until"),
-        9 => one_of(field, b": body of branch", b": next branch after branch"),
-        _ => operand_words(kind, field),
+        3 => 0,
+        5 => 1,
+        6 => 2,
+        7 => 3,
+        8 => 4,
+        9 => 5,
+        24 => 6,
+        27 => 7,
+        28 => 8,
+        29 => 9,
+        _ => 10,
     }
 }
 
-// and for those of operations.
-fn operand_words(kind: u8, field: u8) -> bool {
-    match kind {
-        24 => put(b": operand of not"),
-        27 => arm_words(
-            field,
-            b": test of if",
-            b": first arm of if",
-            b": second arm of if",
-        ),
-        28 => put(b": operand of just"),
-        29 => arm_words(
-            field,
-            b": maybe of take",
-            b": arm for absent of take",
-            b": arm for present of take",
-        ),
-        _ => {
-            one_of(field, b": left operand of", b": right operand of");
-            codes::kind_word(b" ", kind)
-        }
+// The line of a field, with three lines for each kind: one for a, one for b, and one for what stands behind it.
+fn field_row(number: u8, field: u8) -> u8 {
+    if number > 80 {
+        return 255;
     }
+    if field > 1 {
+        return 3 * number + 2;
+    }
+    3 * number + field
+}
+
+// Where a node stands that one of a kind holds by a field: the paper's words for the fields of signals, branches and some operations,
+fn held_words(kind: u8, field: u8) -> bool {
+    let number = worded(kind);
+    if number == 10 {
+        return operand_words(kind, field);
+    }
+    put(row(
+        b": expression of ext
+: expression of ext
+: expression of ext
+: definition of let
+: body of let
+: body of let
+: first of switch
+: second of switch
+: second of switch
+: body of let continue
+: first branch of let continue
+: first branch of let continue
+: signal of until
+: signal of until
+: signal of until
+: body of branch
+: next branch after branch
+: next branch after branch
+: operand of not
+: operand of not
+: operand of not
+: test of if
+: first arm of if
+: second arm of if
+: operand of just
+: operand of just
+: operand of just
+: maybe of take
+: arm for absent of take
+: arm for present of take",
+        field_row(number, field),
+    ))
+}
+
+// and for those of all other operations.
+fn operand_words(kind: u8, field: u8) -> bool {
+    one_of(field, b": left operand of", b": right operand of");
+    codes::kind_word(b" ", kind)
 }
 
 // One text for field a, another for one behind it.
@@ -149,15 +184,4 @@ fn one_of(field: u8, first: &[u8], other: &[u8]) -> bool {
         return put(first);
     }
     put(other)
-}
-
-// A text for each of three fields.
-fn arm_words(field: u8, first: &[u8], second: &[u8], third: &[u8]) -> bool {
-    if field == 0 {
-        return put(first);
-    }
-    if field == 1 {
-        return put(second);
-    }
-    put(third)
 }

@@ -5,7 +5,7 @@ ghost use Prim.Native.Nat.{_<_};
 ghost use lib.ListN.{length};
 ghost use Rattle.rules.specs.Bytes.{Bytes};
 ghost use Rattle.rules.specs.Values.{unpacked};
-ghost use Rattle.rules.specs.Kinds.{isSignal, isBranch};
+ghost use Rattle.rules.specs.Kinds.{isSignal};
 ghost use Rattle.rules.specs.Shaped.{NodeOf};
 ghost use Rattle.rules.specs.Layout.{aAt, bAt, cellsBefore, mostNodes};
 ghost use Rattle.rules.specs.Tree.{signalAt, branchesAt, casesAt};
@@ -17,7 +17,7 @@ ghost use Rattle.recalled.specs.Recall.{fillS, onOutcome, recallS};
 ghost use Rattle.noted.specs.Noted.{memoryIn, Noted, Notes};
 ghost use Rattle.evaluate.specs.Ready.{ReadyS};
 ghost use Rattle.moves.specs.Outcomes.{countIn, movedIn, leftIn, walked, walkedOn, nextCases};
-ghost use Rattle.moves.specs.Parts.{inSwitch, switched, entered};
+ghost use Rattle.moves.specs.Parts.{inSwitch};
 ghost use Rattle.update.specs.Passes.{Fits, seenOf, seenIn, quietly, quietWork, passedFrom, Known};
 ghost use Rattle.moves.specs.Lent.{Ready, ReadyAs, Placed, ReadyC, CaseAs};
 use branches::has_branch;
@@ -27,11 +27,12 @@ use cells::own_cell;
 use evaluate::branch_in;
 use evaluate::evaluated;
 use evaluate::outright;
+use leaving::enters;
+use leaving::switches;
 use moves::Calm;
 use moves::after;
 use moves::caught;
 use moves::hold;
-use moves::hold_branch;
 use moves::jump;
 use moves::later;
 use moves::ruled;
@@ -48,40 +49,7 @@ use outcomes::exactly;
 use outcomes::show;
 use rules::Node;
 use rules::Tally;
-use state::resets;
 use table::LAST;
-
-// Switch i catches the value v: the part that is left goes to start.
-fn switches(p: &&[u8], index: &[u16; 10080], st: &mut [u8], i: usize, n: Node, v: u64)
-    requires { ⌜ Placed 6 (now (now p)) (now index) (length (now st)) i n × IsValue v ⌝ }
-    ensures { λ _. ⌜ now (st .exit) ≡ switched (now (now (p .entry))) i (now (st .entry)) (unpacked v) ⌝ }
-{
-    let m = own_cell(index, st, i);
-    hold(index, st, i, v);
-    if m == 0 {
-        resets(p, index, st, n.a);
-    } else {
-        resets(p, index, st, n.c);
-    }
-}
-
-// Group i takes the branch and the value v: the part that is left goes to start.
-fn enters(
-    p: &&[u8],
-    index: &[u16; 10080],
-    st: &mut [u8],
-    i: usize,
-    n: Node,
-    part: usize,
-    which: usize,
-    v: u64,
-)
-    requires { ⌜ Placed 7 (now (now p)) (now index) (length (now st)) i n × NodeOf isSignal (now (now p)) part × NodeOf isBranch (now (now p)) which × IsValue v ⌝ }
-    ensures { λ _. ⌜ now (st .exit) ≡ entered (now (now (p .entry))) i part (now (st .entry)) which (unpacked v) ⌝ }
-{
-    hold_branch(index, st, i, which, v);
-    resets(p, index, st, part);
-}
 
 // The outcome of group i, by one rule, from that of its part: a jump to one of its branches is caught, another goes on up.
 fn catches(

@@ -2,7 +2,7 @@
 -- Assumes nothing.
 use mathlib.Core.Path.{_≡_, refl}
 use mathlib.Core.Bool.{Bool, true, not}
-use Prim.Native.Nat.{_-_, _*_, _/_, _%_, _≤_, _<_}
+use Prim.Native.Nat.{ℕ, _-_, _*_, _/_, _%_, _≤_, _<_}
 use native.Mathlib.Omega.{arith}
 use lib.Dec.{eqb}
 use lib.ListN.{length}
@@ -13,10 +13,10 @@ use Rattle.rules.specs.Tree.{root}
 use Rattle.rules.specs.Typing.{typeS}
 use Rattle.rules.specs.Bound.{bound}
 use Rattle.rules.specs.Accepted.{Accepted}
-use Rattle.rules.specs.Calls.{_otherwise_, refuseIf, programVerdict, checkAnswer, checkCall, startOutcome, startCall, lentVerdict, noStep, runFrom, runOutcome, runCall}
+use Rattle.rules.specs.Calls.{_otherwise_, refuseIf, stateVerdict, programVerdict, checkAnswer, checkCall, startOutcome, startCall, lentVerdict, noStep, runFrom, runOutcome, runCall}
 use Rattle.rules.specs.WellFormed.{wellFormed}
 use Rattle.rules.specs.declared.Refusal.{Refusal}
-use Rattle.rules.specs.declared.Refusal.the-variants.{StateFault}
+use Rattle.rules.specs.declared.Refusal.the-variants.{StateFault, RecordsLength, OutputLength}
 use Rattle.rules.specs.declared.Verdict.{Verdict}
 use Rattle.rules.specs.declared.Verdict.the-variants.{Fine, Refuse}
 use Rattle.rules.specs.declared.Checked.{Checked}
@@ -30,6 +30,17 @@ use Rattle.promises.specs.Small.{Small}
 use Rattle.promises.proofs.FromTable.{seated}
 use Rattle.promises.proofs.CallLaws.{state-well}
 use Rattle.watch.specs.Lent.{lentRest, runFits}
+
+-- codes 9, 15, 10 and 11, from the answers of the three tests
+pub lent-said : (p st recs out : Bytes) (fit : Bool) {a b d bd r : Verdict} → a ≡ stateVerdict p st → b ≡ refuseIf (not fit) RecordsLength
+    → d ≡ refuseIf (not (eqb (length out) (8 * (length recs / 40)))) OutputLength → bd ≡ (b otherwise d) → r ≡ (a otherwise bd) → r ≡ lentRest p st recs out fit
+unfolding lentRest
+lent-said p st recs out fit ea eb ed ebd er = cc
+
+-- what an accepted program is answered, from its numbers
+pub numbers-said : (p : Bytes) {count held most type : ℕ} {r : Checked} → count ≡ nodes p → held ≡ cells p → most ≡ bound p → type ≡ typeS (root p)
+    → r ≡ Checked.Accepted count held most type → r ≡ Checked.Accepted (nodes p) (cells p) (bound p) (typeS (root p))
+numbers-said p ec eh em et er = cc
 
 -- no fault first
 pub fine-first : (v : Verdict) → (Fine otherwise v) ≡ v
@@ -103,3 +114,8 @@ run-lent p st recs out v e = rw e (record { answer-is = refl; state-is = refl; o
 pub run-fits : (p st recs out : Bytes) (v : Verdict) → v ≡ Fine → runOutcome p st recs out v ≡ runFrom p recs (length recs / 40) 0 0 noStep st out
 unfolding runOutcome
 run-fits p st recs out v e = rw e
+
+-- and what it leaves where none of them did
+pub run-went : (p st recs out : Bytes) (v : Verdict) → v ≡ Fine → {r : Ran} {st₁ out₁ : Bytes}
+    → Leaves (runFrom p recs (length recs / 40) 0 0 noStep st out) r st₁ out₁ → Leaves (runOutcome p st recs out v) r st₁ out₁
+run-went p st recs out v e l = rw (run-fits p st recs out v e) l

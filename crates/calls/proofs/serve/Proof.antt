@@ -6,11 +6,11 @@ use Rattle.calls.proofs.serve.Statement.{statement}
 use Rattle.calls.proofs.serve.Tie as tie
 
 abbrev Inv-loop : tie.InvT-loop
-Inv-loop input₀ program₀ state₀ records₀ room₀ entries₀ list₀ shown₀ out₀ at₀ end₀ full₀ turns₀ input program state records room entries list shown out at end full turns =
-    (length input ≡ length input₀) × (length program ≡ length program₀) × (length state ≡ length state₀) × (length records ≡ length records₀) × (length room ≡ length room₀) × (length entries ≡ length entries₀) × (length list ≡ length list₀) × (length shown ≡ length shown₀) × (length out ≡ length out₀)
+Inv-loop input₀ program₀ state₀ records₀ room₀ entries₀ shown₀ out₀ at₀ end₀ full₀ turns₀ input program state records room entries shown out at end full turns =
+    (length input ≡ length input₀) × (length program ≡ length program₀) × (length state ≡ length state₀) × (length records ≡ length records₀) × (length room ≡ length room₀) × (length entries ≡ length entries₀) × (length shown ≡ length shown₀) × (length out ≡ length out₀)
 
 abbrev μ-loop : tie.MeasureT-loop
-μ-loop input₀ program₀ state₀ records₀ room₀ entries₀ list₀ shown₀ out₀ at₀ end₀ full₀ turns₀ input program state records room entries list shown out at end full turns =
+μ-loop input₀ program₀ state₀ records₀ room₀ entries₀ shown₀ out₀ at₀ end₀ full₀ turns₀ input program state records room entries shown out at end full turns =
     turns
 
 loop-holds : tie.Need-loop-holds Inv-loop μ-loop
@@ -61,9 +61,6 @@ same-length-7 c = search needs
 same-length-8 : tie.Need-same-length-8 Inv-loop μ-loop
 same-length-8 c = search needs
 
-same-length-9 : tie.Need-same-length-9 Inv-loop μ-loop
-same-length-9 c = search needs
-
 returns : tie.Need-returns Inv-loop μ-loop
 returns c = search needs
 
@@ -89,5 +86,4 @@ serve-spec =
     same-length-6
     same-length-7
     same-length-8
-    same-length-9
     returns)

@@ -1,3 +1,4 @@
+use Rattle.rules.specs.Layout.{cell}
 use mathlib.Core.Path.{_≡_, refl, sym, ap, _∙_}
 use borrow.Author.Needs.{needs}
 use Rattle.cells.proofs.own_cell.Statement.{statement}
@@ -17,7 +18,7 @@ cell-requires c κs = rw (c .number-of .ensures) (c .before .before .before .pre
 
 -- src/lib.rt:30:1
 returns : tie.Need-returns
-returns c = cc
+returns c = c .cell .ensures ∙ ap (cell (c .before .before .before .before .args .st .now)) (c .before .number-of .ensures)
 
 pub own-cell-spec : {M : Type 1} → statement M
 own-cell-spec = tie.close (tie.spec number-of-requires cell-requires returns)

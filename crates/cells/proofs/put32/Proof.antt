@@ -1,3 +1,5 @@
+use Prim.Native.Nat.{ℕ}
+use Rattle.rules.specs.Bytes.{writeAt, bytesOf}
 use mathlib.Core.Path.{ap, _∙_}
 use borrow.Author.Needs.{needs}
 use Rattle.cells.proofs.put32.Statement.{statement}
@@ -21,7 +23,7 @@ same-length c = search needs
 
 -- src/lib.rt:41:1
 returns : tie.Need-returns
-returns c = cc
+returns c = c .before .before .put .ensures ∙ ap (λ (x : ℕ). writeAt (c .before .before .before .before .before .before .args .s .now) (c .before .before .before .before .before .before .args .at) (bytesOf 4 x)) (c .before .before .before .wide .ensures .0)
 
 pub put32-spec : {M : Type 1} → statement M
 put32-spec = tie.close (tie.spec wide-requires put-requires same-length returns)

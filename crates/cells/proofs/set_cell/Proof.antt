@@ -1,3 +1,6 @@
+use mathlib.Core.Path.{ap, _∙_}
+use Prim.Native.Nat.{ℕ}
+use Rattle.rules.specs.Bytes.{writeAt, bytesOf}
 use Rattle.rules.specs.Layout.{setCell}
 use borrow.Author.Needs.{needs}
 use Rattle.cells.proofs.set_cell.Statement.{statement}
@@ -22,7 +25,7 @@ same-length c = search needs
 -- src/lib.rt:74:1
 returns : tie.Need-returns
 unfolding setCell
-returns c = cc
+returns c = c .before .before .put64 .ensures ∙ ap (λ (at : ℕ). writeAt (c .before .before .before .before .before .before .args .st .now) at (bytesOf 8 (c .before .before .before .before .before .before .args .m))) (c .before .before .before .before .cell-at .ensures)
 
 pub set-cell-spec : {M : Type 1} → statement M
 set-cell-spec = tie.close (tie.spec cell-at-requires put64-requires same-length returns)

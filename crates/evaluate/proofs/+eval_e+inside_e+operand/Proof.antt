@@ -1,10 +1,11 @@
 use Rattle.rules.proofs.PutBack.{put-back}
-use Rattle.evaluate.proofs.ExprLaws.{read, part-work, negation-part, just-part, choice-parts, taking-parts, operation-parts, chosen-part, pair-work, operation-pair, choice-pair, taking-pairs, variable-eval, constant-value, constant-fixed, constant-left, sum-operation, sum-eval, negation-eval, just-eval, operation-eval, choice-goes, choice-stuck, taking-present, taking-absent, taking-stuck}
+use Rattle.evaluate.proofs.ExprLaws.{read, part-work, negation-part, just-part, choice-parts, taking-parts, operation-parts, chosen-part, pair-work, operation-pair, choice-pair, taking-pairs, variable-said, constant-value, constant-fixed, constant-left, sum-operation, negation-said, just-said, operation-said, later-said, choice-goes, choice-stuck, taking-present, taking-absent, taking-stuck}
 use Rattle.outcomes.proofs.Counted.{gives-stuck}
 use Rattle.outcomes.specs.Outcome.{outcomeIn, Slots}
 use Rattle.outcomes.proofs.Outcomes.{arm-work, take-work, take-value, slots-set, bind-value}
 use Rattle.rules.proofs.Expressions.{left}
-use Rattle.rules.specs.Evaluate.{evalE}
+use Rattle.rules.specs.Evaluate.{bind, evalE}
+use Rattle.rules.specs.Values.{unpacked}
 use Rattle.rules.specs.Tree.{exprAt}
 use lib.ListN.{length, length-set, set, getD}
 use Prim.Native.Nat.{_+_, _*_}
@@ -263,7 +264,7 @@ eval-e-returns-3 t c =
     let w = c .before .before .before .before .before .before .before .before .before .before .before .before .before .before .pre .1 .node in
     let env = c .before .before .before .before .before .before .before .before .before .before .before .before .before .before .args .env .now in
     let node = c .before .before .before .before .before .before .before .before .before .before .before .before .node-by .ensures in
-    (cc (taking-absent p i w env (sym (node .kind-is) ∙ c .before .before .before .before .before .before .before .before .before .before .before .match .keys6) (node .a-is) (c .before .before .before .before .before .before .before .before .before .operand4 .ensures .0) (sym (c .before .before .before .before .before .before .before .before .apart .ensures) ∙ c .before .before .before .before .before .before .event .given .1) (c .before .before .before .enum-told3 .given .1)), c .later2 .ensures .1, c .before .eval-e2 .ensures .2 ∙ c .before .before .before .before .before .before .before .before .before .operand4 .ensures .2)
+    (later-said p i w env (c .before .before .before .before .before .before .event .given .0 .1 .0) (taking-absent p i w env (sym (node .kind-is) ∙ c .before .before .before .before .before .before .before .before .before .before .before .match .keys6) (node .a-is) (c .before .before .before .before .before .before .before .before .before .operand4 .ensures .0) (sym (c .before .before .before .before .before .before .before .before .apart .ensures) ∙ c .before .before .before .before .before .before .event .given .1) (c .before .before .before .enum-told3 .given .1)) (node .b-is) (c .before .before .before .before .before .before .before .before .before .operand4 .ensures .2) (c .before .eval-e2 .ensures .0) (c .later2 .ensures .0), c .later2 .ensures .1, c .before .eval-e2 .ensures .2 ∙ c .before .before .before .before .before .before .before .before .before .operand4 .ensures .2)
 
 -- src/lib.rt:87:17
 eval-e-inside-e-requires : (t : ℕ) → eval-e-lts.Need-inside-e-requires (eval-e-calls t) (eval-e-at t) eval-e.Post
@@ -358,7 +359,7 @@ eval-e-returns-4 t c =
     let w = c .before .before .before .before .before .pre .1 .node in
     let env = c .before .before .before .before .before .args .env .now in
     let node = c .before .before .before .node-by .ensures in
-    (cc (variable-eval p i w env (sym (node .kind-is) ∙ c .before .before .match .keys1)), c .variable .ensures .1, refl)
+    (variable-said p i w env (sym (node .kind-is) ∙ c .before .before .match .keys1) (node .a-is) (c .variable .ensures .0), c .variable .ensures .1, refl)
 
 -- src/lib.rt:59:1
 eval-e-returns-5 : (t : ℕ) → eval-e-lts.Need-returns-5 (eval-e-calls t) (eval-e-at t) eval-e.Post
@@ -378,7 +379,7 @@ eval-e-returns-6 t c =
     let w = c .before .before .before .before .before .before .pre .1 .node in
     let env = c .before .before .before .before .before .before .args .env .now in
     let node = c .before .before .before .before .node-by .ensures in
-    (cc (negation-eval p i w env (sym (node .kind-is) ∙ c .before .before .before .match .keys3)), c .negated .ensures .1, c .before .operand .ensures .2)
+    (negation-said p i w env (sym (node .kind-is) ∙ c .before .before .before .match .keys3) (node .a-is) (c .before .operand .ensures .0) (c .negated .ensures .0), c .negated .ensures .1, c .before .operand .ensures .2)
 
 -- src/lib.rt:59:1
 eval-e-returns-7 : (t : ℕ) → eval-e-lts.Need-returns-7 (eval-e-calls t) (eval-e-at t) eval-e.Post
@@ -388,7 +389,7 @@ eval-e-returns-7 t c =
     let w = c .before .before .before .before .before .before .before .before .before .before .before .before .pre .1 .node in
     let env = c .before .before .before .before .before .before .before .before .before .before .before .before .args .env .now in
     let node = c .before .before .before .before .before .before .before .before .before .before .node-by .ensures in
-    (cc (choice-goes p i w env (sym (node .kind-is) ∙ c .before .before .before .before .before .before .before .before .before .match .keys4) (node .a-is) (node .b-is) (node .c-is) (c .before .before .before .before .before .before .before .operand2 .ensures .0) (sym (c .before .before .before .before .before .before .chosen .ensures) ∙ c .before .before .before .before .arm .given .1)), c .later .ensures .1, c .before .eval-e .ensures .2 ∙ c .before .before .before .before .before .before .before .operand2 .ensures .2)
+    (later-said p i w env (c .before .before .before .before .arm .given .0 .1 .0) (choice-goes p i w env (sym (node .kind-is) ∙ c .before .before .before .before .before .before .before .before .before .match .keys4) (node .a-is) (node .b-is) (node .c-is) (c .before .before .before .before .before .before .before .operand2 .ensures .0) (sym (c .before .before .before .before .before .before .chosen .ensures) ∙ c .before .before .before .before .arm .given .1)) refl (c .before .before .before .before .before .before .before .operand2 .ensures .2) (c .before .eval-e .ensures .0) (c .later .ensures .0), c .later .ensures .1, c .before .eval-e .ensures .2 ∙ c .before .before .before .before .before .before .before .operand2 .ensures .2)
 
 -- src/lib.rt:59:1
 eval-e-returns-8 : (t : ℕ) → eval-e-lts.Need-returns-8 (eval-e-calls t) (eval-e-at t) eval-e.Post
@@ -398,7 +399,7 @@ eval-e-returns-8 t c =
     let w = c .before .before .before .before .before .before .pre .1 .node in
     let env = c .before .before .before .before .before .before .args .env .now in
     let node = c .before .before .before .before .node-by .ensures in
-    (cc (just-eval p i w env (sym (node .kind-is) ∙ c .before .before .before .match .keys5)), c .lifted .ensures .1, c .before .operand3 .ensures .2)
+    (just-said p i w env (sym (node .kind-is) ∙ c .before .before .before .match .keys5) (node .a-is) (c .before .operand3 .ensures .0) (c .lifted .ensures .0), c .lifted .ensures .1, c .before .operand3 .ensures .2)
 
 -- src/lib.rt:59:1
 eval-e-returns-9 : (t : ℕ) → eval-e-lts.Need-returns-9 (eval-e-calls t) (eval-e-at t) eval-e.Post
@@ -408,7 +409,7 @@ eval-e-returns-9 t c =
     let w = c .before .before .before .before .before .before .before .before .before .before .before .before .before .before .before .pre .1 .node in
     let env = c .before .before .before .before .before .before .before .before .before .before .before .before .before .before .before .args .env .now in
     let node = c .before .before .before .before .before .before .before .before .before .before .before .before .before .node-by .ensures in
-    (cc (taking-present p i w env (sym (node .kind-is) ∙ c .before .before .before .before .before .before .before .before .before .before .before .before .match .keys6) (node .a-is) (c .before .before .before .before .before .before .before .before .before .before .operand4 .ensures .0) (sym (c .before .before .before .before .before .before .before .before .before .apart .ensures) ∙ c .before .before .before .before .before .before .before .event .given .1) (c .before .before .before .before .event2 .given .1)), c .later3 .ensures .1, c .before .inside-e .ensures .2 ∙ c .before .before .before .before .before .before .before .before .before .before .operand4 .ensures .2)
+    (later-said p i w env (c .before .before .before .before .before .before .before .event .given .0 .1 .0) (taking-present p i w env (sym (node .kind-is) ∙ c .before .before .before .before .before .before .before .before .before .before .before .before .match .keys6) (node .a-is) (c .before .before .before .before .before .before .before .before .before .before .operand4 .ensures .0) (sym (c .before .before .before .before .before .before .before .before .before .apart .ensures) ∙ c .before .before .before .before .before .before .before .event .given .1) (c .before .before .before .before .event2 .given .1)) (node .c-is) (ap (λ (l : List ℕ). bind l i (unpacked (c .before .before .before .before .event2 .given .0 .0))) (c .before .before .before .before .before .before .before .before .before .before .operand4 .ensures .2)) (c .before .inside-e .ensures .0) (c .later3 .ensures .0), c .later3 .ensures .1, c .before .inside-e .ensures .2 ∙ c .before .before .before .before .before .before .before .before .before .before .operand4 .ensures .2)
 
 -- src/lib.rt:59:1
 eval-e-returns-10 : (t : ℕ) → eval-e-lts.Need-returns-10 (eval-e-calls t) (eval-e-at t) eval-e.Post
@@ -418,7 +419,8 @@ eval-e-returns-10 t c =
     let w = c .before .before .before .before .before .before .before .before .pre .1 .node in
     let env = c .before .before .before .before .before .before .before .before .args .env .now in
     let node = c .before .before .before .before .before .before .node-by .ensures in
-    (cc (sum-eval p i w env (sym (node .kind-is) ∙ c .before .before .before .before .before .match .keys7)), c .added .ensures .1, c .before .operand6 .ensures .2 ∙ c .before .before .before .operand5 .ensures .2)
+    let k = sym (node .kind-is) ∙ c .before .before .before .before .before .match .keys7 in
+    (operation-said p i w env (sum-operation k) (sym k) (node .a-is) (node .b-is) (c .before .before .before .operand5 .ensures .2) (c .before .before .before .operand5 .ensures .0) (c .before .operand6 .ensures .0) (c .added .ensures .0), c .added .ensures .1, c .before .operand6 .ensures .2 ∙ c .before .before .before .operand5 .ensures .2)
 
 -- src/lib.rt:59:1
 eval-e-returns-11 : (t : ℕ) → eval-e-lts.Need-returns-11 (eval-e-calls t) (eval-e-at t) eval-e.Post
@@ -428,7 +430,7 @@ eval-e-returns-11 t c =
     let w = c .before .before .before .before .before .before .before .before .pre .1 .node in
     let env = c .before .before .before .before .before .before .before .before .args .env .now in
     let node = c .before .before .before .before .before .before .node-by .ensures in
-    (cc (operation-eval p i w env (left (node .kind-is) (c .before .before .before .before .before .match .rest .0))), c .operated .ensures .1, c .before .operand8 .ensures .2 ∙ c .before .before .before .operand7 .ensures .2)
+    (operation-said p i w env (left (node .kind-is) (c .before .before .before .before .before .match .rest .0)) (node .kind-is) (node .a-is) (node .b-is) (c .before .before .before .operand7 .ensures .2) (c .before .before .before .operand7 .ensures .0) (c .before .operand8 .ensures .0) (c .operated .ensures .0), c .operated .ensures .1, c .before .operand8 .ensures .2 ∙ c .before .before .before .operand7 .ensures .2)
 
 -- src/lib.rt:108:15
 inside-e-mul-old :
@@ -498,7 +500,7 @@ operand-returns-2 t c =
     let w = c .before .before .before .before .before .before .pre .1 .node in
     let env = c .before .before .before .before .before .before .args .env .now in
     let node = c .before .before .before .before .node-by .ensures in
-    (cc (variable-eval p i w env (sym (node .kind-is) ∙ c .before .before .if2 .taken)), c .variable .ensures .1, refl)
+    (variable-said p i w env (sym (node .kind-is) ∙ c .before .before .if2 .taken) (node .a-is) (c .variable .ensures .0), c .variable .ensures .1, refl)
 
 -- src/lib.rt:55:11
 operand-value-by-requires : (t : ℕ) → operand-lts.Need-value-by-requires (operand-calls t) (operand-at t) operand.Post

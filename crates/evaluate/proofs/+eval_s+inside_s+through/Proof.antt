@@ -1,5 +1,5 @@
 use Rattle.rules.proofs.PutBack.{put-back}
-use Rattle.evaluate.proofs.SignalLaws.{read-s, part-work-s, own-work, let-work, let-pair, ext-part, let-parts, switch-parts, group-part, branch-part, until-part, cell-in, held-work, delay-cell, switch-cell, group-cell, input-eval, time-eval, ext-eval, until-eval, let-goes, let-stuck, bound-goes, delay-eval, switch-first, switch-second, group-body, group-branch, group-stuck}
+use Rattle.evaluate.proofs.SignalLaws.{read-s, part-work-s, own-work, let-work, let-pair, ext-part, let-parts, switch-parts, group-part, branch-part, until-part, cell-in, held-work, delay-cell, switch-cell, group-cell, input-said, time-said, ext-said, until-said, ruled-part, let-goes, let-stuck, bound-goes, delay-eval, switch-first, switch-second, group-body, group-branch, group-stuck}
 use Rattle.rules.specs.Work.{rule}
 use Rattle.rules.specs.Bytes.{_or_}
 use Rattle.rules.specs.Layout.{hasCell}
@@ -241,7 +241,7 @@ eval-s-returns-2 t c =
     let rec = c .before .before .before .before .before .before .before .before .before .before .before .args .rec .now .now in
     let st = c .before .before .before .before .before .before .before .before .before .before .before .args .st .now .now in
     let node = c .before .before .before .before .before .before .before .before .before .node-by .ensures in
-    (cc (switch-first p i w rec st env (c .before .before .before .before .before .own-cell2 .ensures) (c .before .before .before .before .before .before .before .before .before .before .before .pre .1 .0 .indexed .numbers i (c .before .before .before .before .before .before .before .before .before .before .before .pre .1 .0 .node)) (sym (node .kind-is) ∙ c .before .before .before .before .before .before .before .before .match .keys5) (c .before .before .before .before .if1 .taken)), c .ruled2 .ensures .1, c .before .eval-s2 .ensures .2, notes-part (c .before .eval-s2 .ensures .3) (switch-first-fills p i w rec st env (c .before .before .before .before .before .own-cell2 .ensures) (c .before .before .before .before .before .before .before .before .before .before .before .pre .1 .0 .indexed .numbers i w) (sym (node .kind-is) ∙ c .before .before .before .before .before .before .before .before .match .keys5) (c .before .before .before .before .if1 .taken) (node .a-is)))
+    (ruled-part p rec st env (node .a-is) (c .before .eval-s2 .ensures .0) (c .ruled2 .ensures .0) ∙ sym (switch-first p i w rec st env (c .before .before .before .before .before .own-cell2 .ensures) (c .before .before .before .before .before .before .before .before .before .before .before .pre .1 .0 .indexed .numbers i (c .before .before .before .before .before .before .before .before .before .before .before .pre .1 .0 .node)) (sym (node .kind-is) ∙ c .before .before .before .before .before .before .before .before .match .keys5) (c .before .before .before .before .if1 .taken)), c .ruled2 .ensures .1, c .before .eval-s2 .ensures .2, notes-part (c .before .eval-s2 .ensures .3) (switch-first-fills p i w rec st env (c .before .before .before .before .before .own-cell2 .ensures) (c .before .before .before .before .before .before .before .before .before .before .before .pre .1 .0 .indexed .numbers i w) (sym (node .kind-is) ∙ c .before .before .before .before .before .before .before .before .match .keys5) (c .before .before .before .before .if1 .taken) (node .a-is)))
 
 -- src/lib.rt:145:52
 eval-s-exactly-requires : (t : ℕ) → eval-s-lts.Need-exactly-requires (eval-s-calls t) (eval-s-at t) eval-s.Post
@@ -314,7 +314,7 @@ eval-s-returns-3 t c =
     let rec = c .before .before .before .before .before .before .before .before .before .before .before .args .rec .now .now in
     let st = c .before .before .before .before .before .before .before .before .before .before .before .args .st .now .now in
     let node = c .before .before .before .before .before .before .before .before .before .node-by .ensures in
-    (cc (group-body p i w rec st env (c .before .before .before .before .before .own-cell3 .ensures) (c .before .before .before .before .before .before .before .before .before .before .before .pre .1 .0 .indexed .numbers i (c .before .before .before .before .before .before .before .before .before .before .before .pre .1 .0 .node)) (sym (node .kind-is) ∙ c .before .before .before .before .before .before .before .before .match .keys6) (c .before .before .before .before .if2 .taken)), c .ruled4 .ensures .1, c .before .eval-s3 .ensures .2, notes-part (c .before .eval-s3 .ensures .3) (group-body-fills p i w rec st env (c .before .before .before .before .before .own-cell3 .ensures) (c .before .before .before .before .before .before .before .before .before .before .before .pre .1 .0 .indexed .numbers i w) (sym (node .kind-is) ∙ c .before .before .before .before .before .before .before .before .match .keys6) (c .before .before .before .before .if2 .taken) (node .a-is)))
+    (ruled-part p rec st env (node .a-is) (c .before .eval-s3 .ensures .0) (c .ruled4 .ensures .0) ∙ sym (group-body p i w rec st env (c .before .before .before .before .before .own-cell3 .ensures) (c .before .before .before .before .before .before .before .before .before .before .before .pre .1 .0 .indexed .numbers i (c .before .before .before .before .before .before .before .before .before .before .before .pre .1 .0 .node)) (sym (node .kind-is) ∙ c .before .before .before .before .before .before .before .before .match .keys6) (c .before .before .before .before .if2 .taken)), c .ruled4 .ensures .1, c .before .eval-s3 .ensures .2, notes-part (c .before .eval-s3 .ensures .3) (group-body-fills p i w rec st env (c .before .before .before .before .before .own-cell3 .ensures) (c .before .before .before .before .before .before .before .before .before .before .before .pre .1 .0 .indexed .numbers i w) (sym (node .kind-is) ∙ c .before .before .before .before .before .before .before .before .match .keys6) (c .before .before .before .before .if2 .taken) (node .a-is)))
 
 -- src/lib.rt:152:17
 eval-s-branch-in-requires : (t : ℕ) → eval-s-lts.Need-branch-in-requires (eval-s-calls t) (eval-s-at t) eval-s.Post
@@ -405,7 +405,7 @@ eval-s-returns-5 t c =
     let rec = c .before .before .before .before .before .before .args .rec .now .now in
     let st = c .before .before .before .before .before .before .args .st .now .now in
     let node = c .before .before .before .before .node-by .ensures in
-    (cc (input-eval p i w rec st env (sym (node .kind-is) ∙ c .before .before .before .match .keys1)), c .given .ensures .1, refl, notes-none (c .before .before .before .before .before .before .pre .1 .1) (input-fills p i w rec st env (sym (node .kind-is) ∙ c .before .before .before .match .keys1)))
+    (input-said p i w rec st env (sym (node .kind-is) ∙ c .before .before .before .match .keys1) (node .a-is) (c .before .channel-value .ensures) (c .given .ensures .0), c .given .ensures .1, refl, notes-none (c .before .before .before .before .before .before .pre .1 .1) (input-fills p i w rec st env (sym (node .kind-is) ∙ c .before .before .before .match .keys1)))
 
 -- src/lib.rt:114:1
 eval-s-returns-6 : (t : ℕ) → eval-s-lts.Need-returns-6 (eval-s-calls t) (eval-s-at t) eval-s.Post
@@ -417,7 +417,7 @@ eval-s-returns-6 t c =
     let rec = c .before .before .before .before .before .before .args .rec .now .now in
     let st = c .before .before .before .before .before .before .args .st .now .now in
     let node = c .before .before .before .before .node-by .ensures in
-    (cc (ext-eval p i w rec st env (sym (node .kind-is) ∙ c .before .before .before .match .keys2)), c .ruled .ensures .1, c .before .operand .ensures .2, notes-none (c .before .before .before .before .before .before .pre .1 .1) (ext-fills p i w rec st env (sym (node .kind-is) ∙ c .before .before .before .match .keys2)))
+    (ext-said p i w rec st env (sym (node .kind-is) ∙ c .before .before .before .match .keys2) (node .a-is) (c .before .operand .ensures .0) (c .ruled .ensures .0), c .ruled .ensures .1, c .before .operand .ensures .2, notes-none (c .before .before .before .before .before .before .pre .1 .1) (ext-fills p i w rec st env (sym (node .kind-is) ∙ c .before .before .before .match .keys2)))
 
 -- src/lib.rt:114:1
 eval-s-returns-7 : (t : ℕ) → eval-s-lts.Need-returns-7 (eval-s-calls t) (eval-s-at t) eval-s.Post
@@ -429,7 +429,7 @@ eval-s-returns-7 t c =
     let rec = c .before .before .before .before .before .before .before .args .rec .now .now in
     let st = c .before .before .before .before .before .before .before .args .st .now .now in
     let node = c .before .before .before .before .before .node-by .ensures in
-    (cc (delay-eval p i w rec st env (c .before .own-cell .ensures) (c .before .before .before .before .before .before .before .pre .1 .0 .indexed .numbers i (c .before .before .before .before .before .before .before .pre .1 .0 .node)) (sym (node .kind-is) ∙ c .before .before .before .before .match .keys3)), c .held .ensures .1, refl, notes-none (c .before .before .before .before .before .before .before .pre .1 .1) (delay-fills p i w rec st env (sym (node .kind-is) ∙ c .before .before .before .before .match .keys3)))
+    (c .held .ensures .0 ∙ sym (delay-eval p i w rec st env (c .before .own-cell .ensures) (c .before .before .before .before .before .before .before .pre .1 .0 .indexed .numbers i (c .before .before .before .before .before .before .before .pre .1 .0 .node)) (sym (node .kind-is) ∙ c .before .before .before .before .match .keys3)), c .held .ensures .1, refl, notes-none (c .before .before .before .before .before .before .before .pre .1 .1) (delay-fills p i w rec st env (sym (node .kind-is) ∙ c .before .before .before .before .match .keys3)))
 
 -- src/lib.rt:114:1
 eval-s-returns-8 : (t : ℕ) → eval-s-lts.Need-returns-8 (eval-s-calls t) (eval-s-at t) eval-s.Post
@@ -480,7 +480,7 @@ eval-s-returns-11 t c =
     let rec = c .before .before .before .before .before .before .args .rec .now .now in
     let st = c .before .before .before .before .before .before .args .st .now .now in
     let node = c .before .before .before .before .node-by .ensures in
-    (cc (until-eval p i w rec st env (sym (node .kind-is) ∙ c .before .before .before .match .keys7)), c .through .ensures .1, c .through .ensures .2, notes-part (c .through .ensures .3) (until-fills p i w rec st env (sym (node .kind-is) ∙ c .before .before .before .match .keys7) (node .a-is)))
+    (until-said p i w rec st env (sym (node .kind-is) ∙ c .before .before .before .match .keys7) (node .a-is) (c .through .ensures .0), c .through .ensures .1, c .through .ensures .2, notes-part (c .through .ensures .3) (until-fills p i w rec st env (sym (node .kind-is) ∙ c .before .before .before .match .keys7) (node .a-is)))
 
 -- src/lib.rt:114:1
 eval-s-returns-12 : (t : ℕ) → eval-s-lts.Need-returns-12 (eval-s-calls t) (eval-s-at t) eval-s.Post
@@ -492,7 +492,7 @@ eval-s-returns-12 t c =
     let rec = c .before .before .before .before .before .before .args .rec .now .now in
     let st = c .before .before .before .before .before .before .args .st .now .now in
     let node = c .before .before .before .before .node-by .ensures in
-    (cc (time-eval p i w rec st env (time-left p i w (node .kind-is) (c .before .before .before .match .rest))), c .given2 .ensures .1, refl, notes-none (c .before .before .before .before .before .before .pre .1 .1) (time-fills p i w rec st env (time-left p i w (node .kind-is) (c .before .before .before .match .rest))))
+    (time-said p i w rec st env (time-left p i w (node .kind-is) (c .before .before .before .match .rest)) (c .before .time-in .ensures) (c .given2 .ensures .0), c .given2 .ensures .1, refl, notes-none (c .before .before .before .before .before .before .pre .1 .1) (time-fills p i w rec st env (time-left p i w (node .kind-is) (c .before .before .before .match .rest))))
 
 -- src/lib.rt:199:17
 inside-s-mul-outer :
@@ -566,7 +566,7 @@ through-returns t c =
     let env = c .before .before .before .before .before .before .before .before .args .env .now in
     let rec = c .before .before .before .before .before .before .before .before .args .rec .now .now in
     let st = c .before .before .before .before .before .before .before .before .args .st .now .now in
-    (cc (delay-eval p i (ready .node) rec st env (c .before .before .own-cell .ensures) (ready .indexed .numbers i (ready .node)) (sym (c .before .before .before .before .before .before .kind-by .ensures) ∙ c .before .before .before .before .before .if1 .taken)), c .ruled .ensures .1, refl, notes-none (c .before .before .before .before .before .before .before .before .pre .1 .1) (delay-fills p i (ready .node) rec st env (sym (c .before .before .before .before .before .before .kind-by .ensures) ∙ c .before .before .before .before .before .if1 .taken)))
+    (c .ruled .ensures .0 ∙ ap rule (c .before .held .ensures .0 ∙ sym (delay-eval p i (ready .node) rec st env (c .before .before .own-cell .ensures) (ready .indexed .numbers i (ready .node)) (sym (c .before .before .before .before .before .before .kind-by .ensures) ∙ c .before .before .before .before .before .if1 .taken))), c .ruled .ensures .1, refl, notes-none (c .before .before .before .before .before .before .before .before .pre .1 .1) (delay-fills p i (ready .node) rec st env (sym (c .before .before .before .before .before .before .kind-by .ensures) ∙ c .before .before .before .before .before .if1 .taken)))
 
 -- src/lib.rt:180:9
 through-eval-s-requires : (t : ℕ) → through-lts.Need-eval-s-requires (through-calls t) (through-at t) through.Post

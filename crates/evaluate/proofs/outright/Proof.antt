@@ -1,4 +1,4 @@
-use Rattle.evaluate.proofs.SignalLaws.{ext-part, time-alone, input-eval, time-eval, ext-eval}
+use Rattle.evaluate.proofs.SignalLaws.{ext-part, time-alone, input-said, time-said, ext-said}
 use Rattle.evaluate.proofs.ExprLaws.{read, part-work}
 use Rattle.outcomes.proofs.Outcomes.{proper-channel, proper-int}
 use Rattle.outcomes.specs.Outcome.{IsProper}
@@ -50,18 +50,18 @@ given-requires-2 c κs = proper-int _
 -- src/lib.rt:207:1
 returns : tie.Need-returns
 returns c = let node = c .before .before .before .before .node-by .ensures in
-    ((λ st. cc (input-eval (c .before .before .before .before .before .before .args .p .now .now) (c .before .before .before .before .before .before .args .i) (c .before .before .before .before .before .before .pre .node) (c .before .before .before .before .before .before .args .rec .now .now) st (c .before .before .before .before .before .before .args .env .now) (sym (node .kind-is) ∙ c .before .before .before .match .keys1))), c .given .ensures .1, refl)
+    ((λ st. input-said (c .before .before .before .before .before .before .args .p .now .now) (c .before .before .before .before .before .before .args .i) (c .before .before .before .before .before .before .pre .node) (c .before .before .before .before .before .before .args .rec .now .now) st (c .before .before .before .before .before .before .args .env .now) (sym (node .kind-is) ∙ c .before .before .before .match .keys1) (node .a-is) (c .before .channel-value .ensures) (c .given .ensures .0)), c .given .ensures .1, refl)
 
 -- src/lib.rt:207:1
 returns-2 : tie.Need-returns-2
 returns-2 c = let node = c .before .before .before .before .node-by .ensures in
-    ((λ st. cc (ext-eval (c .before .before .before .before .before .before .args .p .now .now) (c .before .before .before .before .before .before .args .i) (c .before .before .before .before .before .before .pre .node) (c .before .before .before .before .before .before .args .rec .now .now) st (c .before .before .before .before .before .before .args .env .now) (sym (node .kind-is) ∙ c .before .before .before .match .keys2))), c .ruled .ensures .1, c .before .operand .ensures .2)
+    ((λ st. ext-said (c .before .before .before .before .before .before .args .p .now .now) (c .before .before .before .before .before .before .args .i) (c .before .before .before .before .before .before .pre .node) (c .before .before .before .before .before .before .args .rec .now .now) st (c .before .before .before .before .before .before .args .env .now) (sym (node .kind-is) ∙ c .before .before .before .match .keys2) (node .a-is) (c .before .operand .ensures .0) (c .ruled .ensures .0)), c .ruled .ensures .1, c .before .operand .ensures .2)
 
 -- src/lib.rt:207:1
 returns-3 : tie.Need-returns-3
 returns-3 c = let node = c .before .before .before .before .node-by .ensures in
     let rest = c .before .before .before .match .rest in
-    ((λ st. cc (time-eval (c .before .before .before .before .before .before .args .p .now .now) (c .before .before .before .before .before .before .args .i) (c .before .before .before .before .before .before .pre .node) (c .before .before .before .before .before .before .args .rec .now .now) st (c .before .before .before .before .before .before .args .env .now) (time-alone (c .before .before .before .before .before .before .args .p .now .now) (c .before .before .before .before .before .before .args .i) (c .before .before .before .before .before .before .pre .node) (node .kind-is) (c .before .before .before .before .before .before .pre .low) (rest .0 .1) (rest .1)))), c .given2 .ensures .1, refl)
+    ((λ st. time-said (c .before .before .before .before .before .before .args .p .now .now) (c .before .before .before .before .before .before .args .i) (c .before .before .before .before .before .before .pre .node) (c .before .before .before .before .before .before .args .rec .now .now) st (c .before .before .before .before .before .before .args .env .now) (time-alone (c .before .before .before .before .before .before .args .p .now .now) (c .before .before .before .before .before .before .args .i) (c .before .before .before .before .before .before .pre .node) (node .kind-is) (c .before .before .before .before .before .before .pre .low) (rest .0 .1) (rest .1)) (c .before .time-in .ensures) (c .given2 .ensures .0)), c .given2 .ensures .1, refl)
 
 pub outright-spec : {M : Type 1} → statement M
 outright-spec =

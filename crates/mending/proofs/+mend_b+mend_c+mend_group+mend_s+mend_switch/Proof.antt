@@ -1,16 +1,7 @@
-use lib.ListN.{getD}
-use Rattle.mends.specs.Mend.{mendS}
-use Rattle.rules.specs.Tree.{signalAt}
-use Rattle.rules.specs.Layout.{setCell}
-use Rattle.rules.specs.Reset.{resetS}
-use Rattle.mending.proofs.MendLaws.{delay-mend, let-mend, switch-kept, switch-begun, group-kept, group-begun, until-mend, quiet-mend, this-end, this-on, other-end, other-on, case-mend-end, case-mend-on}
-use Rattle.mends.specs.Mend.{namesBranch}
+use Rattle.mending.proofs.MendLaws.{delay-mend-said, let-mend-said, switch-kept-said, switch-begun-said, group-kept-said, group-begun-said, until-mend-said, quiet-mend, this-end-said, this-on-said, other-end-said, other-on-said, case-mend-end-said, case-mend-on-said}
 use Rattle.state.proofs.Carried.{carried, own-delay, own-switch, own-group}
 use Rattle.rules.proofs.Signals.{delay-kid, let-kids, switch-kids, group-kids, until-kids, branch-kid, branch-next, case-kid, case-next}
 use Rattle.rules.proofs.Kids.{read}
-use Rattle.rules.specs.WellFormed.{contentFits}
-use Rattle.rules.specs.Tree.{branchesAt}
-use Rattle.rules.specs.Layout.{typeAt, bAt}
 use borrow.Author.Needs.{needs}
 use native.Mathlib.Omega.{arith}
 use mathlib.Core.Path.{_≡_, refl, sym, ap, _∙_}
@@ -134,9 +125,7 @@ mend-b-same-length t c = c .before .before .reset-b .kept .1 .1 .0 ∙ c .before
 
 -- src/lib.rt:148:1
 mend-b-returns : (t : ℕ) → mend-b-lts.Need-returns (mend-b-calls t) (mend-b-at t) mend-b.Post
-mend-b-returns t c =
-    let start = c .before .before .before .before .before .before .before .before .before .before .before .before .before .before .before in
-    cc (this-on (start .args .p .now .now) (start .args .j) (start .pre .1 .node) (start .args .m) (start .args .st .now) (c .before .before .before .before .before .before .before .before .before .before .if1 .taken ∙ c .before .before .before .before .before .before .before .before .before .before .before .middle-in .ensures) (λ h. c .before .before .before .before .if2 .taken (c .before .before .before .before .before .before .before .before .before .before .before .before .node-by .ensures .b-is ∙ h)))
+mend-b-returns t c = this-on-said (c .before .before .before .before .before .before .before .before .before .before .before .before .before .before .before .args .p .now .now) (c .before .before .before .before .before .before .before .before .before .before .before .before .before .before .before .args .j) (c .before .before .before .before .before .before .before .before .before .before .before .before .before .before .before .pre .1 .node) (c .before .before .before .before .before .before .before .before .before .before .before .before .before .before .before .args .m) (c .before .before .before .before .before .before .before .before .before .before .before .before .before .before .before .args .st .now) (c .before .before .before .before .before .before .before .before .before .before .before .before .node-by .ensures) (c .before .before .before .before .before .before .before .before .before .before .before .middle-in .ensures) (c .before .before .before .before .before .before .before .before .before .before .if1 .taken) (c .before .before .before .before .before .before .before .before .mend-s .ensures) (c .before .before .before .before .if2 .taken) (c .before .before .reset-b .ensures)
 
 -- src/lib.rt:148:1
 mend-b-same-length-2 : (t : ℕ) → mend-b-lts.Need-same-length-2 (mend-b-calls t) (mend-b-at t) mend-b.Post
@@ -144,9 +133,7 @@ mend-b-same-length-2 t c = c .before .before .before .before .mend-s .kept .1 .1
 
 -- src/lib.rt:148:1
 mend-b-returns-2 : (t : ℕ) → mend-b-lts.Need-returns-2 (mend-b-calls t) (mend-b-at t) mend-b.Post
-mend-b-returns-2 t c =
-    let start = c .before .before .before .before .before .before .before .before .before .before .before in
-    cc (this-end (start .args .p .now .now) (start .args .j) (start .pre .1 .node) (start .args .m) (start .args .st .now) (c .before .before .before .before .before .before .if1 .taken ∙ c .before .before .before .before .before .before .before .middle-in .ensures) (sym (c .before .before .before .before .before .before .before .before .node-by .ensures .b-is) ∙ c .if2 .left))
+mend-b-returns-2 t c = this-end-said (c .before .before .before .before .before .before .before .before .before .before .before .args .p .now .now) (c .before .before .before .before .before .before .before .before .before .before .before .args .j) (c .before .before .before .before .before .before .before .before .before .before .before .pre .1 .node) (c .before .before .before .before .before .before .before .before .before .before .before .args .m) (c .before .before .before .before .before .before .before .before .before .before .before .args .st .now) (c .before .before .before .before .before .before .before .before .node-by .ensures) (c .before .before .before .before .before .before .before .middle-in .ensures) (c .before .before .before .before .before .before .if1 .taken) (c .before .before .before .before .mend-s .ensures) (c .if2 .left)
 
 -- src/lib.rt:148:1
 mend-b-same-length-3 : (t : ℕ) → mend-b-lts.Need-same-length-3 (mend-b-calls t) (mend-b-at t) mend-b.Post
@@ -154,9 +141,7 @@ mend-b-same-length-3 t c = c .before .before .mend-b .kept .1 .1 .0 ∙ c .befor
 
 -- src/lib.rt:148:1
 mend-b-returns-3 : (t : ℕ) → mend-b-lts.Need-returns-3 (mend-b-calls t) (mend-b-at t) mend-b.Post
-mend-b-returns-3 t c =
-    let start = c .before .before .before .before .before .before .before .before .before .before .before .before .before .before .before in
-    cc (other-on (start .args .p .now .now) (start .args .j) (start .pre .1 .node) (start .args .m) (start .args .st .now) (λ h. c .before .before .before .before .before .before .before .before .before .before .if1 .left (h ∙ sym (c .before .before .before .before .before .before .before .before .before .before .before .middle-in .ensures))) (λ h. c .before .before .before .before .if3 .taken (c .before .before .before .before .before .before .before .before .before .before .before .before .node-by .ensures .b-is ∙ h)))
+mend-b-returns-3 t c = other-on-said (c .before .before .before .before .before .before .before .before .before .before .before .before .before .before .before .args .p .now .now) (c .before .before .before .before .before .before .before .before .before .before .before .before .before .before .before .args .j) (c .before .before .before .before .before .before .before .before .before .before .before .before .before .before .before .pre .1 .node) (c .before .before .before .before .before .before .before .before .before .before .before .before .before .before .before .args .m) (c .before .before .before .before .before .before .before .before .before .before .before .before .before .before .before .args .st .now) (c .before .before .before .before .before .before .before .before .before .before .before .before .node-by .ensures) (c .before .before .before .before .before .before .before .before .before .before .before .middle-in .ensures) (c .before .before .before .before .before .before .before .before .before .before .if1 .left) (c .before .before .before .before .before .before .before .before .resets .ensures) (c .before .before .before .before .if3 .taken) (c .before .before .mend-b .ensures)
 
 -- src/lib.rt:148:1
 mend-b-same-length-4 : (t : ℕ) → mend-b-lts.Need-same-length-4 (mend-b-calls t) (mend-b-at t) mend-b.Post
@@ -164,9 +149,7 @@ mend-b-same-length-4 t c = c .before .before .before .before .resets .kept .1 .1
 
 -- src/lib.rt:148:1
 mend-b-returns-4 : (t : ℕ) → mend-b-lts.Need-returns-4 (mend-b-calls t) (mend-b-at t) mend-b.Post
-mend-b-returns-4 t c =
-    let start = c .before .before .before .before .before .before .before .before .before .before .before in
-    cc (other-end (start .args .p .now .now) (start .args .j) (start .pre .1 .node) (start .args .m) (start .args .st .now) (λ h. c .before .before .before .before .before .before .if1 .left (h ∙ sym (c .before .before .before .before .before .before .before .middle-in .ensures))) (sym (c .before .before .before .before .before .before .before .before .node-by .ensures .b-is) ∙ c .if3 .left))
+mend-b-returns-4 t c = other-end-said (c .before .before .before .before .before .before .before .before .before .before .before .args .p .now .now) (c .before .before .before .before .before .before .before .before .before .before .before .args .j) (c .before .before .before .before .before .before .before .before .before .before .before .pre .1 .node) (c .before .before .before .before .before .before .before .before .before .before .before .args .m) (c .before .before .before .before .before .before .before .before .before .before .before .args .st .now) (c .before .before .before .before .before .before .before .before .node-by .ensures) (c .before .before .before .before .before .before .before .middle-in .ensures) (c .before .before .before .before .before .before .if1 .left) (c .before .before .before .before .resets .ensures) (c .if3 .left)
 
 abbrev mend-c-calls : ℕ → mend-c-lts.Claims
 mend-c-calls t = (node-by-reads.Asked, node-by-reads.Learnt, mend-s-below t, mend-s.Post, mend-c-below t, mend-c.Post)
@@ -193,9 +176,7 @@ mend-c-same-length t c = c .before .before .mend-c .kept .1 .1 .0 ∙ c .before 
 
 -- src/lib.rt:167:1
 mend-c-returns : (t : ℕ) → mend-c-lts.Need-returns (mend-c-calls t) (mend-c-at t) mend-c.Post
-mend-c-returns t c =
-    let start = c .before .before .before .before .before .before .before .before .before .before .before .before .before in
-    cc (case-mend-on (start .args .p .now .now) (start .args .j) (start .pre .1 .node) (start .args .st .now) (λ h. c .before .before .before .before .if1 .taken (c .before .before .before .before .before .before .before .before .before .before .node-by .ensures .b-is ∙ h)))
+mend-c-returns t c = case-mend-on-said (c .before .before .before .before .before .before .before .before .before .before .before .before .before .args .p .now .now) (c .before .before .before .before .before .before .before .before .before .before .before .before .before .args .j) (c .before .before .before .before .before .before .before .before .before .before .before .before .before .pre .1 .node) (c .before .before .before .before .before .before .before .before .before .before .before .before .before .args .st .now) (c .before .before .before .before .before .before .before .before .before .before .node-by .ensures) (c .before .before .before .before .before .before .before .before .mend-s .ensures) (c .before .before .before .before .if1 .taken) (c .before .before .mend-c .ensures)
 
 -- src/lib.rt:167:1
 mend-c-same-length-2 : (t : ℕ) → mend-c-lts.Need-same-length-2 (mend-c-calls t) (mend-c-at t) mend-c.Post
@@ -203,9 +184,7 @@ mend-c-same-length-2 t c = c .before .before .before .before .mend-s .kept .1 .1
 
 -- src/lib.rt:167:1
 mend-c-returns-2 : (t : ℕ) → mend-c-lts.Need-returns-2 (mend-c-calls t) (mend-c-at t) mend-c.Post
-mend-c-returns-2 t c =
-    let start = c .before .before .before .before .before .before .before .before .before in
-    cc (case-mend-end (start .args .p .now .now) (start .args .j) (start .pre .1 .node) (start .args .st .now) (sym (c .before .before .before .before .before .before .node-by .ensures .b-is) ∙ c .if1 .left))
+mend-c-returns-2 t c = case-mend-end-said (c .before .before .before .before .before .before .before .before .before .args .p .now .now) (c .before .before .before .before .before .before .before .before .before .args .j) (c .before .before .before .before .before .before .before .before .before .pre .1 .node) (c .before .before .before .before .before .before .before .before .before .args .st .now) (c .before .before .before .before .before .before .node-by .ensures) (c .before .before .before .before .mend-s .ensures) (c .if1 .left)
 
 abbrev mend-group-calls : ℕ → mend-group-lts.Claims
 mend-group-calls t = (own-cell-reads.Asked, own-cell-reads.Learnt, names-branch-reads.Asked, names-branch-reads.Learnt, resets-reads.Asked, resets-reads.Learnt, mend-b-below t, mend-b.Post, set-own-reads.Asked, set-own-reads.Learnt, mend-s-below t, mend-s.Post, reset-b-reads.Asked, reset-b-reads.Learnt)
@@ -258,9 +237,7 @@ mend-group-same-length t c = c .before .before .mend-b .kept .1 .1 .0 ∙ c .bef
 
 -- src/lib.rt:131:1
 mend-group-returns : (t : ℕ) → mend-group-lts.Need-returns (mend-group-calls t) (mend-group-at t) mend-group.Post
-mend-group-returns t c =
-    let start = c .before .before .before .before .before .before .before .before .before .before .before .before .before .before in
-    let f = ap (λ (x : ℕ). namesBranch x (branchesAt (start .args .p .now .now) (bAt (start .args .p .now .now) (start .args .i)))) (sym (c .before .before .before .before .before .before .before .before .before .before .own-cell .ensures)) ∙ ap (λ (b : ℕ). namesBranch (c .before .before .before .before .before .before .before .before .before .before .own-cell .result) (branchesAt (start .args .p .now .now) b)) (sym (start .pre .1 .1 .b-is)) ∙ sym (c .before .before .before .before .before .before .before .before .before .names-branch .ensures) ∙ c .before .before .before .before .before .before .before .before .if1 .taken in cc (group-kept (start .args .p .now .now) (start .args .index .now) _ (start .args .i) (start .pre .1 .0) (start .args .st .now) (start .pre .1 .2) f)
+mend-group-returns t c = group-kept-said (c .before .before .before .before .before .before .before .before .before .before .before .before .before .before .args .p .now .now) (c .before .before .before .before .before .before .before .before .before .before .before .before .before .before .args .index .now) _ (c .before .before .before .before .before .before .before .before .before .before .before .before .before .before .args .i) (c .before .before .before .before .before .before .before .before .before .before .before .before .before .before .pre .1 .0) (c .before .before .before .before .before .before .before .before .before .before .before .before .before .before .args .st .now) (c .before .before .before .before .before .before .before .before .before .before .before .before .before .before .pre .1 .1) (c .before .before .before .before .before .before .before .before .before .before .before .before .before .before .pre .1 .2) (c .before .before .before .before .before .before .before .before .before .before .own-cell .ensures) (c .before .before .before .before .before .before .before .before .before .names-branch .ensures) (c .before .before .before .before .before .before .before .before .if1 .taken) (c .before .before .before .before .before .before .resets .ensures) (c .before .before .mend-b .ensures)
 
 -- src/lib.rt:131:1
 mend-group-same-length-2 : (t : ℕ) → mend-group-lts.Need-same-length-2 (mend-group-calls t) (mend-group-at t) mend-group.Post
@@ -268,9 +245,7 @@ mend-group-same-length-2 t c = c .before .before .reset-b .kept .1 .1 .0 ∙ c .
 
 -- src/lib.rt:131:1
 mend-group-returns-2 : (t : ℕ) → mend-group-lts.Need-returns-2 (mend-group-calls t) (mend-group-at t) mend-group.Post
-mend-group-returns-2 t c =
-    let start = c .before .before .before .before .before .before .before .before .before .before .before .before .before .before .before .before .before .before .before in
-    let f = ap (λ (x : ℕ). namesBranch x (branchesAt (start .args .p .now .now) (bAt (start .args .p .now .now) (start .args .i)))) (sym (c .before .before .before .before .before .before .before .before .before .before .before .before .before .before .before .own-cell .ensures)) ∙ ap (λ (b : ℕ). namesBranch (c .before .before .before .before .before .before .before .before .before .before .before .before .before .before .before .own-cell .result) (branchesAt (start .args .p .now .now) b)) (sym (start .pre .1 .1 .b-is)) ∙ sym (c .before .before .before .before .before .before .before .before .before .before .before .before .before .before .names-branch .ensures) ∙ c .before .before .before .before .before .before .before .before .before .before .before .before .before .if1 .left in cc (group-begun (start .args .p .now .now) (start .args .index .now) _ (start .args .i) (start .pre .1 .0) (start .args .st .now) (start .pre .1 .2) f)
+mend-group-returns-2 t c = group-begun-said (c .before .before .before .before .before .before .before .before .before .before .before .before .before .before .before .before .before .before .before .args .p .now .now) (c .before .before .before .before .before .before .before .before .before .before .before .before .before .before .before .before .before .before .before .args .index .now) _ (c .before .before .before .before .before .before .before .before .before .before .before .before .before .before .before .before .before .before .before .args .i) (c .before .before .before .before .before .before .before .before .before .before .before .before .before .before .before .before .before .before .before .pre .1 .0) (c .before .before .before .before .before .before .before .before .before .before .before .before .before .before .before .before .before .before .before .args .st .now) (c .before .before .before .before .before .before .before .before .before .before .before .before .before .before .before .before .before .before .before .pre .1 .1) (c .before .before .before .before .before .before .before .before .before .before .before .before .before .before .before .before .before .before .before .pre .1 .2) (c .before .before .before .before .before .before .before .before .before .before .before .before .before .before .before .own-cell .ensures) (c .before .before .before .before .before .before .before .before .before .before .before .before .before .before .names-branch .ensures) (c .before .before .before .before .before .before .before .before .before .before .before .before .before .if1 .left) (c .before .before .before .before .before .before .before .before .before .before .set-own .ensures) (c .before .before .before .before .before .before .mend-s .ensures) (c .before .before .reset-b .ensures)
 
 abbrev mend-s-calls : ℕ → mend-s-lts.Claims
 mend-s-calls t = (node-by-reads.Asked, node-by-reads.Learnt, mend-own-reads.Asked, mend-own-reads.Learnt, mend-s-below t, mend-s.Post, mend-switch-below t, mend-switch.Post, mend-group-below t, mend-group.Post, mend-c-below t, mend-c.Post)
@@ -333,9 +308,7 @@ mend-s-same-length t c = c .before .before .mend-s .kept .1 .1 .0 ∙ c .before 
 
 -- src/lib.rt:87:1
 mend-s-returns : (t : ℕ) → mend-s-lts.Need-returns (mend-s-calls t) (mend-s-at t) mend-s.Post
-mend-s-returns t c =
-    let start = c .before .before .before .before .before .before .before .before .before .before .before .before .before in
-    cc (delay-mend (start .args .p .now .now) (start .args .index .now) _ (start .args .i) (start .pre .1) (start .args .st .now) (sym (c .before .before .before .before .before .before .before .before .before .before .node-by .ensures .kind-is) ∙ c .before .before .before .before .before .before .before .before .before .match .keys1))
+mend-s-returns t c = delay-mend-said (c .before .before .before .before .before .before .before .before .before .before .before .before .before .args .p .now .now) (c .before .before .before .before .before .before .before .before .before .before .before .before .before .args .index .now) _ (c .before .before .before .before .before .before .before .before .before .before .before .before .before .args .i) (c .before .before .before .before .before .before .before .before .before .before .before .before .before .pre .1) (c .before .before .before .before .before .before .before .before .before .before .before .before .before .args .st .now) (c .before .before .before .before .before .before .before .before .before .before .node-by .ensures) (c .before .before .before .before .before .before .before .before .before .match .keys1) (c .before .before .before .before .before .before .mend-own .ensures) (c .before .before .mend-s .ensures)
 
 -- src/lib.rt:87:1
 mend-s-same-length-2 : (t : ℕ) → mend-s-lts.Need-same-length-2 (mend-s-calls t) (mend-s-at t) mend-s.Post
@@ -343,9 +316,7 @@ mend-s-same-length-2 t c = c .before .before .mend-s3 .kept .1 .1 .0 ∙ c .befo
 
 -- src/lib.rt:87:1
 mend-s-returns-2 : (t : ℕ) → mend-s-lts.Need-returns-2 (mend-s-calls t) (mend-s-at t) mend-s.Post
-mend-s-returns-2 t c =
-    let start = c .before .before .before .before .before .before .before .before .before .before .before .before in
-    cc (let-mend (start .args .p .now .now) (start .args .index .now) _ (start .args .i) (start .pre .1) (start .args .st .now) (sym (c .before .before .before .before .before .before .before .before .before .node-by .ensures .kind-is) ∙ c .before .before .before .before .before .before .before .before .match .keys2))
+mend-s-returns-2 t c = let-mend-said (c .before .before .before .before .before .before .before .before .before .before .before .before .args .p .now .now) (c .before .before .before .before .before .before .before .before .before .before .before .before .args .index .now) _ (c .before .before .before .before .before .before .before .before .before .before .before .before .args .i) (c .before .before .before .before .before .before .before .before .before .before .before .before .pre .1) (c .before .before .before .before .before .before .before .before .before .before .before .before .args .st .now) (c .before .before .before .before .before .before .before .before .before .node-by .ensures) (c .before .before .before .before .before .before .before .before .match .keys2) (c .before .before .before .before .before .before .mend-s2 .ensures) (c .before .before .mend-s3 .ensures)
 
 -- src/lib.rt:87:1
 mend-s-same-length-3 : (t : ℕ) → mend-s-lts.Need-same-length-3 (mend-s-calls t) (mend-s-at t) mend-s.Post
@@ -369,9 +340,7 @@ mend-s-same-length-5 t c = c .before .before .mend-c .kept .1 .1 .0 ∙ c .befor
 
 -- src/lib.rt:87:1
 mend-s-returns-5 : (t : ℕ) → mend-s-lts.Need-returns-5 (mend-s-calls t) (mend-s-at t) mend-s.Post
-mend-s-returns-5 t c =
-    let start = c .before .before .before .before .before .before .before .before .before .before .before .before in
-    cc (until-mend (start .args .p .now .now) (start .args .index .now) _ (start .args .i) (start .pre .1) (start .args .st .now) (sym (c .before .before .before .before .before .before .before .before .before .node-by .ensures .kind-is) ∙ c .before .before .before .before .before .before .before .before .match .keys5))
+mend-s-returns-5 t c = until-mend-said (c .before .before .before .before .before .before .before .before .before .before .before .before .args .p .now .now) (c .before .before .before .before .before .before .before .before .before .before .before .before .args .index .now) _ (c .before .before .before .before .before .before .before .before .before .before .before .before .args .i) (c .before .before .before .before .before .before .before .before .before .before .before .before .pre .1) (c .before .before .before .before .before .before .before .before .before .before .before .before .args .st .now) (c .before .before .before .before .before .before .before .before .before .node-by .ensures) (c .before .before .before .before .before .before .before .before .match .keys5) (c .before .before .before .before .before .before .mend-s4 .ensures) (c .before .before .mend-c .ensures)
 
 -- src/lib.rt:87:1
 mend-s-returns-6 : (t : ℕ) → mend-s-lts.Need-returns-6 (mend-s-calls t) (mend-s-at t) mend-s.Post
@@ -444,9 +413,7 @@ mend-switch-same-length t c = c .before .before .mend-s2 .kept .1 .1 .0 ∙ c .b
 
 -- src/lib.rt:113:1
 mend-switch-returns : (t : ℕ) → mend-switch-lts.Need-returns (mend-switch-calls t) (mend-switch-at t) mend-switch.Post
-mend-switch-returns t c =
-    let start = c .before .before .before .before .before .before .before .before .before .before .before .before .before .before .before .before .before .before in
-    let f = ap (contentFits (typeAt (start .args .p .now .now) (start .args .i)) 0) (sym (c .before .before .before .before .before .before .before .before .before .before .before .before .before .before .own-cell .ensures)) ∙ ap (λ (t₀ : ℕ). contentFits t₀ 0 (c .before .before .before .before .before .before .before .before .before .before .before .before .before .before .own-cell .result)) (sym (start .pre .1 .1 .type-is)) ∙ sym (c .before .before .before .before .before .before .before .before .before .before .before .before .before .content-fits .ensures) ∙ c .before .before .before .before .before .before .before .before .before .before .before .before .if1 .taken in cc (switch-kept (start .args .p .now .now) (start .args .index .now) _ (start .args .i) (start .pre .1 .0) (start .args .st .now) (start .pre .1 .2) f)
+mend-switch-returns t c = switch-kept-said (c .before .before .before .before .before .before .before .before .before .before .before .before .before .before .before .before .before .before .args .p .now .now) (c .before .before .before .before .before .before .before .before .before .before .before .before .before .before .before .before .before .before .args .index .now) _ (c .before .before .before .before .before .before .before .before .before .before .before .before .before .before .before .before .before .before .args .i) (c .before .before .before .before .before .before .before .before .before .before .before .before .before .before .before .before .before .before .pre .1 .0) (c .before .before .before .before .before .before .before .before .before .before .before .before .before .before .before .before .before .before .args .st .now) (c .before .before .before .before .before .before .before .before .before .before .before .before .before .before .before .before .before .before .pre .1 .1) (c .before .before .before .before .before .before .before .before .before .before .before .before .before .before .before .before .before .before .pre .1 .2) (c .before .before .before .before .before .before .before .before .before .before .before .before .before .before .own-cell .ensures) (c .before .before .before .before .before .before .before .before .before .before .before .before .before .content-fits .ensures) (c .before .before .before .before .before .before .before .before .before .before .before .before .if1 .taken) (c .before .before .before .before .before .before .before .before .before .before .mend-s .ensures) (c .before .before .before .before .before .before .resets .ensures) (c .before .before .mend-s2 .ensures)
 
 -- src/lib.rt:113:1
 mend-switch-same-length-2 : (t : ℕ) → mend-switch-lts.Need-same-length-2 (mend-switch-calls t) (mend-switch-at t) mend-switch.Post
@@ -454,9 +421,7 @@ mend-switch-same-length-2 t c = c .before .before .resets2 .kept .1 .1 .0 ∙ c 
 
 -- src/lib.rt:113:1
 mend-switch-returns-2 : (t : ℕ) → mend-switch-lts.Need-returns-2 (mend-switch-calls t) (mend-switch-at t) mend-switch.Post
-mend-switch-returns-2 t c =
-    let start = c .before .before .before .before .before .before .before .before .before .before .before .before .before .before .before .before .before .before .before .before .before .before .before in
-    let f = ap (contentFits (typeAt (start .args .p .now .now) (start .args .i)) 0) (sym (c .before .before .before .before .before .before .before .before .before .before .before .before .before .before .before .before .before .before .before .own-cell .ensures)) ∙ ap (λ (t₀ : ℕ). contentFits t₀ 0 (c .before .before .before .before .before .before .before .before .before .before .before .before .before .before .before .before .before .before .before .own-cell .result)) (sym (start .pre .1 .1 .type-is)) ∙ sym (c .before .before .before .before .before .before .before .before .before .before .before .before .before .before .before .before .before .before .content-fits .ensures) ∙ c .before .before .before .before .before .before .before .before .before .before .before .before .before .before .before .before .before .if1 .left in c .before .before .resets2 .ensures ∙ ap (resetS (signalAt (start .args .p .now .now) (start .args .n .c))) (c .before .before .before .before .before .before .mend-s4 .ensures ∙ ap (mendS (signalAt (start .args .p .now .now) (start .args .n .a))) (c .before .before .before .before .before .before .before .before .before .before .mend-s3 .ensures ∙ ap (mendS (signalAt (start .args .p .now .now) (start .args .n .b))) (c .before .before .before .before .before .before .before .before .before .before .before .before .before .before .set-own .ensures))) ∙ (λ i. resetS (signalAt (start .args .p .now .now) (start .pre .1 .1 .c-is i)) (mendS (signalAt (start .args .p .now .now) (start .pre .1 .1 .a-is i)) (mendS (signalAt (start .args .p .now .now) (start .pre .1 .1 .b-is i)) (setCell (start .args .st .now) (getD (start .args .index .now) (start .args .i) 0) 0)))) ∙ sym (switch-begun (start .args .p .now .now) (start .args .index .now) _ (start .args .i) (start .pre .1 .0) (start .args .st .now) (start .pre .1 .2) f)
+mend-switch-returns-2 t c = switch-begun-said (c .before .before .before .before .before .before .before .before .before .before .before .before .before .before .before .before .before .before .before .before .before .before .before .args .p .now .now) (c .before .before .before .before .before .before .before .before .before .before .before .before .before .before .before .before .before .before .before .before .before .before .before .args .index .now) _ (c .before .before .before .before .before .before .before .before .before .before .before .before .before .before .before .before .before .before .before .before .before .before .before .args .i) (c .before .before .before .before .before .before .before .before .before .before .before .before .before .before .before .before .before .before .before .before .before .before .before .pre .1 .0) (c .before .before .before .before .before .before .before .before .before .before .before .before .before .before .before .before .before .before .before .before .before .before .before .args .st .now) (c .before .before .before .before .before .before .before .before .before .before .before .before .before .before .before .before .before .before .before .before .before .before .before .pre .1 .1) (c .before .before .before .before .before .before .before .before .before .before .before .before .before .before .before .before .before .before .before .before .before .before .before .pre .1 .2) (c .before .before .before .before .before .before .before .before .before .before .before .before .before .before .before .before .before .before .before .own-cell .ensures) (c .before .before .before .before .before .before .before .before .before .before .before .before .before .before .before .before .before .before .content-fits .ensures) (c .before .before .before .before .before .before .before .before .before .before .before .before .before .before .before .before .before .if1 .left) (c .before .before .before .before .before .before .before .before .before .before .before .before .before .before .set-own .ensures) (c .before .before .before .before .before .before .before .before .before .before .mend-s3 .ensures) (c .before .before .before .before .before .before .mend-s4 .ensures) (c .before .before .resets2 .ensures)
 
 pub +mend-b+mend-c+mend-group+mend-s+mend-switch-spec : {M : Type 1} → statement M
 +mend-b+mend-c+mend-group+mend-s+mend-switch-spec =

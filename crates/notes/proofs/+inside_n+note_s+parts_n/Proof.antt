@@ -1,5 +1,5 @@
 use Rattle.rules.proofs.PutBack.{put-back}
-use Rattle.evaluate.proofs.SignalLaws.{read-s, part-work-s, let-work, let-pair, let-parts, switch-parts, group-part, branch-part, until-part, cell-in, switch-cell, group-cell, until-eval, let-goes, let-stuck, bound-goes, switch-first, switch-second, group-body, group-branch, group-stuck}
+use Rattle.evaluate.proofs.SignalLaws.{ruled-part, read-s, part-work-s, let-work, let-pair, let-parts, switch-parts, group-part, branch-part, until-part, cell-in, switch-cell, group-cell, until-eval, let-goes, let-stuck, bound-goes, switch-first, switch-second, group-body, group-branch, group-stuck}
 use Rattle.outcomes.specs.Outcome.{IsValue}
 use Rattle.outcomes.proofs.Counted.{gives-stuck}
 use Rattle.outcomes.proofs.Outcomes.{shown-value, shown-exact, shown-work, shown-stuck, slots-set, bind-value, exact-value, exact-same}
@@ -10,7 +10,7 @@ use Rattle.branches.proofs.ByTable.{group-first}
 use Rattle.watched.specs.Note.{noteS}
 use Rattle.recalled.specs.Recall.{fillS}
 use Rattle.noted.proofs.FillLaws.{notes-none, notes-part, noted-set, until-fills, let-notes, let-noted-stuck, switch-first-fills, switch-second-fills, group-body-fills, group-branch-fills, group-stuck-fills}
-use Rattle.notes.proofs.NoteLaws.{part-ready, ruled-part, own-noted, leaf-noted, until-noted, let-stops, let-noted, switch-first-noted, switch-second-noted, group-body-noted, group-branch-noted, group-none-noted}
+use Rattle.notes.proofs.NoteLaws.{part-ready, own-noted, leaf-noted, until-noted, let-stops, let-noted, switch-first-noted, switch-second-noted, group-body-noted, group-branch-noted, group-none-noted}
 use lib.ListN.{length, set, getD}
 use Prim.Native.Nat.{_+_, _*_}
 use mathlib.Core.List.{List}

@@ -14,8 +14,8 @@ use Rattle.peek.proofs.watch_records.Tie as tie
 use Rattle.peek.proofs.watch_records.Reads as reads
 use Rattle.peek.proofs.watch_records.Lts as lts
 use Rattle.peek.proofs.watch_step.Reads as watch-step-reads
-use Rattle.steps.proofs.first_wrapped.Reads as first-wrapped-reads
-use Rattle.steps.proofs.record_verdict.Reads as record-verdict-reads
+use Rattle.record.proofs.first_wrapped.Reads as first-wrapped-reads
+use Rattle.record.proofs.record_verdict.Reads as record-verdict-reads
 
 abbrev Inv-loop : tie.InvT-loop
 Inv-loop p index recs st₀ env₀ list out₀ room₀ count memo₀ left width done₀ work₀ mark₀ st env out room memo done work mark =

@@ -1,5 +1,4 @@
-use Rattle.watch.specs.Lent.{runFits}
-use Rattle.watched.specs.Watch.{recordsFit, watchLent}
+use Rattle.peeking.proofs.CallLaws.{lent-said}
 use borrow.Author.Needs.{needs}
 use Rattle.peeking.proofs.lent_verdict.Statement.{statement}
 use Rattle.peeking.proofs.lent_verdict.Tie as tie
@@ -41,8 +40,7 @@ otherwise-requires-2 c κs = search needs
 
 -- src/lib.rt:92:1
 returns : tie.Need-returns
-unfolding watchLent recordsFit runFits
-returns c = cc
+returns c = lent-said _ _ _ _ _ _ (c .before .before .before .before .before .before .state-verdict .ensures) (c .before .before .before .before .before .run-fits .ensures) (c .before .before .before .before .rooms-fit .ensures) (c .before .before .before .refuse-if .ensures) (c .before .before .refuse-if2 .ensures) (c .before .otherwise .ensures) (c .otherwise2 .ensures)
 
 pub lent-verdict-spec : {M : Type 1} → statement M
 lent-verdict-spec =

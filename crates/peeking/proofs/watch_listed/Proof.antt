@@ -4,8 +4,8 @@ use lib.ListN.{length-replicate}
 use Rattle.rules.specs.Evaluate.{unbound}
 use Rattle.rules.specs.Bytes.{byteAt}
 use Rattle.rules.proofs.Rooted.{root-of}
-use Rattle.peeking.proofs.CallLaws.{lent-fine, room-lent, room-fits}
-use Rattle.watch.proofs.Calling.{checks-fit, run-lent, run-fits as run-goes}
+use Rattle.peeking.proofs.CallLaws.{lent-fine, room-lent, listed-run}
+use Rattle.watch.proofs.Calling.{checks-fit, run-lent}
 use Rattle.starting.proofs.StartLaws.{counted, all-cells}
 use borrow.Author.Needs.{needs}
 use Rattle.peeking.proofs.watch_listed.Statement.{statement}
@@ -81,8 +81,7 @@ same-length-6 c = search needs
 
 -- src/lib.rt:115:1
 returns-2 : tie.Need-returns-2
-returns-2 c = let e = sym (c .before .before .before .before .before .before .before .before .before .before .before .before .before .before .lent-verdict .ensures) ∙ c .before .before .before .before .before .before .before .before .before .before .before .before .enum-told .given .1 in
-    (rw (run-goes _ _ _ _ _ e) (c .before .before .before .before .before .before .watch-records .ensures .0), c .before .before .before .before .before .before .watch-records .ensures .1 ∙ sym (room-fits _ _ _ _ _ _ e))
+returns-2 c = listed-run _ _ _ _ _ _ _ (sym (c .before .before .before .before .before .before .before .before .before .before .before .before .before .before .lent-verdict .ensures) ∙ c .before .before .before .before .before .before .before .before .before .before .before .before .enum-told .given .1) (c .before .before .before .before .before .before .watch-records .ensures .0) (c .before .before .before .before .before .before .watch-records .ensures .1)
 
 pub watch-listed-spec : {M : Type 1} → statement M
 watch-listed-spec =

@@ -1,5 +1,5 @@
+use Rattle.state.proofs.ResetLaws.{delay-reset-said, let-reset-said, switch-reset-said, group-reset-said, until-reset-said, quiet-reset, low-reset, branch-reset-end-said, branch-reset-on-said, case-reset-end-said, case-reset-on-said}
 use Prim.Native.Nat.{_+_, _*_}
-use Rattle.state.proofs.ResetLaws.{delay-reset, let-reset, switch-reset, group-reset, until-reset, quiet-reset, low-reset, branch-reset-end, branch-reset-on, case-reset-end, case-reset-on}
 use Rattle.state.proofs.Carried.{carried, own-delay, own-switch, own-group}
 use Rattle.rules.proofs.Signals.{delay-kid, let-kids, switch-kids, group-kids, until-kids, branch-kid, branch-next, case-kid, case-next}
 use Rattle.rules.proofs.Kids.{Child, read}
@@ -103,9 +103,7 @@ reset-b-same-length t c = c .before .before .reset-b .kept .1 .1 .0 ∙ c .befor
 
 -- src/lib.rt:96:1
 reset-b-returns : (t : ℕ) → reset-b-lts.Need-returns (reset-b-calls t) (reset-b-at t) reset-b.Post
-reset-b-returns t c =
-    let s = c .before .before .before .before .before .before .before .before .before .before .before .before .before in
-    cc (branch-reset-on (s .args .p .now .now) (s .args .j) (s .pre .1 .node) (s .args .st .now) (λ h. c .before .before .before .before .if1 .taken (c .before .before .before .before .before .before .before .before .before .before .node-by .ensures .b-is ∙ h)))
+reset-b-returns t c = branch-reset-on-said (c .before .before .before .before .before .before .before .before .before .before .before .before .before .args .p .now .now) (c .before .before .before .before .before .before .before .before .before .before .before .before .before .args .j) (c .before .before .before .before .before .before .before .before .before .before .before .before .before .pre .1 .node) (c .before .before .before .before .before .before .before .before .before .before .before .before .before .args .st .now) (c .before .before .before .before .before .before .before .before .before .before .node-by .ensures) (c .before .before .before .before .before .before .before .before .resets .ensures) (c .before .before .before .before .if1 .taken) (c .before .before .reset-b .ensures)
 
 -- src/lib.rt:96:1
 reset-b-same-length-2 : (t : ℕ) → reset-b-lts.Need-same-length-2 (reset-b-calls t) (reset-b-at t) reset-b.Post
@@ -113,9 +111,7 @@ reset-b-same-length-2 t c = c .before .before .before .before .resets .kept .1 .
 
 -- src/lib.rt:96:1
 reset-b-returns-2 : (t : ℕ) → reset-b-lts.Need-returns-2 (reset-b-calls t) (reset-b-at t) reset-b.Post
-reset-b-returns-2 t c =
-    let s = c .before .before .before .before .before .before .before .before .before in
-    cc (branch-reset-end (s .args .p .now .now) (s .args .j) (s .pre .1 .node) (s .args .st .now) (sym (c .before .before .before .before .before .before .node-by .ensures .b-is) ∙ c .if1 .left))
+reset-b-returns-2 t c = branch-reset-end-said (c .before .before .before .before .before .before .before .before .before .args .p .now .now) (c .before .before .before .before .before .before .before .before .before .args .j) (c .before .before .before .before .before .before .before .before .before .pre .1 .node) (c .before .before .before .before .before .before .before .before .before .args .st .now) (c .before .before .before .before .before .before .node-by .ensures) (c .before .before .before .before .resets .ensures) (c .if1 .left)
 
 -- src/lib.rt:112:9
 reset-c-node-by-requires : (t : ℕ) → reset-c-lts.Need-node-by-requires (reset-c-calls t) (reset-c-at t) reset-c.Post
@@ -144,9 +140,7 @@ reset-c-same-length t c = c .before .before .reset-c .kept .1 .1 .0 ∙ c .befor
 
 -- src/lib.rt:108:1
 reset-c-returns : (t : ℕ) → reset-c-lts.Need-returns (reset-c-calls t) (reset-c-at t) reset-c.Post
-reset-c-returns t c =
-    let s = c .before .before .before .before .before .before .before .before .before .before .before .before .before in
-    cc (case-reset-on (s .args .p .now .now) (s .args .j) (s .pre .1 .node) (s .args .st .now) (λ h. c .before .before .before .before .if1 .taken (c .before .before .before .before .before .before .before .before .before .before .node-by .ensures .b-is ∙ h)))
+reset-c-returns t c = case-reset-on-said (c .before .before .before .before .before .before .before .before .before .before .before .before .before .args .p .now .now) (c .before .before .before .before .before .before .before .before .before .before .before .before .before .args .j) (c .before .before .before .before .before .before .before .before .before .before .before .before .before .pre .1 .node) (c .before .before .before .before .before .before .before .before .before .before .before .before .before .args .st .now) (c .before .before .before .before .before .before .before .before .before .before .node-by .ensures) (c .before .before .before .before .before .before .before .before .resets .ensures) (c .before .before .before .before .if1 .taken) (c .before .before .reset-c .ensures)
 
 -- src/lib.rt:108:1
 reset-c-same-length-2 : (t : ℕ) → reset-c-lts.Need-same-length-2 (reset-c-calls t) (reset-c-at t) reset-c.Post
@@ -154,9 +148,7 @@ reset-c-same-length-2 t c = c .before .before .before .before .resets .kept .1 .
 
 -- src/lib.rt:108:1
 reset-c-returns-2 : (t : ℕ) → reset-c-lts.Need-returns-2 (reset-c-calls t) (reset-c-at t) reset-c.Post
-reset-c-returns-2 t c =
-    let s = c .before .before .before .before .before .before .before .before .before in
-    cc (case-reset-end (s .args .p .now .now) (s .args .j) (s .pre .1 .node) (s .args .st .now) (sym (c .before .before .before .before .before .before .node-by .ensures .b-is) ∙ c .if1 .left))
+reset-c-returns-2 t c = case-reset-end-said (c .before .before .before .before .before .before .before .before .before .args .p .now .now) (c .before .before .before .before .before .before .before .before .before .args .j) (c .before .before .before .before .before .before .before .before .before .pre .1 .node) (c .before .before .before .before .before .before .before .before .before .args .st .now) (c .before .before .before .before .before .before .node-by .ensures) (c .before .before .before .before .resets .ensures) (c .if1 .left)
 
 -- src/lib.rt:65:9
 reset-s-node-by-requires : (t : ℕ) → reset-s-lts.Need-node-by-requires (reset-s-calls t) (reset-s-at t) reset-s.Post
@@ -274,9 +266,7 @@ reset-s-same-length t c = c .before .before .resets .kept .1 .1 .0 ∙ c .before
 
 -- src/lib.rt:61:1
 reset-s-returns : (t : ℕ) → reset-s-lts.Need-returns (reset-s-calls t) (reset-s-at t) reset-s.Post
-reset-s-returns t c =
-    let s = c .before .before .before .before .before .before .before .before .before .before .before .before .before .before .before in
-    cc (delay-reset (s .args .p .now .now) (s .args .index .now) _ (s .args .i) (s .pre .1) (s .args .st .now) (sym (c .before .before .before .before .before .before .before .before .before .before .before .before .node-by .ensures .kind-is) ∙ c .before .before .before .before .before .before .before .before .before .before .before .match .keys1))
+reset-s-returns t c = delay-reset-said (c .before .before .before .before .before .before .before .before .before .before .before .before .before .before .before .args .p .now .now) (c .before .before .before .before .before .before .before .before .before .before .before .before .before .before .before .args .index .now) _ (c .before .before .before .before .before .before .before .before .before .before .before .before .before .before .before .args .i) (c .before .before .before .before .before .before .before .before .before .before .before .before .before .before .before .pre .1) (c .before .before .before .before .before .before .before .before .before .before .before .before .before .before .before .args .st .now) (c .before .before .before .before .before .before .before .before .before .before .before .before .node-by .ensures) (c .before .before .before .before .before .before .before .before .before .before .before .match .keys1) (c .before .before .before .before .before .before .before .value-by .ensures) (c .before .before .before .before .before .before .set-own .ensures) (c .before .before .resets .ensures)
 
 -- src/lib.rt:61:1
 reset-s-same-length-2 : (t : ℕ) → reset-s-lts.Need-same-length-2 (reset-s-calls t) (reset-s-at t) reset-s.Post
@@ -284,9 +274,7 @@ reset-s-same-length-2 t c = c .before .before .resets3 .kept .1 .1 .0 ∙ c .bef
 
 -- src/lib.rt:61:1
 reset-s-returns-2 : (t : ℕ) → reset-s-lts.Need-returns-2 (reset-s-calls t) (reset-s-at t) reset-s.Post
-reset-s-returns-2 t c =
-    let s = c .before .before .before .before .before .before .before .before .before .before .before .before in
-    cc (let-reset (s .args .p .now .now) (s .args .index .now) _ (s .args .i) (s .pre .1) (s .args .st .now) (sym (c .before .before .before .before .before .before .before .before .before .node-by .ensures .kind-is) ∙ c .before .before .before .before .before .before .before .before .match .keys2))
+reset-s-returns-2 t c = let-reset-said (c .before .before .before .before .before .before .before .before .before .before .before .before .args .p .now .now) (c .before .before .before .before .before .before .before .before .before .before .before .before .args .index .now) _ (c .before .before .before .before .before .before .before .before .before .before .before .before .args .i) (c .before .before .before .before .before .before .before .before .before .before .before .before .pre .1) (c .before .before .before .before .before .before .before .before .before .before .before .before .args .st .now) (c .before .before .before .before .before .before .before .before .before .node-by .ensures) (c .before .before .before .before .before .before .before .before .match .keys2) (c .before .before .before .before .before .before .resets2 .ensures) (c .before .before .resets3 .ensures)
 
 -- src/lib.rt:61:1
 reset-s-same-length-3 : (t : ℕ) → reset-s-lts.Need-same-length-3 (reset-s-calls t) (reset-s-at t) reset-s.Post
@@ -294,9 +282,7 @@ reset-s-same-length-3 t c = c .before .before .resets6 .kept .1 .1 .0 ∙ c .bef
 
 -- src/lib.rt:61:1
 reset-s-returns-3 : (t : ℕ) → reset-s-lts.Need-returns-3 (reset-s-calls t) (reset-s-at t) reset-s.Post
-reset-s-returns-3 t c =
-    let s = c .before .before .before .before .before .before .before .before .before .before .before .before .before .before .before .before .before .before .before .before .before in
-    cc (switch-reset (s .args .p .now .now) (s .args .index .now) _ (s .args .i) (s .pre .1) (s .args .st .now) (sym (c .before .before .before .before .before .before .before .before .before .before .before .before .before .before .before .before .before .before .node-by .ensures .kind-is) ∙ c .before .before .before .before .before .before .before .before .before .before .before .before .before .before .before .before .before .match .keys3))
+reset-s-returns-3 t c = switch-reset-said (c .before .before .before .before .before .before .before .before .before .before .before .before .before .before .before .before .before .before .before .before .before .args .p .now .now) (c .before .before .before .before .before .before .before .before .before .before .before .before .before .before .before .before .before .before .before .before .before .args .index .now) _ (c .before .before .before .before .before .before .before .before .before .before .before .before .before .before .before .before .before .before .before .before .before .args .i) (c .before .before .before .before .before .before .before .before .before .before .before .before .before .before .before .before .before .before .before .before .before .pre .1) (c .before .before .before .before .before .before .before .before .before .before .before .before .before .before .before .before .before .before .before .before .before .args .st .now) (c .before .before .before .before .before .before .before .before .before .before .before .before .before .before .before .before .before .before .node-by .ensures) (c .before .before .before .before .before .before .before .before .before .before .before .before .before .before .before .before .before .match .keys3) (c .before .before .before .before .before .before .before .before .before .before .before .before .before .before .set-own2 .ensures) (c .before .before .before .before .before .before .before .before .before .before .resets4 .ensures) (c .before .before .before .before .before .before .resets5 .ensures) (c .before .before .resets6 .ensures)
 
 -- src/lib.rt:61:1
 reset-s-same-length-4 : (t : ℕ) → reset-s-lts.Need-same-length-4 (reset-s-calls t) (reset-s-at t) reset-s.Post
@@ -304,9 +290,7 @@ reset-s-same-length-4 t c = c .before .before .reset-b .kept .1 .1 .0 ∙ c .bef
 
 -- src/lib.rt:61:1
 reset-s-returns-4 : (t : ℕ) → reset-s-lts.Need-returns-4 (reset-s-calls t) (reset-s-at t) reset-s.Post
-reset-s-returns-4 t c =
-    let s = c .before .before .before .before .before .before .before .before .before .before .before .before .before .before .before .before .before in
-    cc (group-reset (s .args .p .now .now) (s .args .index .now) _ (s .args .i) (s .pre .1) (s .args .st .now) (sym (c .before .before .before .before .before .before .before .before .before .before .before .before .before .before .node-by .ensures .kind-is) ∙ c .before .before .before .before .before .before .before .before .before .before .before .before .before .match .keys4))
+reset-s-returns-4 t c = group-reset-said (c .before .before .before .before .before .before .before .before .before .before .before .before .before .before .before .before .before .args .p .now .now) (c .before .before .before .before .before .before .before .before .before .before .before .before .before .before .before .before .before .args .index .now) _ (c .before .before .before .before .before .before .before .before .before .before .before .before .before .before .before .before .before .args .i) (c .before .before .before .before .before .before .before .before .before .before .before .before .before .before .before .before .before .pre .1) (c .before .before .before .before .before .before .before .before .before .before .before .before .before .before .before .before .before .args .st .now) (c .before .before .before .before .before .before .before .before .before .before .before .before .before .before .node-by .ensures) (c .before .before .before .before .before .before .before .before .before .before .before .before .before .match .keys4) (c .before .before .before .before .before .before .before .before .before .before .set-own3 .ensures) (c .before .before .before .before .before .before .resets7 .ensures) (c .before .before .reset-b .ensures)
 
 -- src/lib.rt:61:1
 reset-s-same-length-5 : (t : ℕ) → reset-s-lts.Need-same-length-5 (reset-s-calls t) (reset-s-at t) reset-s.Post
@@ -314,9 +298,7 @@ reset-s-same-length-5 t c = c .before .before .reset-c .kept .1 .1 .0 ∙ c .bef
 
 -- src/lib.rt:61:1
 reset-s-returns-5 : (t : ℕ) → reset-s-lts.Need-returns-5 (reset-s-calls t) (reset-s-at t) reset-s.Post
-reset-s-returns-5 t c =
-    let s = c .before .before .before .before .before .before .before .before .before .before .before .before in
-    cc (until-reset (s .args .p .now .now) (s .args .index .now) _ (s .args .i) (s .pre .1) (s .args .st .now) (sym (c .before .before .before .before .before .before .before .before .before .node-by .ensures .kind-is) ∙ c .before .before .before .before .before .before .before .before .match .keys5))
+reset-s-returns-5 t c = until-reset-said (c .before .before .before .before .before .before .before .before .before .before .before .before .args .p .now .now) (c .before .before .before .before .before .before .before .before .before .before .before .before .args .index .now) _ (c .before .before .before .before .before .before .before .before .before .before .before .before .args .i) (c .before .before .before .before .before .before .before .before .before .before .before .before .pre .1) (c .before .before .before .before .before .before .before .before .before .before .before .before .args .st .now) (c .before .before .before .before .before .before .before .before .before .node-by .ensures) (c .before .before .before .before .before .before .before .before .match .keys5) (c .before .before .before .before .before .before .resets8 .ensures) (c .before .before .reset-c .ensures)
 
 -- src/lib.rt:61:1
 reset-s-returns-6 : (t : ℕ) → reset-s-lts.Need-returns-6 (reset-s-calls t) (reset-s-at t) reset-s.Post

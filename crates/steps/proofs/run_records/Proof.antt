@@ -12,9 +12,9 @@ use Rattle.steps.proofs.run_records.Statement.{statement}
 use Rattle.steps.proofs.run_records.Tie as tie
 use Rattle.steps.proofs.run_records.Reads as reads
 use Rattle.steps.proofs.run_records.Lts as lts
-use Rattle.steps.proofs.first_wrapped.Reads as first-wrapped-reads
+use Rattle.record.proofs.first_wrapped.Reads as first-wrapped-reads
 use Rattle.steps.proofs.make_step.Reads as make-step-reads
-use Rattle.steps.proofs.record_verdict.Reads as record-verdict-reads
+use Rattle.record.proofs.record_verdict.Reads as record-verdict-reads
 
 abbrev Inv-loop : tie.InvT-loop
 Inv-loop p index recs st₀ env₀ out₀ count memo₀ left done₀ work₀ mark₀ st env out memo done work mark =
@@ -61,11 +61,11 @@ enum-known-found c = search needs
 
 -- src/lib.rt:164:13
 same-length : tie.Need-same-length Inv-loop μ-loop
-same-length c = omega (arith, c .before .before .before .before)
+same-length c = c .before .before .before .before .before .before .before .loop .inv .0 .cells
 
 -- src/lib.rt:164:13
 same-length-2 : tie.Need-same-length-2 Inv-loop μ-loop
-same-length-2 c = omega (arith, c .before .before .before .before)
+same-length-2 c = c .before .before .before .before .before .before .before .loop .inv .0 .room
 
 -- src/lib.rt:164:13
 returns : tie.Need-returns Inv-loop μ-loop
@@ -79,11 +79,12 @@ enum-told c = search needs
 
 -- src/lib.rt:166:60
 mul-make-step : tie.Need-mul-make-step Inv-loop μ-loop
-mul-make-step c = omega (arith, c .before .before .before .before .before)
+mul-make-step c = let way = c .before .before .before .before .before .before .before .before .before .loop .inv .0 in omega (arith, way .within, way .all, c .before .before .before .before .before .before .before .before .before .before .before .before .before .before .pre .1, c .before .before .before .before .before .before .before .before .loop-test .taken)
 
 -- src/lib.rt:166:13
 make-step-requires : tie.Need-make-step-requires Inv-loop μ-loop
-make-step-requires c κs = (search needs, simp (length-take, length-drop) (omega (arith, c .before .before .before .before .before .before)), omega (arith, c .before .before .before .before .before .before), c .before .before .before .before .before .before .before .before .before .before .loop .inv .1)
+make-step-requires c κs = let way = c .before .before .before .before .before .before .before .before .before .before .loop .inv .0 in
+    (way .going, simp (length-take, length-drop) (omega (arith, way .all, c .before .before .before .before .before .before .before .before .before .loop-test .taken)), omega (arith, way .room, way .all, c .before .before .before .before .before .before .before .before .before .before .before .before .before .before .before .pre .2, c .before .before .before .before .before .before .before .before .before .loop-test .taken), c .before .before .before .before .before .before .before .before .before .before .loop .inv .1)
 
 -- src/lib.rt:167:17
 cast-work : tie.Need-cast-work Inv-loop μ-loop

@@ -89,7 +89,7 @@ use Rattle.update.proofs.added.Reads as added-reads
 use Rattle.update.proofs.catches.Reads as catches-reads
 use Rattle.update.proofs.event_of.Reads as event-of-reads
 use Rattle.update.proofs.pass.Reads as pass-reads
-use Rattle.update.proofs.switches.Reads as switches-reads
+use Rattle.leaving.proofs.switches.Reads as switches-reads
 use Rattle.update.proofs.+goes+in_switch+inside+update_delay+update_group+update_let+update_s+update_switch+update_until+walk+walk_case+walk_on.{
   statement,
 }
@@ -270,30 +270,30 @@ walk-case-calls t = (node-by-reads.Asked, node-by-reads.Learnt, event-of-reads.A
 abbrev walk-on-calls : ℕ → walk-on-lts.Claims
 walk-on-calls t = (goes-below t, goes.Post, stay-reads.Asked, stay-reads.Learnt, walk-below t, walk.Post, settled-reads.Asked, settled-reads.Learnt, after-reads.Asked, after-reads.Learnt)
 
--- src/lib.rt:269:9
+-- src/lib.rt:237:9
 goes-kind-by-requires : (t : ℕ) → goes-lts.Need-kind-by-requires (goes-calls t) (goes-at t) goes.Post
 goes-kind-by-requires t c κs = let h = c .before .before .pre .1 .0 in (h .lent .table, h .node .shaped, h .node .inside)
 
--- src/lib.rt:271:9
+-- src/lib.rt:239:9
 goes-returns : (t : ℕ) → goes-lts.Need-returns (goes-calls t) (goes-at t) goes.Post
 goes-returns t c =
     let a = c .before .before .before .before .args in
     let h = c .before .before .before .before .pre .1 .0 in
     (low-updates (a .p .now .now) (a .i) (h .node) (a .rec .now .now) (a .env .now) (a .st .now) (memoryIn (a .memo .now)) (c .before .kind-by .ensures) (c .if1 .taken), refl, c .before .before .before .before .pre .1 .1)
 
--- src/lib.rt:273:5
+-- src/lib.rt:241:5
 goes-update-s-requires : (t : ℕ) → goes-lts.Need-update-s-requires (goes-calls t) (goes-at t) goes.Post
 goes-update-s-requires t c κs = (omega (arith, c .before .before .before .before .before .before .before .pre .0), c .before .before .before .before .before .before .before .pre .1)
 
--- src/lib.rt:257:1
+-- src/lib.rt:225:1
 goes-same-length : (t : ℕ) → goes-lts.Need-same-length (goes-calls t) (goes-at t) goes.Post
 goes-same-length t c = c .before .before .update-s .kept .1 .1 .1 .0
 
--- src/lib.rt:257:1
+-- src/lib.rt:225:1
 goes-returns-2 : (t : ℕ) → goes-lts.Need-returns-2 (goes-calls t) (goes-at t) goes.Post
 goes-returns-2 t c = c .before .before .update-s .ensures
 
--- src/lib.rt:419:9
+-- src/lib.rt:387:9
 in-switch-own-cell-requires : (t : ℕ) → in-switch-lts.Need-own-cell-requires (in-switch-calls t) (in-switch-at t) in-switch.Post
 in-switch-own-cell-requires t c κs =
     let a = c .before .before .before .args in
@@ -301,18 +301,18 @@ in-switch-own-cell-requires t c κs =
     let k = celled {s = length (a .st .now)} (h .ready .node) (h .ready .lent .table) (omega (arith, h .ready .lent .cells)) (switch-cell (h .kind)) in
     (k .listed, k .room)
 
--- src/lib.rt:422:9
+-- src/lib.rt:390:9
 in-switch-goes-requires : (t : ℕ) → in-switch-lts.Need-goes-requires (in-switch-calls t) (in-switch-at t) in-switch.Post
 in-switch-goes-requires t c κs =
     let h = c .before .before .before .before .before .before .before .before .pre .1 .0 in
     let k = switch-parts h in let first = k .0 .ready in let second = k .2 .ready in
     (omega (arith, k .0 .less, k .2 .less, c .before .before .before .before .before .before .before .before .pre .0), (search needs, c .before .before .before .before .before .before .before .before .pre .1 .1))
 
--- src/lib.rt:422:9
+-- src/lib.rt:390:9
 in-switch-same-length : (t : ℕ) → in-switch-lts.Need-same-length (in-switch-calls t) (in-switch-at t) in-switch.Post
 in-switch-same-length t c = c .before .before .goes .kept .1 .1 .1 .0
 
--- src/lib.rt:422:9
+-- src/lib.rt:390:9
 in-switch-returns : (t : ℕ) → in-switch-lts.Need-returns (in-switch-calls t) (in-switch-at t) in-switch.Post
 in-switch-returns t c =
     let a = c .before .before .before .before .before .before .before .before .before .before .before .args in
@@ -326,11 +326,11 @@ in-switch-returns t c =
       r .ensures .2,
     )
 
--- src/lib.rt:424:39
+-- src/lib.rt:392:39
 in-switch-exactly-requires : (t : ℕ) → in-switch-lts.Need-exactly-requires (in-switch-calls t) (in-switch-at t) in-switch.Post
 in-switch-exactly-requires t c κs = search needs
 
--- src/lib.rt:424:5
+-- src/lib.rt:392:5
 in-switch-inside-requires : (t : ℕ) → in-switch-lts.Need-inside-requires (in-switch-calls t) (in-switch-at t) in-switch.Post
 in-switch-inside-requires t c κs =
     let h = c .before .before .before .before .before .before .before .before .before .pre .1 .0 in
@@ -340,11 +340,11 @@ in-switch-inside-requires t c κs =
       (k .ready, omega (arith, h .ready .node .inside, h .ready .node .shaped .small), subst IsValue (sym (c .before .exactly .ensures)) (exact-value (m .result)), c .before .before .before .before .before .before .before .before .before .pre .1 .1),
     )
 
--- src/lib.rt:406:1
+-- src/lib.rt:374:1
 in-switch-same-length-2 : (t : ℕ) → in-switch-lts.Need-same-length-2 (in-switch-calls t) (in-switch-at t) in-switch.Post
 in-switch-same-length-2 t c = c .before .before .inside .kept .1 .1 .1 .0
 
--- src/lib.rt:406:1
+-- src/lib.rt:374:1
 in-switch-returns-2 : (t : ℕ) → in-switch-lts.Need-returns-2 (in-switch-calls t) (in-switch-at t) in-switch.Post
 in-switch-returns-2 t c =
     let a = c .before .before .before .before .before .before .before .before .before .before .before .before .args in
@@ -359,27 +359,27 @@ in-switch-returns-2 t c =
       r .ensures .2,
     )
 
--- src/lib.rt:316:15
+-- src/lib.rt:284:15
 inside-mul-old :
     (t : ℕ) → inside-lts.Need-mul-old (inside-calls t) (inside-at t) inside.Post
 inside-mul-old t c = search needs
 
--- src/lib.rt:316:15
+-- src/lib.rt:284:15
 inside-element-copy-out-old : (t : ℕ) → inside-lts.Need-element-copy-out-old (inside-calls t) (inside-at t) inside.Post
 inside-element-copy-out-old t c = c .before .pre .1 .1
 
--- src/lib.rt:317:5
+-- src/lib.rt:285:5
 inside-mul-env :
     (t : ℕ) → inside-lts.Need-mul-env (inside-calls t) (inside-at t) inside.Post
 inside-mul-env t c = search needs
 
--- src/lib.rt:317:5
+-- src/lib.rt:285:5
 inside-element-write-env :
     (t : ℕ) →
     inside-lts.Need-element-write-env (inside-calls t) (inside-at t) inside.Post
 inside-element-write-env t c = c .before .before .pre .1 .1
 
--- src/lib.rt:318:9
+-- src/lib.rt:286:9
 inside-goes-requires :
     (t : ℕ) → inside-lts.Need-goes-requires (inside-calls t) (inside-at t) inside.Post
 inside-goes-requires t c κs =
@@ -387,21 +387,21 @@ inside-goes-requires t c κs =
     let h = c .before .before .before .before .before .pre .1 in
     (omega (arith, c .before .before .before .before .before .pre .0), (ready-bound (a .i) (a .v) (h .2) (h .0), h .3))
 
--- src/lib.rt:319:5
+-- src/lib.rt:287:5
 inside-mul-env-2 :
     (t : ℕ) → inside-lts.Need-mul-env-2 (inside-calls t) (inside-at t) inside.Post
 inside-mul-env-2 t c = search needs
 
--- src/lib.rt:319:5
+-- src/lib.rt:287:5
 inside-element-write-env-2 : (t : ℕ) → inside-lts.Need-element-write-env-2 (inside-calls t) (inside-at t) inside.Post
 inside-element-write-env-2 t c = c .before .before .before .before .before .before .before .before .pre .1 .1
 
--- src/lib.rt:302:1
+-- src/lib.rt:270:1
 inside-same-length :
     (t : ℕ) → inside-lts.Need-same-length (inside-calls t) (inside-at t) inside.Post
 inside-same-length t c = c .before .before .goes .kept .1 .1 .1 .0
 
--- src/lib.rt:302:1
+-- src/lib.rt:270:1
 inside-returns :
     (t : ℕ) → inside-lts.Need-returns (inside-calls t) (inside-at t) inside.Post
 inside-returns t c =
@@ -413,29 +413,29 @@ inside-returns t c =
       r .ensures .2,
     )
 
--- src/lib.rt:337:9
+-- src/lib.rt:305:9
 update-delay-evaluated-requires : (t : ℕ) → update-delay-lts.Need-evaluated-requires (update-delay-calls t) (update-delay-at t) update-delay.Post
 update-delay-evaluated-requires t c κs =
     let a = c .before .before .before .before .args in
     (evaluable (a .st .now) (a .env .now) (delay-part (c .before .before .before .before .pre .1 .0)), c .before .before .before .before .pre .1 .1)
 
--- src/lib.rt:338:30
+-- src/lib.rt:306:30
 update-delay-show-requires : (t : ℕ) → update-delay-lts.Need-show-requires (update-delay-calls t) (update-delay-at t) update-delay.Post
 update-delay-show-requires t c κs = search needs
 
--- src/lib.rt:338:22
+-- src/lib.rt:306:22
 update-delay-enum-known-v : (t : ℕ) → update-delay-lts.Need-enum-known-v (update-delay-calls t) (update-delay-at t) update-delay.Post
 update-delay-enum-known-v t c = c .match .keys1
 
--- src/lib.rt:339:9
+-- src/lib.rt:307:9
 update-delay-enum-told : (t : ℕ) → update-delay-lts.Need-enum-told (update-delay-calls t) (update-delay-at t) update-delay.Post
 update-delay-enum-told t c = c .match .keys2
 
--- src/lib.rt:339:9
+-- src/lib.rt:307:9
 update-delay-same-length : (t : ℕ) → update-delay-lts.Need-same-length (update-delay-calls t) (update-delay-at t) update-delay.Post
 update-delay-same-length t c = refl
 
--- src/lib.rt:339:9
+-- src/lib.rt:307:9
 update-delay-returns : (t : ℕ) → update-delay-lts.Need-returns (update-delay-calls t) (update-delay-at t) update-delay.Post
 unfolding moved movedIn
 update-delay-returns t c =
@@ -446,7 +446,7 @@ update-delay-returns t c =
     let e = shown-stuck (x .result) (sym (z .ensures) ∙ c .enum-told .given .1) in
     (delay-stuck (a .p .now .now) (a .i) (h .ready .node) (h .fields) (a .rec .now .now) (a .env .now) (a .st .now) (memoryIn (a .memo .now)) (h .kind) (x .ensures .0) (x .ensures .3 .filled) e, x .ensures .2, x .ensures .3 .noted)
 
--- src/lib.rt:341:9
+-- src/lib.rt:309:9
 update-delay-goes-requires : (t : ℕ) → update-delay-lts.Need-goes-requires (update-delay-calls t) (update-delay-at t) update-delay.Post
 update-delay-goes-requires t c κs =
     let h = c .before .before .before .before .before .before .before .before .before .before .before .before .pre .1 .0 in
@@ -456,23 +456,23 @@ update-delay-goes-requires t c κs =
       (ready-again refl (x .ensures .2) (k .ready), x .ensures .3 .noted),
     )
 
--- src/lib.rt:342:26
+-- src/lib.rt:310:26
 update-delay-settled-requires : (t : ℕ) → update-delay-lts.Need-settled-requires (update-delay-calls t) (update-delay-at t) update-delay.Post
 update-delay-settled-requires t c κs = search needs
 
--- src/lib.rt:342:21
+-- src/lib.rt:310:21
 update-delay-enum-known-w : (t : ℕ) → update-delay-lts.Need-enum-known-w (update-delay-calls t) (update-delay-at t) update-delay.Post
 update-delay-enum-known-w t c = c .match2 .keys1
 
--- src/lib.rt:343:9
+-- src/lib.rt:311:9
 update-delay-enum-told-2 : (t : ℕ) → update-delay-lts.Need-enum-told-2 (update-delay-calls t) (update-delay-at t) update-delay.Post
 update-delay-enum-told-2 t c = c .match2 .keys2
 
--- src/lib.rt:343:9
+-- src/lib.rt:311:9
 update-delay-same-length-2 : (t : ℕ) → update-delay-lts.Need-same-length-2 (update-delay-calls t) (update-delay-at t) update-delay.Post
 update-delay-same-length-2 t c = c .before .before .before .before .before .goes .kept .1 .1 .1 .0
 
--- src/lib.rt:343:9
+-- src/lib.rt:311:9
 update-delay-returns-2 : (t : ℕ) → update-delay-lts.Need-returns-2 (update-delay-calls t) (update-delay-at t) update-delay.Post
 unfolding moved movedIn
 update-delay-returns-2 t c =
@@ -490,7 +490,7 @@ update-delay-returns-2 t c =
       r .ensures .2,
     )
 
--- src/lib.rt:345:5
+-- src/lib.rt:313:5
 update-delay-hold-requires : (t : ℕ) → update-delay-lts.Need-hold-requires (update-delay-calls t) (update-delay-at t) update-delay.Post
 update-delay-hold-requires t c κs =
     let h = c .before .before .before .before .before .before .before .before .before .before .before .before .before .before .before .before .before .before .before .before .before .pre .1 .0 in
@@ -502,7 +502,7 @@ update-delay-hold-requires t c κs =
           (x .ensures .1) (sym (z .ensures) ∙ c .before .before .before .before .before .before .before .before .before .before .before .before .before .v .given .1),
     )
 
--- src/lib.rt:346:5
+-- src/lib.rt:314:5
 update-delay-stayed-requires : (t : ℕ) → update-delay-lts.Need-stayed-requires (update-delay-calls t) (update-delay-at t) update-delay.Post
 update-delay-stayed-requires t c κs =
     let a = c .before .before .before .before .before .before .before .before .before .before .before .before .before .before .before .before .before .before .before .before .before .before .before .before .args in
@@ -517,13 +517,13 @@ update-delay-stayed-requires t c κs =
     delay-sum h (done-work (a .rec .now .now) (a .st .now) (a .env .now) (signalAt (a .p .now .now) (a .n .a)) (x .ensures .0) e)
     (calm-work (a .n .a) (delay-part h .ready .node) (x .ensures .3 .noted) (a .rec .now .now) _ (a .st .now) (r .result) (r .last .1 .1 .1 .0) (r .ensures .0) k)
 
--- src/lib.rt:324:1
+-- src/lib.rt:292:1
 update-delay-same-length-3 : (t : ℕ) → update-delay-lts.Need-same-length-3 (update-delay-calls t) (update-delay-at t) update-delay.Post
 update-delay-same-length-3 t c =
     c .before .before .before .hold .kept .1 .0
     ∙ c .before .before .before .before .before .before .before .before .before .before .before .before .goes .kept .1 .1 .1 .0
 
--- src/lib.rt:324:1
+-- src/lib.rt:292:1
 update-delay-returns-3 : (t : ℕ) → update-delay-lts.Need-returns-3 (update-delay-calls t) (update-delay-at t) update-delay.Post
 update-delay-returns-3 t c =
     let a = c .before .before .before .before .before .before .before .before .before .before .before .before .before .before .before .before .before .before .before .before .before .before .before .before .before .args in
@@ -543,7 +543,7 @@ update-delay-returns-3 t c =
       r .ensures .2,
     )
 
--- src/lib.rt:441:9
+-- src/lib.rt:409:9
 update-group-own-cell-requires : (t : ℕ) → update-group-lts.Need-own-cell-requires (update-group-calls t) (update-group-at t) update-group.Post
 update-group-own-cell-requires t c κs =
     let a = c .before .before .before .args in
@@ -551,13 +551,13 @@ update-group-own-cell-requires t c κs =
     let k = celled {s = length (a .st .now)} (h .ready .node) (h .ready .lent .table) (omega (arith, h .ready .lent .cells)) (group-cell (h .kind)) in
     (k .listed, k .room)
 
--- src/lib.rt:443:13
+-- src/lib.rt:411:13
 update-group-goes-requires : (t : ℕ) → update-group-lts.Need-goes-requires (update-group-calls t) (update-group-at t) update-group.Post
 update-group-goes-requires t c κs =
     let k = group-part (c .before .before .before .before .before .before .before .before .pre .1 .0) in
     (omega (arith, k .less, c .before .before .before .before .before .before .before .before .pre .0), (k .ready, c .before .before .before .before .before .before .before .before .pre .1 .1))
 
--- src/lib.rt:444:9
+-- src/lib.rt:412:9
 update-group-catches-requires : (t : ℕ) → update-group-lts.Need-catches-requires (update-group-calls t) (update-group-at t) update-group.Post
 update-group-catches-requires t c κs =
     let a = c .before .before .before .before .before .before .before .before .before .before .before .before .args in
@@ -569,11 +569,11 @@ update-group-catches-requires t c κs =
           (number-work (a .n .a) (group-part h .ready .node) (c .before .before .before .before .before .before .before .before .before .before .before .before .pre .1 .1) (a .rec .now .now) _ (a .st .now) (r .result) (r .last .1 .1 .1 .0) (r .ensures .0)),
     )
 
--- src/lib.rt:444:9
+-- src/lib.rt:412:9
 update-group-same-length : (t : ℕ) → update-group-lts.Need-same-length (update-group-calls t) (update-group-at t) update-group.Post
 update-group-same-length t c = c .before .before .catches .kept .1 .1 .0 ∙ c .before .before .before .before .before .before .goes .kept .1 .1 .1 .0
 
--- src/lib.rt:444:9
+-- src/lib.rt:412:9
 update-group-returns : (t : ℕ) → update-group-lts.Need-returns (update-group-calls t) (update-group-at t) update-group.Post
 update-group-returns t c =
     let a = c .before .before .before .before .before .before .before .before .before .before .before .before .before .before .before .args in
@@ -587,26 +587,26 @@ update-group-returns t c =
       r .ensures .2,
     )
 
--- src/lib.rt:446:9
+-- src/lib.rt:414:9
 update-group-branch-in-requires : (t : ℕ) → update-group-lts.Need-branch-in-requires (update-group-calls t) (update-group-at t) update-group.Post
 update-group-branch-in-requires t c κs = search needs
 
--- src/lib.rt:447:8
+-- src/lib.rt:415:8
 update-group-has-branch-requires : (t : ℕ) → update-group-lts.Need-has-branch-requires (update-group-calls t) (update-group-at t) update-group.Post
 update-group-has-branch-requires t c κs =
     let n = c .before .before .before .before .before .before .before .pre .1 .0 in list-first (n .ready .lent .table) (n .ready .node) (n .kind) (n .fields .b-is)
 
--- src/lib.rt:448:13
+-- src/lib.rt:416:13
 update-group-node-by-requires : (t : ℕ) → update-group-lts.Need-node-by-requires (update-group-calls t) (update-group-at t) update-group.Post
 update-group-node-by-requires t c κs =
     let h = c .before .before .before .before .before .before .before .before .before .before .pre .1 .0 in let k = branch-node h
     (c .before .before .has-branch .ensures) (c .before .if2 .taken) in (h .ready .lent .table, k .shaped, k .inside)
 
--- src/lib.rt:450:55
+-- src/lib.rt:418:55
 update-group-exactly-requires : (t : ℕ) → update-group-lts.Need-exactly-requires (update-group-calls t) (update-group-at t) update-group.Post
 update-group-exactly-requires t c κs = search needs
 
--- src/lib.rt:450:13
+-- src/lib.rt:418:13
 update-group-inside-requires : (t : ℕ) → update-group-lts.Need-inside-requires (update-group-calls t) (update-group-at t) update-group.Post
 update-group-inside-requires t c κs =
     let h = c .before .before .before .before .before .before .before .before .before .before .before .before .before .before .before .pre .1 .0 in
@@ -619,7 +619,7 @@ update-group-inside-requires t c κs =
       (k .ready, omega (arith, b .inside, b .shaped .small), subst IsValue (sym (c .before .exactly .ensures)) (exact-value (m .result)), c .before .before .before .before .before .before .before .before .before .before .before .before .before .before .before .pre .1 .1),
     )
 
--- src/lib.rt:451:9
+-- src/lib.rt:419:9
 update-group-catches-requires-2 : (t : ℕ) → update-group-lts.Need-catches-requires-2 (update-group-calls t) (update-group-at t) update-group.Post
 update-group-catches-requires-2 t c κs =
     let a = c .before .before .before .before .before .before .before .before .before .before .before .before .before .before .before .before .before .before .before .args in
@@ -634,11 +634,11 @@ update-group-catches-requires-2 t c κs =
           (number-work (f .result .a) (branch-part h (d .ensures) (c .before .before .before .before .before .before .before .before .before .before .if2 .taken) (f .ensures) .ready .node) (c .before .before .before .before .before .before .before .before .before .before .before .before .before .before .before .before .before .before .before .pre .1 .1) (a .rec .now .now) _ (a .st .now) (r .result) (r .last .1 .1 .1 .0) (r .ensures .0)),
     )
 
--- src/lib.rt:451:9
+-- src/lib.rt:419:9
 update-group-same-length-2 : (t : ℕ) → update-group-lts.Need-same-length-2 (update-group-calls t) (update-group-at t) update-group.Post
 update-group-same-length-2 t c = c .before .before .catches2 .kept .1 .1 .0 ∙ c .before .before .before .before .before .before .inside .kept .1 .1 .1 .0
 
--- src/lib.rt:451:9
+-- src/lib.rt:419:9
 update-group-returns-2 : (t : ℕ) → update-group-lts.Need-returns-2 (update-group-calls t) (update-group-at t) update-group.Post
 update-group-returns-2 t c =
     let a = c .before .before .before .before .before .before .before .before .before .before .before .before .before .before .before .before .before .before .before .before .before .before .args in
@@ -658,11 +658,11 @@ update-group-returns-2 t c =
       r .ensures .2,
     )
 
--- src/lib.rt:428:1
+-- src/lib.rt:396:1
 update-group-same-length-3 : (t : ℕ) → update-group-lts.Need-same-length-3 (update-group-calls t) (update-group-at t) update-group.Post
 update-group-same-length-3 t c = refl
 
--- src/lib.rt:428:1
+-- src/lib.rt:396:1
 update-group-returns-3 : (t : ℕ) → update-group-lts.Need-returns-3 (update-group-calls t) (update-group-at t) update-group.Post
 unfolding moved movedIn
 update-group-returns-3 t c =
@@ -676,29 +676,29 @@ update-group-returns-3 t c =
       c .before .before .before .before .before .before .before .before .before .pre .1 .1,
     )
 
--- src/lib.rt:363:13
+-- src/lib.rt:331:13
 update-let-mul-e : (t : ℕ) → update-let-lts.Need-mul-e (update-let-calls t) (update-let-at t) update-let.Post
 update-let-mul-e t c = search needs
 
--- src/lib.rt:363:13
+-- src/lib.rt:331:13
 update-let-element-copy-out-e : (t : ℕ) → update-let-lts.Need-element-copy-out-e (update-let-calls t) (update-let-at t) update-let.Post
 update-let-element-copy-out-e t c =
     let h = c .before .pre .1 .0 .ready .node in
     omega (arith, h .inside, h .shaped .small)
 
--- src/lib.rt:364:30
+-- src/lib.rt:332:30
 update-let-show-requires : (t : ℕ) → update-let-lts.Need-show-requires (update-let-calls t) (update-let-at t) update-let.Post
 update-let-show-requires t c κs = search needs
 
--- src/lib.rt:364:22
+-- src/lib.rt:332:22
 update-let-enum-known-v : (t : ℕ) → update-let-lts.Need-enum-known-v (update-let-calls t) (update-let-at t) update-let.Post
 update-let-enum-known-v t c = c .match .keys1
 
--- src/lib.rt:365:9
+-- src/lib.rt:333:9
 update-let-enum-told : (t : ℕ) → update-let-lts.Need-enum-told (update-let-calls t) (update-let-at t) update-let.Post
 update-let-enum-told t c = c .match .keys2
 
--- src/lib.rt:365:9
+-- src/lib.rt:333:9
 update-let-returns : (t : ℕ) → update-let-lts.Need-returns (update-let-calls t) (update-let-at t) update-let.Post
 unfolding moved movedIn memoryIn
 update-let-returns t c =
@@ -708,7 +708,7 @@ update-let-returns t c =
     let e = shown-stuck (getD (a .memo .now) (a .i) 0) (sym (z .ensures) ∙ c .enum-told .given .1) in
     (let-stuck (a .p .now .now) (a .i) (h .ready .node) (h .fields) (a .rec .now .now) (a .env .now) (a .st .now) (memoryIn (a .memo .now)) (h .kind) e, refl, c .before .before .before .before .before .pre .1 .1)
 
--- src/lib.rt:367:9
+-- src/lib.rt:335:9
 update-let-inside-requires : (t : ℕ) → update-let-lts.Need-inside-requires (update-let-calls t) (update-let-at t) update-let.Post
 update-let-inside-requires t c κs =
     let a = c .before .before .before .before .before .before .before .before .before .args in
@@ -724,23 +724,23 @@ update-let-inside-requires t c κs =
       ),
     )
 
--- src/lib.rt:368:26
+-- src/lib.rt:336:26
 update-let-settled-requires : (t : ℕ) → update-let-lts.Need-settled-requires (update-let-calls t) (update-let-at t) update-let.Post
 update-let-settled-requires t c κs = search needs
 
--- src/lib.rt:368:21
+-- src/lib.rt:336:21
 update-let-enum-known-w : (t : ℕ) → update-let-lts.Need-enum-known-w (update-let-calls t) (update-let-at t) update-let.Post
 update-let-enum-known-w t c = c .match2 .keys1
 
--- src/lib.rt:369:9
+-- src/lib.rt:337:9
 update-let-enum-told-2 : (t : ℕ) → update-let-lts.Need-enum-told-2 (update-let-calls t) (update-let-at t) update-let.Post
 update-let-enum-told-2 t c = c .match2 .keys2
 
--- src/lib.rt:369:9
+-- src/lib.rt:337:9
 update-let-same-length : (t : ℕ) → update-let-lts.Need-same-length (update-let-calls t) (update-let-at t) update-let.Post
 update-let-same-length t c = c .before .before .before .before .before .inside .kept .1 .1 .1 .0
 
--- src/lib.rt:369:9
+-- src/lib.rt:337:9
 update-let-returns-2 : (t : ℕ) → update-let-lts.Need-returns-2 (update-let-calls t) (update-let-at t) update-let.Post
 unfolding moved movedIn memoryIn
 update-let-returns-2 t c =
@@ -757,7 +757,7 @@ update-let-returns-2 t c =
       r .ensures .2,
     )
 
--- src/lib.rt:371:9
+-- src/lib.rt:339:9
 update-let-inside-requires-2 : (t : ℕ) → update-let-lts.Need-inside-requires-2 (update-let-calls t) (update-let-at t) update-let.Post
 update-let-inside-requires-2 t c κs =
     let a = c .before .before .before .before .before .before .before .before .before .before .before .before .before .before .before .before .before .before .before .args in
@@ -774,7 +774,7 @@ update-let-inside-requires-2 t c κs =
       ),
     )
 
--- src/lib.rt:372:5
+-- src/lib.rt:340:5
 update-let-later-requires : (t : ℕ) → update-let-lts.Need-later-requires (update-let-calls t) (update-let-at t) update-let.Post
 unfolding memoryIn
 update-let-later-requires t c κs =
@@ -790,11 +790,11 @@ update-let-later-requires t c κs =
     (calm-work (a .n .a) (let-parts h .0 .ready .node) (c .before .before .before .before .before .before .before .before .before .before .before .before .before .before .before .before .before .before .before .before .before .before .pre .1 .1) (a .rec .now .now) _ (a .st .now) (r .result) (r .last .1 .1 .1 .0) (r .ensures .0) k)
     (number-work (a .n .b) (let-parts h .1 .ready .node) (r .ensures .2) (a .rec .now .now) _ (r .last .1 .1 .1 .0) (q .result) (q .last .1 .1 .1 .0) (q .ensures .0))
 
--- src/lib.rt:350:1
+-- src/lib.rt:318:1
 update-let-same-length-2 : (t : ℕ) → update-let-lts.Need-same-length-2 (update-let-calls t) (update-let-at t) update-let.Post
 update-let-same-length-2 t c = c .before .before .before .inside2 .kept .1 .1 .1 .0 ∙ c .before .before .before .before .before .before .before .before .before .before .before .before .before .inside .kept .1 .1 .1 .0
 
--- src/lib.rt:350:1
+-- src/lib.rt:318:1
 update-let-returns-3 : (t : ℕ) → update-let-lts.Need-returns-3 (update-let-calls t) (update-let-at t) update-let.Post
 unfolding memoryIn
 update-let-returns-3 t c =
@@ -812,11 +812,11 @@ update-let-returns-3 t c =
       q .ensures .2,
     )
 
--- src/lib.rt:289:9
+-- src/lib.rt:257:9
 update-s-node-by-requires : (t : ℕ) → update-s-lts.Need-node-by-requires (update-s-calls t) (update-s-at t) update-s.Post
 update-s-node-by-requires t c κs = let h = c .before .before .pre .1 .0 in (h .lent .table, h .node .shaped, h .node .inside)
 
--- src/lib.rt:292:14
+-- src/lib.rt:260:14
 update-s-update-delay-requires : (t : ℕ) → update-s-lts.Need-update-delay-requires (update-s-calls t) (update-s-at t) update-s.Post
 update-s-update-delay-requires t c κs =
     let h = c .before .before .before .before .before .before .before .pre .1 .0 in
@@ -825,7 +825,7 @@ update-s-update-delay-requires t c κs =
       (record { ready = h; fields = f .ensures; kind = sym (f .ensures .kind-is) ∙ c .before .before .before .match .keys1 }, c .before .before .before .before .before .before .before .pre .1 .1),
     )
 
--- src/lib.rt:293:14
+-- src/lib.rt:261:14
 update-s-update-let-requires : (t : ℕ) → update-s-lts.Need-update-let-requires (update-s-calls t) (update-s-at t) update-s.Post
 update-s-update-let-requires t c κs =
     let h = c .before .before .before .before .before .before .before .pre .1 .0 in
@@ -834,7 +834,7 @@ update-s-update-let-requires t c κs =
       (record { ready = h; fields = f .ensures; kind = sym (f .ensures .kind-is) ∙ c .before .before .before .match .keys2 }, c .before .before .before .before .before .before .before .pre .1 .1),
     )
 
--- src/lib.rt:294:14
+-- src/lib.rt:262:14
 update-s-update-switch-requires : (t : ℕ) → update-s-lts.Need-update-switch-requires (update-s-calls t) (update-s-at t) update-s.Post
 update-s-update-switch-requires t c κs =
     let h = c .before .before .before .before .before .before .before .pre .1 .0 in
@@ -843,7 +843,7 @@ update-s-update-switch-requires t c κs =
       (record { ready = h; fields = f .ensures; kind = sym (f .ensures .kind-is) ∙ c .before .before .before .match .keys3 }, c .before .before .before .before .before .before .before .pre .1 .1),
     )
 
--- src/lib.rt:295:14
+-- src/lib.rt:263:14
 update-s-update-group-requires : (t : ℕ) → update-s-lts.Need-update-group-requires (update-s-calls t) (update-s-at t) update-s.Post
 update-s-update-group-requires t c κs =
     let h = c .before .before .before .before .before .before .before .pre .1 .0 in
@@ -852,7 +852,7 @@ update-s-update-group-requires t c κs =
       (record { ready = h; fields = f .ensures; kind = sym (f .ensures .kind-is) ∙ c .before .before .before .match .keys4 }, c .before .before .before .before .before .before .before .pre .1 .1),
     )
 
--- src/lib.rt:296:14
+-- src/lib.rt:264:14
 update-s-update-until-requires : (t : ℕ) → update-s-lts.Need-update-until-requires (update-s-calls t) (update-s-at t) update-s.Post
 update-s-update-until-requires t c κs =
     let h = c .before .before .before .before .before .before .before .pre .1 .0 in
@@ -861,47 +861,47 @@ update-s-update-until-requires t c κs =
       (record { ready = h; fields = f .ensures; kind = sym (f .ensures .kind-is) ∙ c .before .before .before .match .keys5 }, c .before .before .before .before .before .before .before .pre .1 .1),
     )
 
--- src/lib.rt:277:1
+-- src/lib.rt:245:1
 update-s-same-length : (t : ℕ) → update-s-lts.Need-same-length (update-s-calls t) (update-s-at t) update-s.Post
 update-s-same-length t c = c .before .before .update-delay .kept .1 .1 .1 .0
 
--- src/lib.rt:277:1
+-- src/lib.rt:245:1
 update-s-returns : (t : ℕ) → update-s-lts.Need-returns (update-s-calls t) (update-s-at t) update-s.Post
 update-s-returns t c = c .before .before .update-delay .ensures
 
--- src/lib.rt:277:1
+-- src/lib.rt:245:1
 update-s-same-length-2 : (t : ℕ) → update-s-lts.Need-same-length-2 (update-s-calls t) (update-s-at t) update-s.Post
 update-s-same-length-2 t c = c .before .before .update-let .kept .1 .1 .1 .0
 
--- src/lib.rt:277:1
+-- src/lib.rt:245:1
 update-s-returns-2 : (t : ℕ) → update-s-lts.Need-returns-2 (update-s-calls t) (update-s-at t) update-s.Post
 update-s-returns-2 t c = c .before .before .update-let .ensures
 
--- src/lib.rt:277:1
+-- src/lib.rt:245:1
 update-s-same-length-3 : (t : ℕ) → update-s-lts.Need-same-length-3 (update-s-calls t) (update-s-at t) update-s.Post
 update-s-same-length-3 t c = c .before .before .update-switch .kept .1 .1 .1 .0
 
--- src/lib.rt:277:1
+-- src/lib.rt:245:1
 update-s-returns-3 : (t : ℕ) → update-s-lts.Need-returns-3 (update-s-calls t) (update-s-at t) update-s.Post
 update-s-returns-3 t c = c .before .before .update-switch .ensures
 
--- src/lib.rt:277:1
+-- src/lib.rt:245:1
 update-s-same-length-4 : (t : ℕ) → update-s-lts.Need-same-length-4 (update-s-calls t) (update-s-at t) update-s.Post
 update-s-same-length-4 t c = c .before .before .update-group .kept .1 .1 .1 .0
 
--- src/lib.rt:277:1
+-- src/lib.rt:245:1
 update-s-returns-4 : (t : ℕ) → update-s-lts.Need-returns-4 (update-s-calls t) (update-s-at t) update-s.Post
 update-s-returns-4 t c = c .before .before .update-group .ensures
 
--- src/lib.rt:277:1
+-- src/lib.rt:245:1
 update-s-same-length-5 : (t : ℕ) → update-s-lts.Need-same-length-5 (update-s-calls t) (update-s-at t) update-s.Post
 update-s-same-length-5 t c = c .before .before .update-until .kept .1 .1 .1 .0
 
--- src/lib.rt:277:1
+-- src/lib.rt:245:1
 update-s-returns-5 : (t : ℕ) → update-s-lts.Need-returns-5 (update-s-calls t) (update-s-at t) update-s.Post
 update-s-returns-5 t c = c .before .before .update-until .ensures
 
--- src/lib.rt:277:1
+-- src/lib.rt:245:1
 update-s-returns-6 : (t : ℕ) → update-s-lts.Need-returns-6 (update-s-calls t) (update-s-at t) update-s.Post
 update-s-returns-6 t c =
     let a = c .before .before .before .before .args in
@@ -909,29 +909,29 @@ update-s-returns-6 t c =
     let f = c .before .node-by in
     (leaf-updates (a .p .now .now) (a .i) (h .node) (a .rec .now .now) (a .env .now) (a .st .now) (memoryIn (a .memo .now)) (f .ensures .kind-is) (c .match .rest), refl, c .before .before .before .before .pre .1 .1)
 
--- src/lib.rt:389:9
+-- src/lib.rt:357:9
 update-switch-evaluated-requires : (t : ℕ) → update-switch-lts.Need-evaluated-requires (update-switch-calls t) (update-switch-at t) update-switch.Post
 update-switch-evaluated-requires t c κs =
     let a = c .before .before .before .before .args in
     (evaluable (a .st .now) (a .env .now) (switch-parts (c .before .before .before .before .pre .1 .0) .1), c .before .before .before .before .pre .1 .1)
 
--- src/lib.rt:390:34
+-- src/lib.rt:358:34
 update-switch-apart-requires : (t : ℕ) → update-switch-lts.Need-apart-requires (update-switch-calls t) (update-switch-at t) update-switch.Post
 update-switch-apart-requires t c κs = search needs
 
--- src/lib.rt:390:22
+-- src/lib.rt:358:22
 update-switch-enum-known-event : (t : ℕ) → update-switch-lts.Need-enum-known-event (update-switch-calls t) (update-switch-at t) update-switch.Post
 update-switch-enum-known-event t c = c .match .keys1
 
--- src/lib.rt:391:9
+-- src/lib.rt:359:9
 update-switch-enum-told : (t : ℕ) → update-switch-lts.Need-enum-told (update-switch-calls t) (update-switch-at t) update-switch.Post
 update-switch-enum-told t c = c .match .keys2
 
--- src/lib.rt:391:9
+-- src/lib.rt:359:9
 update-switch-same-length : (t : ℕ) → update-switch-lts.Need-same-length (update-switch-calls t) (update-switch-at t) update-switch.Post
 update-switch-same-length t c = refl
 
--- src/lib.rt:391:9
+-- src/lib.rt:359:9
 update-switch-returns : (t : ℕ) → update-switch-lts.Need-returns (update-switch-calls t) (update-switch-at t) update-switch.Post
 unfolding moved movedIn
 update-switch-returns t c =
@@ -945,7 +945,7 @@ update-switch-returns t c =
       x .ensures .3 .noted,
     )
 
--- src/lib.rt:393:9
+-- src/lib.rt:361:9
 update-switch-goes-requires : (t : ℕ) → update-switch-lts.Need-goes-requires (update-switch-calls t) (update-switch-at t) update-switch.Post
 update-switch-goes-requires t c κs =
     let h = c .before .before .before .before .before .before .before .before .before .before .before .before .pre .1 .0 in
@@ -955,23 +955,23 @@ update-switch-goes-requires t c κs =
       (ready-again refl (x .ensures .2) (k .ready), x .ensures .3 .noted),
     )
 
--- src/lib.rt:394:26
+-- src/lib.rt:362:26
 update-switch-settled-requires : (t : ℕ) → update-switch-lts.Need-settled-requires (update-switch-calls t) (update-switch-at t) update-switch.Post
 update-switch-settled-requires t c κs = search needs
 
--- src/lib.rt:394:21
+-- src/lib.rt:362:21
 update-switch-enum-known-w : (t : ℕ) → update-switch-lts.Need-enum-known-w (update-switch-calls t) (update-switch-at t) update-switch.Post
 update-switch-enum-known-w t c = c .match2 .keys1
 
--- src/lib.rt:395:9
+-- src/lib.rt:363:9
 update-switch-enum-told-2 : (t : ℕ) → update-switch-lts.Need-enum-told-2 (update-switch-calls t) (update-switch-at t) update-switch.Post
 update-switch-enum-told-2 t c = c .match2 .keys2
 
--- src/lib.rt:395:9
+-- src/lib.rt:363:9
 update-switch-same-length-2 : (t : ℕ) → update-switch-lts.Need-same-length-2 (update-switch-calls t) (update-switch-at t) update-switch.Post
 update-switch-same-length-2 t c = c .before .before .before .before .before .goes .kept .1 .1 .1 .0
 
--- src/lib.rt:395:9
+-- src/lib.rt:363:9
 update-switch-returns-2 : (t : ℕ) → update-switch-lts.Need-returns-2 (update-switch-calls t) (update-switch-at t) update-switch.Post
 unfolding moved movedIn
 update-switch-returns-2 t c =
@@ -988,15 +988,15 @@ update-switch-returns-2 t c =
       r .ensures .2,
     )
 
--- src/lib.rt:397:23
+-- src/lib.rt:365:23
 update-switch-enum-known-event-2 : (t : ℕ) → update-switch-lts.Need-enum-known-event-2 (update-switch-calls t) (update-switch-at t) update-switch.Post
 update-switch-enum-known-event-2 t c = c .match3 .keys1
 
--- src/lib.rt:398:42
+-- src/lib.rt:366:42
 update-switch-enum-told-3 : (t : ℕ) → update-switch-lts.Need-enum-told-3 (update-switch-calls t) (update-switch-at t) update-switch.Post
 update-switch-enum-told-3 t c = c .match3 .keys2
 
--- src/lib.rt:398:13
+-- src/lib.rt:366:13
 update-switch-in-switch-requires : (t : ℕ) → update-switch-lts.Need-in-switch-requires (update-switch-calls t) (update-switch-at t) update-switch.Post
 update-switch-in-switch-requires t c κs =
     let h = c .before .before .before .before .before .before .before .before .before .before .before .before .before .before .before .before .before .before .before .before .before .before .before .before .pre .1 .0 in
@@ -1008,11 +1008,11 @@ update-switch-in-switch-requires t c κs =
       (as-again (r .kept .1 .1 .1 .0) (r .ensures .1 ∙ c .before .before .before .before .before .before .before .before .before .before .before .before .before .before .before .before .before .before .before .evaluated .ensures .2) h, r .ensures .2),
     )
 
--- src/lib.rt:399:28
+-- src/lib.rt:367:28
 update-switch-stay-requires : (t : ℕ) → update-switch-lts.Need-stay-requires (update-switch-calls t) (update-switch-at t) update-switch.Post
 update-switch-stay-requires t c κs = search needs
 
--- src/lib.rt:399:9
+-- src/lib.rt:367:9
 update-switch-later-requires : (t : ℕ) → update-switch-lts.Need-later-requires (update-switch-calls t) (update-switch-at t) update-switch.Post
 update-switch-later-requires t c κs =
     let a = c .before .before .before .before .before .before .before .before .before .before .before .before .before .before .before .before .before .before .before .before .before .before .before .before .before .before .before .before .args in
@@ -1034,13 +1034,13 @@ update-switch-later-requires t c κs =
           (q .ensures .0)),
     ))
 
--- src/lib.rt:399:9
+-- src/lib.rt:367:9
 update-switch-same-length-3 : (t : ℕ) → update-switch-lts.Need-same-length-3 (update-switch-calls t) (update-switch-at t) update-switch.Post
 update-switch-same-length-3 t c =
     c .before .before .before .before .in-switch .kept .1 .1 .1 .0
     ∙ c .before .before .before .before .before .before .before .before .before .before .before .before .before .before .before .before .goes .kept .1 .1 .1 .0
 
--- src/lib.rt:399:9
+-- src/lib.rt:367:9
 update-switch-returns-3 : (t : ℕ) → update-switch-lts.Need-returns-3 (update-switch-calls t) (update-switch-at t) update-switch.Post
 update-switch-returns-3 t c =
     let a = c .before .before .before .before .before .before .before .before .before .before .before .before .before .before .before .before .before .before .before .before .before .before .before .before .before .before .before .before .before .args in
@@ -1062,7 +1062,7 @@ update-switch-returns-3 t c =
       q .ensures .2,
     )
 
--- src/lib.rt:401:5
+-- src/lib.rt:369:5
 update-switch-switches-requires : (t : ℕ) → update-switch-lts.Need-switches-requires (update-switch-calls t) (update-switch-at t) update-switch.Post
 update-switch-switches-requires t c κs =
     let h = c .before .before .before .before .before .before .before .before .before .before .before .before .before .before .before .before .before .before .before .before .before .before .before .pre .1 .0 in
@@ -1072,7 +1072,7 @@ update-switch-switches-requires t c κs =
     let g = c .before .before .before .before .before .before .before .before .before .before .before .before .before .before .before .event in
     (placed (r .kept .1 .1 .1 .0) h, take-value (outcomeIn (x .result)) (sym (z .ensures) ∙ g .given .1) (c .before .before .event2 .given .1))
 
--- src/lib.rt:402:5
+-- src/lib.rt:370:5
 update-switch-stayed-requires : (t : ℕ) → update-switch-lts.Need-stayed-requires (update-switch-calls t) (update-switch-at t) update-switch.Post
 update-switch-stayed-requires t c κs =
     let a = c .before .before .before .before .before .before .before .before .before .before .before .before .before .before .before .before .before .before .before .before .before .before .before .before .before .before .args in
@@ -1090,13 +1090,13 @@ update-switch-stayed-requires t c κs =
           (r .ensures .0) k) (omega arith),
     )
 
--- src/lib.rt:376:1
+-- src/lib.rt:344:1
 update-switch-same-length-4 : (t : ℕ) → update-switch-lts.Need-same-length-4 (update-switch-calls t) (update-switch-at t) update-switch.Post
 update-switch-same-length-4 t c =
     c .before .before .before .switches .kept .1 .1 .0
     ∙ c .before .before .before .before .before .before .before .before .before .before .before .before .before .before .goes .kept .1 .1 .1 .0
 
--- src/lib.rt:376:1
+-- src/lib.rt:344:1
 update-switch-returns-4 : (t : ℕ) → update-switch-lts.Need-returns-4 (update-switch-calls t) (update-switch-at t) update-switch.Post
 update-switch-returns-4 t c =
     let a = c .before .before .before .before .before .before .before .before .before .before .before .before .before .before .before .before .before .before .before .before .before .before .before .before .before .before .before .args in
@@ -1115,23 +1115,23 @@ update-switch-returns-4 t c =
       r .ensures .2,
     )
 
--- src/lib.rt:470:9
+-- src/lib.rt:438:9
 update-until-walk-requires : (t : ℕ) → update-until-lts.Need-walk-requires (update-until-calls t) (update-until-at t) update-until.Post
 update-until-walk-requires t c κs = let k = until-parts (c .before .before .before .before .pre .1 .0) .1 in (omega (arith, k .0, c .before .before .before .before .pre .0), (k .1, c .before .before .before .before .pre .1 .1))
 
--- src/lib.rt:471:26
+-- src/lib.rt:439:26
 update-until-settled-requires : (t : ℕ) → update-until-lts.Need-settled-requires (update-until-calls t) (update-until-at t) update-until.Post
 update-until-settled-requires t c κs = search needs
 
--- src/lib.rt:471:21
+-- src/lib.rt:439:21
 update-until-enum-known-u : (t : ℕ) → update-until-lts.Need-enum-known-u (update-until-calls t) (update-until-at t) update-until.Post
 update-until-enum-known-u t c = c .match .keys1
 
--- src/lib.rt:472:9
+-- src/lib.rt:440:9
 update-until-enum-told : (t : ℕ) → update-until-lts.Need-enum-told (update-until-calls t) (update-until-at t) update-until.Post
 update-until-enum-told t c = c .match .keys2
 
--- src/lib.rt:472:9
+-- src/lib.rt:440:9
 update-until-ruled-requires : (t : ℕ) → update-until-lts.Need-ruled-requires (update-until-calls t) (update-until-at t) update-until.Post
 update-until-ruled-requires t c κs =
     let a = c .before .before .before .before .before .before .before .before .before .before .args in
@@ -1143,11 +1143,11 @@ update-until-ruled-requires t c κs =
       walk-count (a .n .b) (until-parts h .1 .1 .node) (c .before .before .before .before .before .before .before .before .before .before .pre .1 .1) (a .rec .now .now) (a .env .now) (a .st .now) (movedIn (o .result)) (o .last .1 .1 .1 .0) (o .ensures .0),
     ))
 
--- src/lib.rt:472:9
+-- src/lib.rt:440:9
 update-until-same-length : (t : ℕ) → update-until-lts.Need-same-length (update-until-calls t) (update-until-at t) update-until.Post
 update-until-same-length t c = c .before .before .before .before .before .before .walk .kept .1 .1 .1 .0
 
--- src/lib.rt:472:9
+-- src/lib.rt:440:9
 update-until-returns : (t : ℕ) → update-until-lts.Need-returns (update-until-calls t) (update-until-at t) update-until.Post
 update-until-returns t c =
     let a = c .before .before .before .before .before .before .before .before .before .before .before .args in
@@ -1161,7 +1161,7 @@ update-until-returns t c =
       o .ensures .2,
     )
 
--- src/lib.rt:474:9
+-- src/lib.rt:442:9
 update-until-goes-requires : (t : ℕ) → update-until-lts.Need-goes-requires (update-until-calls t) (update-until-at t) update-until.Post
 update-until-goes-requires t c κs =
     let h = c .before .before .before .before .before .before .before .before .before .before .before .before .before .before .pre .1 .0 in
@@ -1171,11 +1171,11 @@ update-until-goes-requires t c κs =
       (ready-again (o .kept .1 .1 .1 .0) (o .ensures .1) (k .ready), o .ensures .2),
     )
 
--- src/lib.rt:475:20
+-- src/lib.rt:443:20
 update-until-stay-requires : (t : ℕ) → update-until-lts.Need-stay-requires (update-until-calls t) (update-until-at t) update-until.Post
 update-until-stay-requires t c κs = search needs
 
--- src/lib.rt:475:11
+-- src/lib.rt:443:11
 update-until-after-requires : (t : ℕ) → update-until-lts.Need-after-requires (update-until-calls t) (update-until-at t) update-until.Post
 update-until-after-requires t c κs =
     let a = c .before .before .before .before .before .before .before .before .before .before .before .before .before .before .before .before .before .before .args in
@@ -1192,7 +1192,7 @@ update-until-after-requires t c κs =
           (number-work (a .n .a) (until-parts h .0 .ready .node) (o .ensures .2) (a .rec .now .now) _ (o .last .1 .1 .1 .0) (r .result) (r .last .1 .1 .1 .0) (r .ensures .0)),
     )
 
--- src/lib.rt:475:5
+-- src/lib.rt:443:5
 update-until-ruled-requires-2 : (t : ℕ) → update-until-lts.Need-ruled-requires-2 (update-until-calls t) (update-until-at t) update-until.Post
 update-until-ruled-requires-2 t c κs =
     let a = c .before .before .before .before .before .before .before .before .before .before .before .before .before .before .before .before .before .before .before .args in
@@ -1211,13 +1211,13 @@ update-until-ruled-requires-2 t c κs =
           (number-work (a .n .a) (until-parts h .0 .ready .node) (o .ensures .2) (a .rec .now .now) _ (o .last .1 .1 .1 .0) (r .result) (r .last .1 .1 .1 .0) (r .ensures .0)),
     )
 
--- src/lib.rt:457:1
+-- src/lib.rt:425:1
 update-until-same-length-2 : (t : ℕ) → update-until-lts.Need-same-length-2 (update-until-calls t) (update-until-at t) update-until.Post
 update-until-same-length-2 t c =
     c .before .before .before .before .before .goes .kept .1 .1 .1 .0
     ∙ c .before .before .before .before .before .before .before .before .before .before .before .before .before .before .before .walk .kept .1 .1 .1 .0
 
--- src/lib.rt:457:1
+-- src/lib.rt:425:1
 update-until-returns-2 : (t : ℕ) → update-until-lts.Need-returns-2 (update-until-calls t) (update-until-at t) update-until.Post
 update-until-returns-2 t c =
     let a = c .before .before .before .before .before .before .before .before .before .before .before .before .before .before .before .before .before .before .before .before .args in
@@ -1234,11 +1234,11 @@ update-until-returns-2 t c =
       r .ensures .2,
     )
 
--- src/lib.rt:491:9
+-- src/lib.rt:459:9
 walk-pass-requires : (t : ℕ) → walk-lts.Need-pass-requires (walk-calls t) (walk-at t) walk.Post
 walk-pass-requires t c κs = c .before .before .before .pre .1 .0
 
--- src/lib.rt:494:9
+-- src/lib.rt:462:9
 walk-walk-case-requires : (t : ℕ) → walk-lts.Need-walk-case-requires (walk-calls t) (walk-at t) walk.Post
 walk-walk-case-requires t c κs =
     let a = c .before .before .before .before .before .before .before .before .args in
@@ -1247,7 +1247,7 @@ walk-walk-case-requires t c κs =
     let s = passes-from (a .rec .now .now) (a .st .now) h (y .ensures .0) in
     (omega (arith, s .down, c .before .before .before .before .before .before .before .before .pre .0), (walk-again refl (y .ensures .1) (s .ready), c .before .before .before .before .before .before .before .before .pre .1 .1, known-again (y .ensures .1) (y .ensures .2)))
 
--- src/lib.rt:495:5
+-- src/lib.rt:463:5
 walk-added-requires : (t : ℕ) → walk-lts.Need-added-requires (walk-calls t) (walk-at t) walk.Post
 walk-added-requires t c κs =
     let a = c .before .before .before .before .before .before .before .before .before .before .before .args in
@@ -1257,11 +1257,11 @@ walk-added-requires t c κs =
     passes-fit h (passes-from (a .rec .now .now) (a .st .now) h (y .ensures .0)) (c .before .before .before .before .before .before .before .before .before .before .before .pre .1 .1) (o .result) (o .last .1 .1 .1 .0)
     (o .ensures .0 ∙ ap (λ (e : Env). walked (a .rec .now .now) e (casesAt (a .p .now .now) (y .result .passed .at)) (a .st .now) (memoryIn (a .memo .now))) (y .ensures .1))
 
--- src/lib.rt:479:1
+-- src/lib.rt:447:1
 walk-same-length : (t : ℕ) → walk-lts.Need-same-length (walk-calls t) (walk-at t) walk.Post
 walk-same-length t c = c .before .before .before .walk-case .kept .1 .1 .1 .0
 
--- src/lib.rt:479:1
+-- src/lib.rt:447:1
 walk-returns : (t : ℕ) → walk-lts.Need-returns (walk-calls t) (walk-at t) walk.Post
 walk-returns t c =
     let a = c .before .before .before .before .before .before .before .before .before .before .before .before .args in
@@ -1275,11 +1275,11 @@ walk-returns t c =
       o .ensures .2,
     )
 
--- src/lib.rt:512:9
+-- src/lib.rt:480:9
 walk-case-node-by-requires : (t : ℕ) → walk-case-lts.Need-node-by-requires (walk-case-calls t) (walk-case-at t) walk-case.Post
 walk-case-node-by-requires t c κs = let h = c .before .before .pre .1 .0 in (h .lent .table, h .node .shaped, h .node .inside)
 
--- src/lib.rt:513:9
+-- src/lib.rt:481:9
 walk-case-event-of-requires : (t : ℕ) → walk-case-lts.Need-event-of-requires (walk-case-calls t) (walk-case-at t) walk-case.Post
 walk-case-event-of-requires t c κs =
     let a = c .before .before .before .before .before .before .args in
@@ -1287,23 +1287,23 @@ walk-case-event-of-requires t c κs =
     let f = c .before .before .before .node-by in
     (evaluable (a .st .now) (a .env .now) (case-part (record { ready = h; fields = f .ensures })), c .before .before .before .before .before .before .pre .1 .1, known-by (f .ensures .a-is) (c .before .before .before .before .before .before .pre .1 .2))
 
--- src/lib.rt:514:34
+-- src/lib.rt:482:34
 walk-case-apart-requires : (t : ℕ) → walk-case-lts.Need-apart-requires (walk-case-calls t) (walk-case-at t) walk-case.Post
 walk-case-apart-requires t c κs = search needs
 
--- src/lib.rt:514:22
+-- src/lib.rt:482:22
 walk-case-enum-known-event : (t : ℕ) → walk-case-lts.Need-enum-known-event (walk-case-calls t) (walk-case-at t) walk-case.Post
 walk-case-enum-known-event t c = c .match .keys1
 
--- src/lib.rt:515:9
+-- src/lib.rt:483:9
 walk-case-enum-told : (t : ℕ) → walk-case-lts.Need-enum-told (walk-case-calls t) (walk-case-at t) walk-case.Post
 walk-case-enum-told t c = c .match .keys2
 
--- src/lib.rt:515:9
+-- src/lib.rt:483:9
 walk-case-same-length : (t : ℕ) → walk-case-lts.Need-same-length (walk-case-calls t) (walk-case-at t) walk-case.Post
 walk-case-same-length t c = refl
 
--- src/lib.rt:515:9
+-- src/lib.rt:483:9
 walk-case-returns : (t : ℕ) → walk-case-lts.Need-returns (walk-case-calls t) (walk-case-at t) walk-case.Post
 unfolding moved movedIn
 walk-case-returns t c =
@@ -1318,15 +1318,15 @@ walk-case-returns t c =
       x .ensures .3 .noted,
     )
 
--- src/lib.rt:517:23
+-- src/lib.rt:485:23
 walk-case-enum-known-event-2 : (t : ℕ) → walk-case-lts.Need-enum-known-event-2 (walk-case-calls t) (walk-case-at t) walk-case.Post
 walk-case-enum-known-event-2 t c = c .match2 .keys1
 
--- src/lib.rt:518:43
+-- src/lib.rt:486:43
 walk-case-enum-told-2 : (t : ℕ) → walk-case-lts.Need-enum-told-2 (walk-case-calls t) (walk-case-at t) walk-case.Post
 walk-case-enum-told-2 t c = c .match2 .keys2
 
--- src/lib.rt:518:13
+-- src/lib.rt:486:13
 walk-case-walk-on-requires : (t : ℕ) → walk-case-lts.Need-walk-on-requires (walk-case-calls t) (walk-case-at t) walk-case.Post
 walk-case-walk-on-requires t c κs =
     let h = c .before .before .before .before .before .before .before .before .before .before .before .before .before .before .before .before .pre .1 .0 in
@@ -1335,7 +1335,7 @@ walk-case-walk-on-requires t c κs =
       (record { ready = walk-again refl (x .ensures .2) h; fields = c .before .before .before .before .before .before .before .before .before .before .before .before .before .node-by .ensures }, x .ensures .3 .noted),
     )
 
--- src/lib.rt:519:9
+-- src/lib.rt:487:9
 walk-case-after-requires : (t : ℕ) → walk-case-lts.Need-after-requires (walk-case-calls t) (walk-case-at t) walk-case.Post
 walk-case-after-requires t c κs =
     let a = c .before .before .before .before .before .before .before .before .before .before .before .before .before .before .before .before .before .before .before .args in
@@ -1356,11 +1356,11 @@ walk-case-after-requires t c κs =
           (parts-work (a .rec .now .now) (a .st .now) (a .env .now) (signalAt (a .p .now .now) (f .result .a)) (x .ensures .0) (sym (z .ensures) ∙ g .given .1))),
     )
 
--- src/lib.rt:519:9
+-- src/lib.rt:487:9
 walk-case-same-length-2 : (t : ℕ) → walk-case-lts.Need-same-length-2 (walk-case-calls t) (walk-case-at t) walk-case.Post
 walk-case-same-length-2 t c = c .before .before .before .walk-on .kept .1 .1 .1 .0
 
--- src/lib.rt:519:9
+-- src/lib.rt:487:9
 walk-case-returns-2 : (t : ℕ) → walk-case-lts.Need-returns-2 (walk-case-calls t) (walk-case-at t) walk-case.Post
 walk-case-returns-2 t c =
     let a = c .before .before .before .before .before .before .before .before .before .before .before .before .before .before .before .before .before .before .before .before .args in
@@ -1378,7 +1378,7 @@ walk-case-returns-2 t c =
       o .ensures .2,
     )
 
--- src/lib.rt:521:5
+-- src/lib.rt:489:5
 walk-case-jump-requires : (t : ℕ) → walk-case-lts.Need-jump-requires (walk-case-calls t) (walk-case-at t) walk-case.Post
 walk-case-jump-requires t c κs =
     let a = c .before .before .before .before .before .before .before .before .before .before .before .before .before .before .args in
@@ -1399,11 +1399,11 @@ walk-case-jump-requires t c κs =
       ),
     )
 
--- src/lib.rt:499:1
+-- src/lib.rt:467:1
 walk-case-same-length-3 : (t : ℕ) → walk-case-lts.Need-same-length-3 (walk-case-calls t) (walk-case-at t) walk-case.Post
 walk-case-same-length-3 t c = refl
 
--- src/lib.rt:499:1
+-- src/lib.rt:467:1
 walk-case-returns-3 : (t : ℕ) → walk-case-lts.Need-returns-3 (walk-case-calls t) (walk-case-at t) walk-case.Post
 walk-case-returns-3 t c =
     let a = c .before .before .before .before .before .before .before .before .before .before .before .before .before .before .before .args in
@@ -1418,20 +1418,20 @@ walk-case-returns-3 t c =
       x .ensures .3 .noted,
     )
 
--- src/lib.rt:539:13
+-- src/lib.rt:507:13
 walk-on-goes-requires : (t : ℕ) → walk-on-lts.Need-goes-requires (walk-on-calls t) (walk-on-at t) walk-on.Post
 walk-on-goes-requires t c κs =
     let k = case-part (c .before .before .before .before .before .before .pre .1 .0) in (omega (arith, k .less, c .before .before .before .before .before .before .pre .0), (k .ready, c .before .before .before .before .before .before .pre .1 .1))
 
--- src/lib.rt:540:9
+-- src/lib.rt:508:9
 walk-on-stay-requires : (t : ℕ) → walk-on-lts.Need-stay-requires (walk-on-calls t) (walk-on-at t) walk-on.Post
 walk-on-stay-requires t c κs = search needs
 
--- src/lib.rt:540:9
+-- src/lib.rt:508:9
 walk-on-same-length : (t : ℕ) → walk-on-lts.Need-same-length (walk-on-calls t) (walk-on-at t) walk-on.Post
 walk-on-same-length t c = c .before .before .before .goes .kept .1 .1 .1 .0
 
--- src/lib.rt:540:9
+-- src/lib.rt:508:9
 walk-on-returns : (t : ℕ) → walk-on-lts.Need-returns (walk-on-calls t) (walk-on-at t) walk-on.Post
 walk-on-returns t c =
     let a = c .before .before .before .before .before .before .before .before .before .before .args in
@@ -1445,29 +1445,29 @@ walk-on-returns t c =
       r .ensures .2,
     )
 
--- src/lib.rt:542:9
+-- src/lib.rt:510:9
 walk-on-walk-requires : (t : ℕ) → walk-on-lts.Need-walk-requires (walk-on-calls t) (walk-on-at t) walk-on.Post
 walk-on-walk-requires t c κs =
     let k = case-rest (c .before .before .before .before .before .before .pre .1 .0) (c .before .before .before .if1 .left) in
     (omega (arith, k .0, c .before .before .before .before .before .before .pre .0), (k .1, c .before .before .before .before .before .before .pre .1 .1))
 
--- src/lib.rt:543:26
+-- src/lib.rt:511:26
 walk-on-settled-requires : (t : ℕ) → walk-on-lts.Need-settled-requires (walk-on-calls t) (walk-on-at t) walk-on.Post
 walk-on-settled-requires t c κs = search needs
 
--- src/lib.rt:543:21
+-- src/lib.rt:511:21
 walk-on-enum-known-w : (t : ℕ) → walk-on-lts.Need-enum-known-w (walk-on-calls t) (walk-on-at t) walk-on.Post
 walk-on-enum-known-w t c = c .match .keys1
 
--- src/lib.rt:544:9
+-- src/lib.rt:512:9
 walk-on-enum-told : (t : ℕ) → walk-on-lts.Need-enum-told (walk-on-calls t) (walk-on-at t) walk-on.Post
 walk-on-enum-told t c = c .match .keys2
 
--- src/lib.rt:544:9
+-- src/lib.rt:512:9
 walk-on-same-length-2 : (t : ℕ) → walk-on-lts.Need-same-length-2 (walk-on-calls t) (walk-on-at t) walk-on.Post
 walk-on-same-length-2 t c = c .before .before .before .before .before .walk .kept .1 .1 .1 .0
 
--- src/lib.rt:544:9
+-- src/lib.rt:512:9
 walk-on-returns-2 : (t : ℕ) → walk-on-lts.Need-returns-2 (walk-on-calls t) (walk-on-at t) walk-on.Post
 walk-on-returns-2 t c =
     let a = c .before .before .before .before .before .before .before .before .before .before .before .before .args in
@@ -1481,7 +1481,7 @@ walk-on-returns-2 t c =
       o .ensures .2,
     )
 
--- src/lib.rt:546:9
+-- src/lib.rt:514:9
 walk-on-goes-requires-2 : (t : ℕ) → walk-on-lts.Need-goes-requires-2 (walk-on-calls t) (walk-on-at t) walk-on.Post
 walk-on-goes-requires-2 t c κs =
     let h = c .before .before .before .before .before .before .before .before .before .before .before .before .before .before .before .before .pre .1 .0 in
@@ -1491,11 +1491,11 @@ walk-on-goes-requires-2 t c κs =
       (ready-again (o .kept .1 .1 .1 .0) (o .ensures .1) (k .ready), o .ensures .2),
     )
 
--- src/lib.rt:547:14
+-- src/lib.rt:515:14
 walk-on-stay-requires-2 : (t : ℕ) → walk-on-lts.Need-stay-requires-2 (walk-on-calls t) (walk-on-at t) walk-on.Post
 walk-on-stay-requires-2 t c κs = search needs
 
--- src/lib.rt:547:5
+-- src/lib.rt:515:5
 walk-on-after-requires : (t : ℕ) → walk-on-lts.Need-after-requires (walk-on-calls t) (walk-on-at t) walk-on.Post
 walk-on-after-requires t c κs =
     let a = c .before .before .before .before .before .before .before .before .before .before .before .before .before .before .before .before .before .before .before .before .args in
@@ -1514,13 +1514,13 @@ walk-on-after-requires t c κs =
           (number-work (a .n .a) (case-part h .ready .node) (o .ensures .2) (a .rec .now .now) _ (o .last .1 .1 .1 .0) (q .result) (q .last .1 .1 .1 .0) (q .ensures .0)),
     )
 
--- src/lib.rt:525:1
+-- src/lib.rt:493:1
 walk-on-same-length-3 : (t : ℕ) → walk-on-lts.Need-same-length-3 (walk-on-calls t) (walk-on-at t) walk-on.Post
 walk-on-same-length-3 t c =
     c .before .before .before .before .goes2 .kept .1 .1 .1 .0
     ∙ c .before .before .before .before .before .before .before .before .before .before .before .before .before .before .walk .kept .1 .1 .1 .0
 
--- src/lib.rt:525:1
+-- src/lib.rt:493:1
 walk-on-returns-3 : (t : ℕ) → walk-on-lts.Need-returns-3 (walk-on-calls t) (walk-on-at t) walk-on.Post
 walk-on-returns-3 t c =
     let a = c .before .before .before .before .before .before .before .before .before .before .before .before .before .before .before .before .before .before .before .before .before .args in

@@ -23,7 +23,7 @@ Inv-loop p index rec st env₀ j at₀ seen₀ kept₀ event₀ on₀ env at see
 abbrev μ-loop : tie.MeasureT-loop
 μ-loop p index rec st env₀ j at₀ seen₀ kept₀ event₀ on₀ env at seen kept event on = still on at
 
--- src/lib.rt:198:5
+-- src/lib.rt:166:5
 loop-holds : tie.Need-loop-holds Inv-loop μ-loop
 loop-holds c =
     let s = c .before in
@@ -31,17 +31,17 @@ loop-holds c =
     let st = s .args .st .now in
     (pass-start rec st (s .pre), turn-start (s .args .p .now .now) rec st (s .args .env .now) (s .args .j), (λ h. absurd (omega (arith, ltb-false 0 1 h))), refl)
 
--- src/lib.rt:199:13
+-- src/lib.rt:167:13
 node-by-requires : tie.Need-node-by-requires Inv-loop μ-loop
 node-by-requires c κs =
     let r = c .before .before .loop .inv .0 .ready in
     (r .lent .table, r .node .shaped, r .node .inside)
 
--- src/lib.rt:201:13
+-- src/lib.rt:169:13
 quiet-requires : tie.Need-quiet-requires Inv-loop μ-loop
 quiet-requires c κs = record { ready = walk-again refl (c .before .before .before .before .loop .inv .3) (c .before .before .before .before .loop .inv .0 .ready); fields = c .before .node-by .ensures }
 
--- src/lib.rt:206:13
+-- src/lib.rt:174:13
 add-seen : tie.Need-add-seen Inv-loop μ-loop
 add-seen c =
     let s = c .before .before .before .before .before .before .before .before in
@@ -49,18 +49,18 @@ add-seen c =
     let q = quiet-again (l .inv .0) (c .before .quiet .ensures .0) (l .inv .3) in
     omega (arith, pass-room (s .pre .node) (l .inv .0) .0, counted-once (s .args .rec .now .now) (s .args .st .now) (record { ready = l .inv .0 .ready; fields = c .before .before .before .node-by .ensures }) q (ltb-true 0 _ (c .if1 .taken)))
 
--- src/lib.rt:207:13
+-- src/lib.rt:175:13
 add-kept : tie.Need-add-kept Inv-loop μ-loop
 add-kept c = omega (arith, pass-room (c .before .before .before .before .before .before .before .before .pre .node) (c .before .before .before .before .before .before .loop .inv .0) .1)
 
--- src/lib.rt:198:5
+-- src/lib.rt:166:5
 loop-less : tie.Need-loop-less Inv-loop μ-loop
 loop-less c =
     let l = c .before .before .before .before .before .before .loop in
     let q = quiet-again (l .inv .0) (c .before .quiet .ensures .0) (l .inv .3) in
     still-less (c .before .before .before .before .before .loop-test .taken) (c .if1 .taken) (pass-next (c .before .before .before .before .before .before .before .before .pre .node) (l .inv .0) (c .before .before .before .node-by .ensures) q (ltb-true 0 _ (c .if1 .taken)) .0)
 
--- src/lib.rt:198:5
+-- src/lib.rt:166:5
 loop-again : tie.Need-loop-again Inv-loop μ-loop
 loop-again c =
     let s = c .before .before .before .before .before .before .before .before in
@@ -73,18 +73,18 @@ loop-again c =
       c .before .quiet .ensures .1 ∙ l .inv .3,
     )
 
--- src/lib.rt:198:5
+-- src/lib.rt:166:5
 loop-less-2 : tie.Need-loop-less-2 Inv-loop μ-loop
 loop-less-2 c = still-end (c .before .before .before .before .before .before .loop .at) (c .before .before .before .before .before .before .loop .at) (c .before .before .before .before .before .loop-test .taken) (c .if1 .left)
 
--- src/lib.rt:198:5
+-- src/lib.rt:166:5
 loop-again-2 : tie.Need-loop-again-2 Inv-loop μ-loop
 loop-again-2 c =
     let l = c .before .before .before .before .before .before .loop in
     let q = quiet-again (l .inv .0) (c .before .quiet .ensures .0) (l .inv .3) in
     (l .inv .0, l .inv .1, (λ _. (omega (arith, q, ltb-false 0 (c .before .quiet .result .seen) (c .if1 .left)), known-again (sym (l .inv .3)) (c .before .quiet .ensures .2))), c .before .quiet .ensures .1 ∙ l .inv .3)
 
--- src/lib.rt:182:1
+-- src/lib.rt:150:1
 returns : tie.Need-returns Inv-loop μ-loop
 returns c =
     let e = c .before .loop .inv .2 (c .loop-test .left) in

@@ -5,7 +5,7 @@ use Rattle.update.proofs.seen_in.Tie as tie
 use Rattle.update.proofs.seen_in.Reads as reads
 use Rattle.update.proofs.seen_in.Lts as lts
 
--- src/lib.rt:123:1
+-- src/lib.rt:91:1
 returns : tie.Need-returns
 unfolding seenIn
 returns c = refl

@@ -1,7 +1,9 @@
 -- `watch::accept` meets its contract. The cells and the bound are those of an accepted program.
 use Rattle.starting.proofs.StartLaws.{counted, all-cells}
 use Rattle.cells.proofs.Numbered.{cells-most}
+use mathlib.Core.Path.{_∙_}
 use native.Mathlib.Omega.{arith}
+use Rattle.watch.proofs.Calling.{numbers-said}
 use borrow.Author.Needs.{needs}
 use Rattle.watch.proofs.accept.Statement.{statement}
 use Rattle.watch.proofs.accept.Tie as tie
@@ -30,7 +32,7 @@ cast-accepted-2 c =
 returns : tie.Need-returns
 returns c =
     let start = c .before .before .before .before in
-    cc (all-cells (start .args .p .now) (start .args .count) (start .pre .1), start .pre .2, c .before .before .count-cells .ensures)
+    numbers-said (start .args .p .now) (start .pre .1) (c .before .before .count-cells .ensures ∙ all-cells (start .args .p .now) (start .args .count) (start .pre .1)) (c .before .bound-of .ensures) (start .pre .2) (c .accepted .ensures)
 
 pub accept-spec : {M : Type 1} → statement M
 accept-spec =

@@ -1,5 +1,4 @@
-use Rattle.watch.specs.Lent.{lentRest}
-use mathlib.Core.Path.{_≡_, refl, sym, ap, _∙_}
+use Rattle.watch.proofs.Calling.{lent-said}
 use borrow.Author.Needs.{needs}
 use Rattle.watch.proofs.lent_verdict.Statement.{statement}
 use Rattle.watch.proofs.lent_verdict.Tie as tie
@@ -35,8 +34,7 @@ otherwise-requires-2 c κs = search needs
 
 -- src/lib.rt:99:1
 returns : tie.Need-returns
-unfolding lentRest
-returns c = cc
+returns c = lent-said _ _ _ _ _ (c .before .before .before .before .state-verdict .ensures) (c .before .before .before .refuse-if .ensures) (c .before .before .refuse-if2 .ensures) (c .before .otherwise .ensures) (c .otherwise2 .ensures)
 
 pub lent-verdict-spec : {M : Type 1} → statement M
 lent-verdict-spec =

@@ -1,5 +1,5 @@
 use Rattle.starting.proofs.StartLaws.{counted, all-cells}
-use Rattle.watch.proofs.Calling.{checks-fit, lent-fine, fits-most, run-lent, run-fits as run-goes}
+use Rattle.watch.proofs.Calling.{checks-fit, lent-fine, fits-most, run-lent, run-went}
 use Rattle.noted.proofs.FillLaws.{noted-fresh}
 use Rattle.rules.proofs.Rooted.{root-of}
 use Rattle.rules.specs.Bytes.{byteAt}
@@ -79,7 +79,7 @@ same-length-4 c = search needs
 
 -- src/lib.rt:131:1
 returns-2 : tie.Need-returns-2
-returns-2 c = rw (run-goes _ _ _ _ _ (ap (lentRest _ _ _ _) (sym (c .before .before .before .before .before .before .before .before .before .before .before .before .before .before .before .before .run-fits .ensures)) ∙ sym (c .before .before .before .before .before .before .before .before .before .before .before .before .lent-verdict .ensures) ∙ c .before .before .before .before .before .before .before .before .before .before .enum-told .given .1)) (c .before .before .before .before .run-records .ensures .0)
+returns-2 c = run-went _ _ _ _ _ (ap (lentRest _ _ _ _) (sym (c .before .before .before .before .before .before .before .before .before .before .before .before .before .before .before .before .run-fits .ensures)) ∙ sym (c .before .before .before .before .before .before .before .before .before .before .before .before .lent-verdict .ensures) ∙ c .before .before .before .before .before .before .before .before .before .before .enum-told .given .1) (c .before .before .before .before .run-records .ensures .0)
 
 pub run-accepted-spec : {M : Type 1} → statement M
 run-accepted-spec =

@@ -1,4 +1,4 @@
-use Rattle.well.proofs.RestLaws.{delay-rests, let-rests, switch-rests, group-rests, until-rests, quiet-rests, branch-rests-end, branch-rests-on, case-rests-end, case-rests-on}
+use Rattle.well.proofs.RestLaws.{delay-rests-said, let-rests-said, switch-rests-said, group-rests-said, until-rests-said, quiet-rests, branch-rests-end-said, branch-rests-on-said, case-rests-end-said, case-rests-on-said}
 use Rattle.state.proofs.Carried.{carried, own-delay, own-switch, own-group}
 use Rattle.rules.proofs.Signals.{delay-kid, let-kids, switch-kids, group-kids, until-kids, branch-kid, branch-next, case-kid, case-next}
 use Rattle.rules.proofs.Kids.{Child, read}
@@ -74,7 +74,7 @@ rests-b-both-requires t c κs = search needs
 
 -- src/lib.rt:109:9
 rests-b-returns : (t : ℕ) → rests-b-lts.Need-returns (rests-b-calls t) (rests-b-at t) rests-b.Post
-rests-b-returns t c = cc (branch-rests-end (c .before .before .before .before .before .before .args .p .now .now) (c .before .before .before .before .before .before .args .j) (c .before .before .before .before .before .before .pre .1 .node) (c .before .before .before .before .before .before .args .st .now .now) (sym (c .before .before .before .before .node .ensures .b-is) ∙ c .before .if1 .taken))
+rests-b-returns t c = branch-rests-end-said (c .before .before .before .before .before .before .args .p .now .now) (c .before .before .before .before .before .before .args .j) (c .before .before .before .before .before .before .pre .1 .node) (c .before .before .before .before .before .before .args .st .now .now) (c .before .before .before .before .node .ensures) (c .before .before .before .rests-s .ensures) (c .before .if1 .taken) (c .both .ensures)
 
 -- src/lib.rt:111:9
 rests-b-rests-b-requires : (t : ℕ) → rests-b-lts.Need-rests-b-requires (rests-b-calls t) (rests-b-at t) rests-b.Post
@@ -86,7 +86,7 @@ rests-b-both-requires-2 t c κs = search needs
 
 -- src/lib.rt:102:1
 rests-b-returns-2 : (t : ℕ) → rests-b-lts.Need-returns-2 (rests-b-calls t) (rests-b-at t) rests-b.Post
-rests-b-returns-2 t c = cc (branch-rests-on (c .before .before .before .before .before .before .before .args .p .now .now) (c .before .before .before .before .before .before .before .args .j) (c .before .before .before .before .before .before .before .pre .1 .node) (c .before .before .before .before .before .before .before .args .st .now .now) (λ h. c .before .before .if1 .left (c .before .before .before .before .before .node .ensures .b-is ∙ h)))
+rests-b-returns-2 t c = branch-rests-on-said (c .before .before .before .before .before .before .before .args .p .now .now) (c .before .before .before .before .before .before .before .args .j) (c .before .before .before .before .before .before .before .pre .1 .node) (c .before .before .before .before .before .before .before .args .st .now .now) (c .before .before .before .before .before .node .ensures) (c .before .before .before .before .rests-s .ensures) (c .before .before .if1 .left) (c .before .rests-b .ensures) (c .both2 .ensures)
 
 -- src/lib.rt:120:9
 rests-c-node-requires : (t : ℕ) → rests-c-lts.Need-node-requires (rests-c-calls t) (rests-c-at t) rests-c.Post
@@ -102,7 +102,7 @@ rests-c-both-requires t c κs = search needs
 
 -- src/lib.rt:123:9
 rests-c-returns : (t : ℕ) → rests-c-lts.Need-returns (rests-c-calls t) (rests-c-at t) rests-c.Post
-rests-c-returns t c = cc (case-rests-end (c .before .before .before .before .before .before .args .p .now .now) (c .before .before .before .before .before .before .args .j) (c .before .before .before .before .before .before .pre .1 .node) (c .before .before .before .before .before .before .args .st .now .now) (sym (c .before .before .before .before .node .ensures .b-is) ∙ c .before .if1 .taken))
+rests-c-returns t c = case-rests-end-said (c .before .before .before .before .before .before .args .p .now .now) (c .before .before .before .before .before .before .args .j) (c .before .before .before .before .before .before .pre .1 .node) (c .before .before .before .before .before .before .args .st .now .now) (c .before .before .before .before .node .ensures) (c .before .before .before .rests-s .ensures) (c .before .if1 .taken) (c .both .ensures)
 
 -- src/lib.rt:125:9
 rests-c-rests-c-requires : (t : ℕ) → rests-c-lts.Need-rests-c-requires (rests-c-calls t) (rests-c-at t) rests-c.Post
@@ -114,7 +114,7 @@ rests-c-both-requires-2 t c κs = search needs
 
 -- src/lib.rt:116:1
 rests-c-returns-2 : (t : ℕ) → rests-c-lts.Need-returns-2 (rests-c-calls t) (rests-c-at t) rests-c.Post
-rests-c-returns-2 t c = cc (case-rests-on (c .before .before .before .before .before .before .before .args .p .now .now) (c .before .before .before .before .before .before .before .args .j) (c .before .before .before .before .before .before .before .pre .1 .node) (c .before .before .before .before .before .before .before .args .st .now .now) (λ h. c .before .before .if1 .left (c .before .before .before .before .before .node .ensures .b-is ∙ h)))
+rests-c-returns-2 t c = case-rests-on-said (c .before .before .before .before .before .before .before .args .p .now .now) (c .before .before .before .before .before .before .before .args .j) (c .before .before .before .before .before .before .before .pre .1 .node) (c .before .before .before .before .before .before .before .args .st .now .now) (c .before .before .before .before .before .node .ensures) (c .before .before .before .before .rests-s .ensures) (c .before .before .if1 .left) (c .before .rests-c .ensures) (c .both2 .ensures)
 
 -- src/lib.rt:74:9
 rests-s-node-requires : (t : ℕ) → rests-s-lts.Need-node-requires (rests-s-calls t) (rests-s-at t) rests-s.Post
@@ -210,23 +210,23 @@ rests-s-both-requires-8 t c κs = search needs
 
 -- src/lib.rt:70:1
 rests-s-returns : (t : ℕ) → rests-s-lts.Need-returns (rests-s-calls t) (rests-s-at t) rests-s.Post
-rests-s-returns t c = cc (delay-rests (c .before .before .before .before .before .before .before .before .before .args .p .now .now) (c .before .before .before .before .before .before .before .before .before .args .index .now) _ (c .before .before .before .before .before .before .before .before .before .args .i) (c .before .before .before .before .before .before .before .before .before .pre .1) (c .before .before .before .before .before .before .before .before .before .args .st .now .now) (sym (c .before .before .before .before .before .before .before .node .ensures .kind-is) ∙ c .before .before .before .before .before .before .match .keys1))
+rests-s-returns t c = delay-rests-said (c .before .before .before .before .before .before .before .before .before .args .p .now .now) (c .before .before .before .before .before .before .before .before .before .args .index .now) _ (c .before .before .before .before .before .before .before .before .before .args .i) (c .before .before .before .before .before .before .before .before .before .pre .1) (c .before .before .before .before .before .before .before .before .before .args .st .now .now) (c .before .before .before .before .before .before .before .node .ensures) (c .before .before .before .before .before .before .match .keys1) (c .before .before .before .own-cell .ensures) (c .before .before .rests-s .ensures) (c .before .first-value .ensures) (c .both .ensures)
 
 -- src/lib.rt:70:1
 rests-s-returns-2 : (t : ℕ) → rests-s-lts.Need-returns-2 (rests-s-calls t) (rests-s-at t) rests-s.Post
-rests-s-returns-2 t c = cc (let-rests (c .before .before .before .before .before .before .args .p .now .now) (c .before .before .before .before .before .before .args .index .now) _ (c .before .before .before .before .before .before .args .i) (c .before .before .before .before .before .before .pre .1) (c .before .before .before .before .before .before .args .st .now .now) (sym (c .before .before .before .before .node .ensures .kind-is) ∙ c .before .before .before .match .keys2))
+rests-s-returns-2 t c = let-rests-said (c .before .before .before .before .before .before .args .p .now .now) (c .before .before .before .before .before .before .args .index .now) _ (c .before .before .before .before .before .before .args .i) (c .before .before .before .before .before .before .pre .1) (c .before .before .before .before .before .before .args .st .now .now) (c .before .before .before .before .node .ensures) (c .before .before .before .match .keys2) (c .before .before .rests-s2 .ensures) (c .before .rests-s3 .ensures) (c .both2 .ensures)
 
 -- src/lib.rt:70:1
 rests-s-returns-3 : (t : ℕ) → rests-s-lts.Need-returns-3 (rests-s-calls t) (rests-s-at t) rests-s.Post
-rests-s-returns-3 t c = cc (switch-rests (c .before .before .before .before .before .before .before .before .before .before .before .before .args .p .now .now) (c .before .before .before .before .before .before .before .before .before .before .before .before .args .index .now) _ (c .before .before .before .before .before .before .before .before .before .before .before .before .args .i) (c .before .before .before .before .before .before .before .before .before .before .before .before .pre .1) (c .before .before .before .before .before .before .before .before .before .before .before .before .args .st .now .now) (sym (c .before .before .before .before .before .before .before .before .before .before .node .ensures .kind-is) ∙ c .before .before .before .before .before .before .before .before .before .match .keys3))
+rests-s-returns-3 t c = switch-rests-said (c .before .before .before .before .before .before .before .before .before .before .before .before .args .p .now .now) (c .before .before .before .before .before .before .before .before .before .before .before .before .args .index .now) _ (c .before .before .before .before .before .before .before .before .before .before .before .before .args .i) (c .before .before .before .before .before .before .before .before .before .before .before .before .pre .1) (c .before .before .before .before .before .before .before .before .before .before .before .before .args .st .now .now) (c .before .before .before .before .before .before .before .before .before .before .node .ensures) (c .before .before .before .before .before .before .before .before .before .match .keys3) (c .before .before .before .before .before .before .own-cell2 .ensures) (c .before .before .before .before .before .rests-s4 .ensures) (c .before .before .before .before .rests-s5 .ensures) (c .before .before .before .rests-s6 .ensures) (c .before .before .both3 .ensures) (c .before .both4 .ensures) (c .both5 .ensures)
 
 -- src/lib.rt:70:1
 rests-s-returns-4 : (t : ℕ) → rests-s-lts.Need-returns-4 (rests-s-calls t) (rests-s-at t) rests-s.Post
-rests-s-returns-4 t c = cc (group-rests (c .before .before .before .before .before .before .before .before .before .before .args .p .now .now) (c .before .before .before .before .before .before .before .before .before .before .args .index .now) _ (c .before .before .before .before .before .before .before .before .before .before .args .i) (c .before .before .before .before .before .before .before .before .before .before .pre .1) (c .before .before .before .before .before .before .before .before .before .before .args .st .now .now) (sym (c .before .before .before .before .before .before .before .before .node .ensures .kind-is) ∙ c .before .before .before .before .before .before .before .match .keys4))
+rests-s-returns-4 t c = group-rests-said (c .before .before .before .before .before .before .before .before .before .before .args .p .now .now) (c .before .before .before .before .before .before .before .before .before .before .args .index .now) _ (c .before .before .before .before .before .before .before .before .before .before .args .i) (c .before .before .before .before .before .before .before .before .before .before .pre .1) (c .before .before .before .before .before .before .before .before .before .before .args .st .now .now) (c .before .before .before .before .before .before .before .before .node .ensures) (c .before .before .before .before .before .before .before .match .keys4) (c .before .before .before .before .own-cell3 .ensures) (c .before .before .before .rests-s7 .ensures) (c .before .before .rests-b .ensures) (c .before .both6 .ensures) (c .both7 .ensures)
 
 -- src/lib.rt:70:1
 rests-s-returns-5 : (t : ℕ) → rests-s-lts.Need-returns-5 (rests-s-calls t) (rests-s-at t) rests-s.Post
-rests-s-returns-5 t c = cc (until-rests (c .before .before .before .before .before .before .args .p .now .now) (c .before .before .before .before .before .before .args .index .now) _ (c .before .before .before .before .before .before .args .i) (c .before .before .before .before .before .before .pre .1) (c .before .before .before .before .before .before .args .st .now .now) (sym (c .before .before .before .before .node .ensures .kind-is) ∙ c .before .before .before .match .keys5))
+rests-s-returns-5 t c = until-rests-said (c .before .before .before .before .before .before .args .p .now .now) (c .before .before .before .before .before .before .args .index .now) _ (c .before .before .before .before .before .before .args .i) (c .before .before .before .before .before .before .pre .1) (c .before .before .before .before .before .before .args .st .now .now) (c .before .before .before .before .node .ensures) (c .before .before .before .match .keys5) (c .before .before .rests-s8 .ensures) (c .before .rests-c .ensures) (c .both8 .ensures)
 
 -- src/lib.rt:70:1
 rests-s-returns-6 : (t : ℕ) → rests-s-lts.Need-returns-6 (rests-s-calls t) (rests-s-at t) rests-s.Post

@@ -1,4 +1,4 @@
-use Rattle.well.proofs.WellLaws.{delay-well, let-well, switch-first, switch-second, group-body, group-branch, until-well, quiet-well, named-last, named-on, other-last, other-on, case-well-end, case-well-on}
+use Rattle.well.proofs.WellLaws.{delay-well-said, let-well-said, switch-first-said, switch-second-said, group-body-said, group-branch-said, until-well-said, quiet-well, named-last-said, named-on-said, other-last-said, other-on-said, case-well-end-said, case-well-on-said}
 use Rattle.state.proofs.Carried.{carried, own-delay, own-switch, own-group}
 use Rattle.rules.proofs.Signals.{delay-kid, let-kids, switch-kids, group-kids, until-kids, branch-kid, branch-next, case-kid, case-next}
 use Rattle.rules.proofs.Kids.{Child, read}
@@ -89,7 +89,7 @@ well-b-both-requires-2 t c κs = search needs
 
 -- src/lib.rt:181:13
 well-b-returns : (t : ℕ) → well-b-lts.Need-returns (well-b-calls t) (well-b-at t) well-b.Post
-well-b-returns t c = cc (named-last (c .before .before .before .before .before .before .before .before .before .before .args .p .now .now) (c .before .before .before .before .before .before .before .before .before .before .args .j) (c .before .before .before .before .before .before .before .before .before .before .pre .1 .node) (c .before .before .before .before .before .before .before .before .before .before .args .st .now .now) (c .before .before .before .before .before .before .before .before .before .before .args .m) (c .before .before .before .before .before .before .if1 .taken ∙ c .before .before .before .before .before .before .before .middle-in .ensures) (sym (c .before .before .before .before .before .before .before .before .node .ensures .b-is) ∙ c .before .if2 .taken))
+well-b-returns t c = named-last-said (c .before .before .before .before .before .before .before .before .before .before .args .p .now .now) (c .before .before .before .before .before .before .before .before .before .before .args .j) (c .before .before .before .before .before .before .before .before .before .before .pre .1 .node) (c .before .before .before .before .before .before .before .before .before .before .args .st .now .now) (c .before .before .before .before .before .before .before .before .before .before .args .m) (c .before .before .before .before .before .before .before .before .node .ensures) (c .before .before .before .before .before .before .before .middle-in .ensures) (c .before .before .before .before .before .before .if1 .taken) (c .before .before .before .before .before .well-s .ensures) (c .before .before .before .before .content-fits .ensures) (c .before .before .before .both .ensures) (c .before .if2 .taken) (c .both2 .ensures)
 
 -- src/lib.rt:183:13
 well-b-rests-b-requires : (t : ℕ) → well-b-lts.Need-rests-b-requires (well-b-calls t) (well-b-at t) well-b.Post
@@ -101,7 +101,7 @@ well-b-both-requires-3 t c κs = search needs
 
 -- src/lib.rt:184:9
 well-b-returns-2 : (t : ℕ) → well-b-lts.Need-returns-2 (well-b-calls t) (well-b-at t) well-b.Post
-well-b-returns-2 t c = cc (named-on (c .before .before .before .before .before .before .before .before .before .before .before .args .p .now .now) (c .before .before .before .before .before .before .before .before .before .before .before .args .j) (c .before .before .before .before .before .before .before .before .before .before .before .pre .1 .node) (c .before .before .before .before .before .before .before .before .before .before .before .args .st .now .now) (c .before .before .before .before .before .before .before .before .before .before .before .args .m) (c .before .before .before .before .before .before .before .if1 .taken ∙ c .before .before .before .before .before .before .before .before .middle-in .ensures) (λ h. c .before .before .if2 .left (c .before .before .before .before .before .before .before .before .before .node .ensures .b-is ∙ h)))
+well-b-returns-2 t c = named-on-said (c .before .before .before .before .before .before .before .before .before .before .before .args .p .now .now) (c .before .before .before .before .before .before .before .before .before .before .before .args .j) (c .before .before .before .before .before .before .before .before .before .before .before .pre .1 .node) (c .before .before .before .before .before .before .before .before .before .before .before .args .st .now .now) (c .before .before .before .before .before .before .before .before .before .before .before .args .m) (c .before .before .before .before .before .before .before .before .before .node .ensures) (c .before .before .before .before .before .before .before .before .middle-in .ensures) (c .before .before .before .before .before .before .before .if1 .taken) (c .before .before .before .before .before .before .well-s .ensures) (c .before .before .before .before .before .content-fits .ensures) (c .before .before .before .before .both .ensures) (c .before .before .if2 .left) (c .before .rests-b .ensures) (c .both3 .ensures)
 
 -- src/lib.rt:186:9
 well-b-rests-s-requires : (t : ℕ) → well-b-lts.Need-rests-s-requires (well-b-calls t) (well-b-at t) well-b.Post
@@ -113,7 +113,7 @@ well-b-both-requires-4 t c κs = search needs
 
 -- src/lib.rt:188:9
 well-b-returns-3 : (t : ℕ) → well-b-lts.Need-returns-3 (well-b-calls t) (well-b-at t) well-b.Post
-well-b-returns-3 t c = cc (other-last (c .before .before .before .before .before .before .before .before .args .p .now .now) (c .before .before .before .before .before .before .before .before .args .j) (c .before .before .before .before .before .before .before .before .pre .1 .node) (c .before .before .before .before .before .before .before .before .args .st .now .now) (c .before .before .before .before .before .before .before .before .args .m) (λ h. c .before .before .before .before .if1 .left (h ∙ sym (c .before .before .before .before .before .middle-in .ensures))) (sym (c .before .before .before .before .before .before .node .ensures .b-is) ∙ c .before .if3 .taken))
+well-b-returns-3 t c = other-last-said (c .before .before .before .before .before .before .before .before .args .p .now .now) (c .before .before .before .before .before .before .before .before .args .j) (c .before .before .before .before .before .before .before .before .pre .1 .node) (c .before .before .before .before .before .before .before .before .args .st .now .now) (c .before .before .before .before .before .before .before .before .args .m) (c .before .before .before .before .before .before .node .ensures) (c .before .before .before .before .before .middle-in .ensures) (c .before .before .before .before .if1 .left) (c .before .before .before .rests-s .ensures) (c .before .if3 .taken) (c .both4 .ensures)
 
 -- src/lib.rt:190:9
 well-b-well-b-requires : (t : ℕ) → well-b-lts.Need-well-b-requires (well-b-calls t) (well-b-at t) well-b.Post
@@ -125,7 +125,7 @@ well-b-both-requires-5 t c κs = search needs
 
 -- src/lib.rt:172:1
 well-b-returns-4 : (t : ℕ) → well-b-lts.Need-returns-4 (well-b-calls t) (well-b-at t) well-b.Post
-well-b-returns-4 t c = cc (other-on (c .before .before .before .before .before .before .before .before .before .args .p .now .now) (c .before .before .before .before .before .before .before .before .before .args .j) (c .before .before .before .before .before .before .before .before .before .pre .1 .node) (c .before .before .before .before .before .before .before .before .before .args .st .now .now) (c .before .before .before .before .before .before .before .before .before .args .m) (λ h. c .before .before .before .before .before .if1 .left (h ∙ sym (c .before .before .before .before .before .before .middle-in .ensures))) (λ h. c .before .before .if3 .left (c .before .before .before .before .before .before .before .node .ensures .b-is ∙ h)))
+well-b-returns-4 t c = other-on-said (c .before .before .before .before .before .before .before .before .before .args .p .now .now) (c .before .before .before .before .before .before .before .before .before .args .j) (c .before .before .before .before .before .before .before .before .before .pre .1 .node) (c .before .before .before .before .before .before .before .before .before .args .st .now .now) (c .before .before .before .before .before .before .before .before .before .args .m) (c .before .before .before .before .before .before .before .node .ensures) (c .before .before .before .before .before .before .middle-in .ensures) (c .before .before .before .before .before .if1 .left) (c .before .before .before .before .rests-s .ensures) (c .before .before .if3 .left) (c .before .well-b .ensures) (c .both5 .ensures)
 
 -- src/lib.rt:199:9
 well-c-node-requires : (t : ℕ) → well-c-lts.Need-node-requires (well-c-calls t) (well-c-at t) well-c.Post
@@ -141,7 +141,7 @@ well-c-both-requires t c κs = search needs
 
 -- src/lib.rt:202:9
 well-c-returns : (t : ℕ) → well-c-lts.Need-returns (well-c-calls t) (well-c-at t) well-c.Post
-well-c-returns t c = cc (case-well-end (c .before .before .before .before .before .before .args .p .now .now) (c .before .before .before .before .before .before .args .j) (c .before .before .before .before .before .before .pre .1 .node) (c .before .before .before .before .before .before .args .st .now .now) (sym (c .before .before .before .before .node .ensures .b-is) ∙ c .before .if1 .taken))
+well-c-returns t c = case-well-end-said (c .before .before .before .before .before .before .args .p .now .now) (c .before .before .before .before .before .before .args .j) (c .before .before .before .before .before .before .pre .1 .node) (c .before .before .before .before .before .before .args .st .now .now) (c .before .before .before .before .node .ensures) (c .before .before .before .well-s .ensures) (c .before .if1 .taken) (c .both .ensures)
 
 -- src/lib.rt:204:9
 well-c-well-c-requires : (t : ℕ) → well-c-lts.Need-well-c-requires (well-c-calls t) (well-c-at t) well-c.Post
@@ -153,7 +153,7 @@ well-c-both-requires-2 t c κs = search needs
 
 -- src/lib.rt:195:1
 well-c-returns-2 : (t : ℕ) → well-c-lts.Need-returns-2 (well-c-calls t) (well-c-at t) well-c.Post
-well-c-returns-2 t c = cc (case-well-on (c .before .before .before .before .before .before .before .args .p .now .now) (c .before .before .before .before .before .before .before .args .j) (c .before .before .before .before .before .before .before .pre .1 .node) (c .before .before .before .before .before .before .before .args .st .now .now) (λ h. c .before .before .if1 .left (c .before .before .before .before .before .node .ensures .b-is ∙ h)))
+well-c-returns-2 t c = case-well-on-said (c .before .before .before .before .before .before .before .args .p .now .now) (c .before .before .before .before .before .before .before .args .j) (c .before .before .before .before .before .before .before .pre .1 .node) (c .before .before .before .before .before .before .before .args .st .now .now) (c .before .before .before .before .before .node .ensures) (c .before .before .before .before .well-s .ensures) (c .before .before .if1 .left) (c .before .well-c .ensures) (c .both2 .ensures)
 
 -- src/lib.rt:134:9
 well-s-node-requires : (t : ℕ) → well-s-lts.Need-node-requires (well-s-calls t) (well-s-at t) well-s.Post
@@ -213,7 +213,7 @@ well-s-both-requires-4 t c κs = search needs
 
 -- src/lib.rt:149:17
 well-s-returns : (t : ℕ) → well-s-lts.Need-returns (well-s-calls t) (well-s-at t) well-s.Post
-well-s-returns t c = cc (switch-first (c .before .before .before .before .before .before .before .before .before .before .before .before .args .p .now .now) (c .before .before .before .before .before .before .before .before .before .before .before .before .args .index .now) _ (c .before .before .before .before .before .before .before .before .before .before .before .before .args .i) (c .before .before .before .before .before .before .before .before .before .before .before .before .pre .1) (c .before .before .before .before .before .before .before .before .before .before .before .before .args .st .now .now) (sym (c .before .before .before .before .before .before .before .before .before .before .node .ensures .kind-is) ∙ c .before .before .before .before .before .before .before .before .before .match .keys3) (sym (c .before .before .before .before .before .before .own-cell2 .ensures) ∙ c .before .before .before .before .if1 .taken))
+well-s-returns t c = switch-first-said (c .before .before .before .before .before .before .before .before .before .before .before .before .args .p .now .now) (c .before .before .before .before .before .before .before .before .before .before .before .before .args .index .now) _ (c .before .before .before .before .before .before .before .before .before .before .before .before .args .i) (c .before .before .before .before .before .before .before .before .before .before .before .before .pre .1) (c .before .before .before .before .before .before .before .before .before .before .before .before .args .st .now .now) (c .before .before .before .before .before .before .before .before .before .before .node .ensures) (c .before .before .before .before .before .before .before .before .before .match .keys3) (c .before .before .before .before .before .before .own-cell2 .ensures) (c .before .before .before .before .before .well-s4 .ensures) (c .before .before .before .before .if1 .taken) (c .before .before .before .well-s5 .ensures) (c .before .before .rests-s .ensures) (c .before .both3 .ensures) (c .both4 .ensures)
 
 -- src/lib.rt:151:17
 well-s-rests-s-requires-2 : (t : ℕ) → well-s-lts.Need-rests-s-requires-2 (well-s-calls t) (well-s-at t) well-s.Post
@@ -257,7 +257,7 @@ well-s-both-requires-8 t c κs = search needs
 
 -- src/lib.rt:160:17
 well-s-returns-2 : (t : ℕ) → well-s-lts.Need-returns-2 (well-s-calls t) (well-s-at t) well-s.Post
-well-s-returns-2 t c = cc (group-body (c .before .before .before .before .before .before .before .before .before .before .args .p .now .now) (c .before .before .before .before .before .before .before .before .before .before .args .index .now) _ (c .before .before .before .before .before .before .before .before .before .before .args .i) (c .before .before .before .before .before .before .before .before .before .before .pre .1) (c .before .before .before .before .before .before .before .before .before .before .args .st .now .now) (sym (c .before .before .before .before .before .before .before .before .node .ensures .kind-is) ∙ c .before .before .before .before .before .before .before .match .keys4) (sym (c .before .before .before .before .own-cell3 .ensures) ∙ c .before .before .before .if2 .taken))
+well-s-returns-2 t c = group-body-said (c .before .before .before .before .before .before .before .before .before .before .args .p .now .now) (c .before .before .before .before .before .before .before .before .before .before .args .index .now) _ (c .before .before .before .before .before .before .before .before .before .before .args .i) (c .before .before .before .before .before .before .before .before .before .before .pre .1) (c .before .before .before .before .before .before .before .before .before .before .args .st .now .now) (c .before .before .before .before .before .before .before .before .node .ensures) (c .before .before .before .before .before .before .before .match .keys4) (c .before .before .before .before .own-cell3 .ensures) (c .before .before .before .if2 .taken) (c .before .before .well-s7 .ensures) (c .before .rests-b .ensures) (c .both8 .ensures)
 
 -- src/lib.rt:162:17
 well-s-rests-s-requires-3 : (t : ℕ) → well-s-lts.Need-rests-s-requires-3 (well-s-calls t) (well-s-at t) well-s.Post
@@ -285,23 +285,23 @@ well-s-both-requires-10 t c κs = search needs
 
 -- src/lib.rt:130:1
 well-s-returns-3 : (t : ℕ) → well-s-lts.Need-returns-3 (well-s-calls t) (well-s-at t) well-s.Post
-well-s-returns-3 t c = cc (delay-well (c .before .before .before .before .before .before .before .before .before .args .p .now .now) (c .before .before .before .before .before .before .before .before .before .args .index .now) _ (c .before .before .before .before .before .before .before .before .before .args .i) (c .before .before .before .before .before .before .before .before .before .pre .1) (c .before .before .before .before .before .before .before .before .before .args .st .now .now) (sym (c .before .before .before .before .before .before .before .node .ensures .kind-is) ∙ c .before .before .before .before .before .before .match .keys1))
+well-s-returns-3 t c = delay-well-said (c .before .before .before .before .before .before .before .before .before .args .p .now .now) (c .before .before .before .before .before .before .before .before .before .args .index .now) _ (c .before .before .before .before .before .before .before .before .before .args .i) (c .before .before .before .before .before .before .before .before .before .pre .1) (c .before .before .before .before .before .before .before .before .before .args .st .now .now) (c .before .before .before .before .before .before .before .node .ensures) (c .before .before .before .before .before .before .match .keys1) (c .before .before .before .own-cell .ensures) (c .before .before .well-s .ensures) (c .before .content-fits .ensures) (c .both .ensures)
 
 -- src/lib.rt:130:1
 well-s-returns-4 : (t : ℕ) → well-s-lts.Need-returns-4 (well-s-calls t) (well-s-at t) well-s.Post
-well-s-returns-4 t c = cc (let-well (c .before .before .before .before .before .before .args .p .now .now) (c .before .before .before .before .before .before .args .index .now) _ (c .before .before .before .before .before .before .args .i) (c .before .before .before .before .before .before .pre .1) (c .before .before .before .before .before .before .args .st .now .now) (sym (c .before .before .before .before .node .ensures .kind-is) ∙ c .before .before .before .match .keys2))
+well-s-returns-4 t c = let-well-said (c .before .before .before .before .before .before .args .p .now .now) (c .before .before .before .before .before .before .args .index .now) _ (c .before .before .before .before .before .before .args .i) (c .before .before .before .before .before .before .pre .1) (c .before .before .before .before .before .before .args .st .now .now) (c .before .before .before .before .node .ensures) (c .before .before .before .match .keys2) (c .before .before .well-s2 .ensures) (c .before .well-s3 .ensures) (c .both2 .ensures)
 
 -- src/lib.rt:130:1
 well-s-returns-5 : (t : ℕ) → well-s-lts.Need-returns-5 (well-s-calls t) (well-s-at t) well-s.Post
-well-s-returns-5 t c = cc (switch-second (c .before .before .before .before .before .before .before .before .before .before .before .before .before .before .args .p .now .now) (c .before .before .before .before .before .before .before .before .before .before .before .before .before .before .args .index .now) _ (c .before .before .before .before .before .before .before .before .before .before .before .before .before .before .args .i) (c .before .before .before .before .before .before .before .before .before .before .before .before .before .before .pre .1) (c .before .before .before .before .before .before .before .before .before .before .before .before .before .before .args .st .now .now) (sym (c .before .before .before .before .before .before .before .before .before .before .before .before .node .ensures .kind-is) ∙ c .before .before .before .before .before .before .before .before .before .before .before .match .keys3) (λ h. c .before .before .before .before .before .before .if1 .left (c .before .before .before .before .before .before .before .before .own-cell2 .ensures ∙ h)))
+well-s-returns-5 t c = switch-second-said (c .before .before .before .before .before .before .before .before .before .before .before .before .before .before .args .p .now .now) (c .before .before .before .before .before .before .before .before .before .before .before .before .before .before .args .index .now) _ (c .before .before .before .before .before .before .before .before .before .before .before .before .before .before .args .i) (c .before .before .before .before .before .before .before .before .before .before .before .before .before .before .pre .1) (c .before .before .before .before .before .before .before .before .before .before .before .before .before .before .args .st .now .now) (c .before .before .before .before .before .before .before .before .before .before .before .before .node .ensures) (c .before .before .before .before .before .before .before .before .before .before .before .match .keys3) (c .before .before .before .before .before .before .before .before .own-cell2 .ensures) (c .before .before .before .before .before .before .before .well-s4 .ensures) (c .before .before .before .before .before .before .if1 .left) (c .before .before .before .before .before .rests-s2 .ensures) (c .before .before .before .before .well-s6 .ensures) (c .before .before .before .content-fits2 .ensures) (c .before .before .both5 .ensures) (c .before .both6 .ensures) (c .both7 .ensures)
 
 -- src/lib.rt:130:1
 well-s-returns-6 : (t : ℕ) → well-s-lts.Need-returns-6 (well-s-calls t) (well-s-at t) well-s.Post
-well-s-returns-6 t c = cc (group-branch (c .before .before .before .before .before .before .before .before .before .before .args .p .now .now) (c .before .before .before .before .before .before .before .before .before .before .args .index .now) _ (c .before .before .before .before .before .before .before .before .before .before .args .i) (c .before .before .before .before .before .before .before .before .before .before .pre .1) (c .before .before .before .before .before .before .before .before .before .before .args .st .now .now) (sym (c .before .before .before .before .before .before .before .before .node .ensures .kind-is) ∙ c .before .before .before .before .before .before .before .match .keys4) (λ h. c .before .before .before .if2 .left (c .before .before .before .before .own-cell3 .ensures ∙ h)))
+well-s-returns-6 t c = group-branch-said (c .before .before .before .before .before .before .before .before .before .before .args .p .now .now) (c .before .before .before .before .before .before .before .before .before .before .args .index .now) _ (c .before .before .before .before .before .before .before .before .before .before .args .i) (c .before .before .before .before .before .before .before .before .before .before .pre .1) (c .before .before .before .before .before .before .before .before .before .before .args .st .now .now) (c .before .before .before .before .before .before .before .before .node .ensures) (c .before .before .before .before .before .before .before .match .keys4) (c .before .before .before .before .own-cell3 .ensures) (c .before .before .before .if2 .left) (c .before .before .rests-s3 .ensures) (c .before .well-b .ensures) (c .both9 .ensures)
 
 -- src/lib.rt:130:1
 well-s-returns-7 : (t : ℕ) → well-s-lts.Need-returns-7 (well-s-calls t) (well-s-at t) well-s.Post
-well-s-returns-7 t c = cc (until-well (c .before .before .before .before .before .before .args .p .now .now) (c .before .before .before .before .before .before .args .index .now) _ (c .before .before .before .before .before .before .args .i) (c .before .before .before .before .before .before .pre .1) (c .before .before .before .before .before .before .args .st .now .now) (sym (c .before .before .before .before .node .ensures .kind-is) ∙ c .before .before .before .match .keys5))
+well-s-returns-7 t c = until-well-said (c .before .before .before .before .before .before .args .p .now .now) (c .before .before .before .before .before .before .args .index .now) _ (c .before .before .before .before .before .before .args .i) (c .before .before .before .before .before .before .pre .1) (c .before .before .before .before .before .before .args .st .now .now) (c .before .before .before .before .node .ensures) (c .before .before .before .match .keys5) (c .before .before .well-s8 .ensures) (c .before .well-c .ensures) (c .both10 .ensures)
 
 -- src/lib.rt:130:1
 well-s-returns-8 : (t : ℕ) → well-s-lts.Need-returns-8 (well-s-calls t) (well-s-at t) well-s.Post

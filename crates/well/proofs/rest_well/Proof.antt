@@ -1,4 +1,4 @@
-use Rattle.well.proofs.WellLaws.{right-rest}
+use Rattle.well.proofs.WellLaws.{right-rest-said}
 use Rattle.state.proofs.StartLaws.{headed, rooted}
 use borrow.Author.Needs.{needs}
 use Rattle.well.proofs.rest_well.Statement.{statement}
@@ -36,7 +36,7 @@ both-requires c κs = search needs
 returns : tie.Need-returns
 returns c =
     let start = c .before .before .before .before .before .before .before .before in
-    cc (right-rest (start .args .t1 .now) (start .args .t3 .now))
+    right-rest-said (start .args .t1 .now) (start .args .t3 .now) (start .pre .2) (c .before .before .before .before .before .last-time .ensures) (c .before .before .before .before .either .ensures) (c .before .well-s .ensures) (c .both .ensures)
 
 pub rest-well-spec : {M : Type 1} → statement M
 rest-well-spec =

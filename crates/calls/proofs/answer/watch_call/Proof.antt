@@ -1,4 +1,4 @@
--- `calls::answer::watch_call` meets its contract: four parts are lent. Assumes nothing.
+-- `calls::answer::watch_call` meets its contract: three parts are lent. Assumes nothing.
 use Rattle.feed.proofs.CountLaws.{counts}
 use native.Mathlib.Omega.{arith}
 use borrow.Author.Needs.{needs}
@@ -14,32 +14,23 @@ returns-2 c = search needs
 returns-3 : tie.Need-returns-3
 returns-3 c = search needs
 
-returns-4 : tie.Need-returns-4
-returns-4 c = search needs
-
 slice-relend-prefix-watch-answer : tie.Need-slice-relend-prefix-watch-answer
 slice-relend-prefix-watch-answer c = search needs
 
 slice-aggregate-watch-answer : tie.Need-slice-aggregate-watch-answer
-slice-aggregate-watch-answer c = let a = c .before .before .before .before .before .before .before .before .before .before .before .before .before .args in counts (a .s) (a .state .now) (omega arith) .1
+slice-aggregate-watch-answer c = let a = c .before .before .before .before .before .before .before .before .before .before .before .args in counts (a .s) (a .state .now) (omega arith) .1
 
 slice-relend-prefix-watch-answer-2 : tie.Need-slice-relend-prefix-watch-answer-2
 slice-relend-prefix-watch-answer-2 c = search needs
 
 slice-aggregate-watch-answer-2 : tie.Need-slice-aggregate-watch-answer-2
-slice-aggregate-watch-answer-2 c = let a = c .before .before .before .before .before .before .before .before .before .before .before .before .before .before .args in counts (a .n) (a .entries .now) (omega arith) .1
+slice-aggregate-watch-answer-2 c = let a = c .before .before .before .before .before .before .before .before .before .before .before .before .args in counts (a .o) (a .room .now) (omega arith) .1
 
 slice-relend-prefix-watch-answer-3 : tie.Need-slice-relend-prefix-watch-answer-3
 slice-relend-prefix-watch-answer-3 c = search needs
 
 slice-aggregate-watch-answer-3 : tie.Need-slice-aggregate-watch-answer-3
-slice-aggregate-watch-answer-3 c = let a = c .before .before .before .before .before .before .before .before .before .before .before .before .before .before .before .args in counts (a .o) (a .room .now) (omega arith) .1
-
-slice-relend-prefix-watch-answer-4 : tie.Need-slice-relend-prefix-watch-answer-4
-slice-relend-prefix-watch-answer-4 c = search needs
-
-slice-aggregate-watch-answer-4 : tie.Need-slice-aggregate-watch-answer-4
-slice-aggregate-watch-answer-4 c = let a = c .before .before .before .before .before .before .before .before .before .before .before .before .before .before .before .before .args in counts (a .w) (a .shown .now) (omega arith) .1
+slice-aggregate-watch-answer-3 c = let a = c .before .before .before .before .before .before .before .before .before .before .before .before .before .args in counts (a .w) (a .shown .now) (omega arith) .1
 
 watch-answer-requires : tie.Need-watch-answer-requires
 watch-answer-requires c κs = search needs
@@ -56,11 +47,8 @@ same-length-3 c = search needs
 same-length-4 : tie.Need-same-length-4
 same-length-4 c = search needs
 
-same-length-5 : tie.Need-same-length-5
-same-length-5 c = search needs
-
-returns-5 : tie.Need-returns-5
-returns-5 c = search needs
+returns-4 : tie.Need-returns-4
+returns-4 c = search needs
 
 pub watch-call-spec : {M : Type 1} → statement M
 watch-call-spec =
@@ -69,19 +57,15 @@ watch-call-spec =
     returns
     returns-2
     returns-3
-    returns-4
     slice-relend-prefix-watch-answer
     slice-aggregate-watch-answer
     slice-relend-prefix-watch-answer-2
     slice-aggregate-watch-answer-2
     slice-relend-prefix-watch-answer-3
     slice-aggregate-watch-answer-3
-    slice-relend-prefix-watch-answer-4
-    slice-aggregate-watch-answer-4
     watch-answer-requires
     same-length
     same-length-2
     same-length-3
     same-length-4
-    same-length-5
-    returns-5)
+    returns-4)

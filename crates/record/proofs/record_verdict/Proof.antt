@@ -4,14 +4,14 @@ use Rattle.rules.specs.Calls.{refuseIf, _otherwise_, recordVerdict}
 use Rattle.rules.specs.declared.Refusal.{Refusal}
 use Rattle.rules.specs.declared.Verdict.{Verdict}
 use borrow.Author.Needs.{needs}
-use Rattle.steps.proofs.record_verdict.Statement.{statement}
-use Rattle.steps.proofs.record_verdict.Tie as tie
-use Rattle.steps.proofs.record_verdict.Reads as reads
-use Rattle.steps.proofs.record_verdict.Lts as lts
+use Rattle.record.proofs.record_verdict.Statement.{statement}
+use Rattle.record.proofs.record_verdict.Tie as tie
+use Rattle.record.proofs.record_verdict.Reads as reads
+use Rattle.record.proofs.record_verdict.Lts as lts
 use Rattle.answers.proofs.otherwise.Reads as otherwise-reads
 use Rattle.answers.proofs.refuse_if.Reads as refuse-if-reads
 use Rattle.record.proofs.input_wrong.Reads as input-wrong-reads
 use Rattle.record.proofs.time_wrong.Reads as time-wrong-reads
 
 input-wrong-requires : tie.Need-input-wrong-requires
 input-wrong-requires c κs = search needs

@@ -1,25 +1,24 @@
-use Rattle.update.proofs.CatchLaws.{enter-done}
+use Rattle.leaving.proofs.LeaveLaws.{group-celled, enter-done}
 use native.Mathlib.Omega.{arith}
 use Rattle.rules.specs.Values.{unpacked}
 use Rattle.rules.proofs.Signals.{group-kids}
 use Rattle.rules.proofs.Kids.{read}
-use Rattle.evaluate.proofs.SignalLaws.{group-cell}
-use Rattle.moves.proofs.ReadyLaws.{celled, cell-number}
+use Rattle.moves.proofs.ReadyLaws.{cell-number}
 use borrow.Author.Needs.{needs}
-use Rattle.update.proofs.enters.Statement.{statement}
-use Rattle.update.proofs.enters.Tie as tie
-use Rattle.update.proofs.enters.Reads as reads
-use Rattle.update.proofs.enters.Lts as lts
+use Rattle.leaving.proofs.enters.Statement.{statement}
+use Rattle.leaving.proofs.enters.Tie as tie
+use Rattle.leaving.proofs.enters.Reads as reads
+use Rattle.leaving.proofs.enters.Lts as lts
 use Rattle.moves.proofs.hold_branch.Reads as hold-branch-reads
 use Rattle.state.proofs.resets.Reads as resets-reads
 
--- src/lib.rt:81:5
+-- src/lib.rt:43:5
 hold-branch-requires : tie.Need-hold-branch-requires
 hold-branch-requires c κs =
     let s = c .before .before .before in
-    (celled (s .pre .0 .node) (s .pre .0 .table) (s .pre .0 .cells) (group-cell (s .pre .0 .kind)), omega (arith, s .pre .2 .inside, s .pre .2 .shaped .small), s .pre .3)
+    (group-celled (s .pre .0), omega (arith, s .pre .2 .inside, s .pre .2 .shaped .small), s .pre .3)
 
--- src/lib.rt:82:5
+-- src/lib.rt:44:5
 resets-requires : tie.Need-resets-requires
 resets-requires c κs =
     let s = c .before .before .before .before .before .before .before in
@@ -27,11 +26,11 @@ resets-requires c κs =
     let body = read (s .pre .0 .fields .a-is) (group-kids (s .args .p .now .now) (s .args .i) (s .pre .0 .node) (s .pre .0 .kind) .0) .node in
     record { node = search needs; indexed = s .pre .0 .table; enough = omega (arith, s .pre .0 .cells, c .before .before .before .hold-branch .kept .1 .0) }
 
--- src/lib.rt:68:1
+-- src/lib.rt:30:1
 same-length : tie.Need-same-length
 same-length c = search needs
 
--- src/lib.rt:68:1
+-- src/lib.rt:30:1
 returns : tie.Need-returns
 returns c =
     let s = c .before .before .before .before .before .before .before .before .before .before in

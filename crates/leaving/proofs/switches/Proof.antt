@@ -3,32 +3,31 @@ use Rattle.rules.specs.Values.{unpacked}
 use Rattle.rules.specs.Layout.{aAt, cAt}
 use Rattle.rules.proofs.Signals.{switch-kids}
 use Rattle.rules.proofs.Kids.{read}
-use Rattle.evaluate.proofs.SignalLaws.{switch-cell}
-use Rattle.moves.proofs.ReadyLaws.{celled, cell-number}
-use Rattle.update.proofs.CatchLaws.{switch-left, switch-again}
+use Rattle.moves.proofs.ReadyLaws.{cell-number}
+use Rattle.leaving.proofs.LeaveLaws.{switch-celled, switch-left, switch-again}
 use borrow.Author.Needs.{needs}
-use Rattle.update.proofs.switches.Statement.{statement}
-use Rattle.update.proofs.switches.Tie as tie
-use Rattle.update.proofs.switches.Reads as reads
-use Rattle.update.proofs.switches.Lts as lts
+use Rattle.leaving.proofs.switches.Statement.{statement}
+use Rattle.leaving.proofs.switches.Tie as tie
+use Rattle.leaving.proofs.switches.Reads as reads
+use Rattle.leaving.proofs.switches.Lts as lts
 use Rattle.cells.proofs.own_cell.Reads as own-cell-reads
 use Rattle.moves.proofs.hold.Reads as hold-reads
 use Rattle.state.proofs.resets.Reads as resets-reads
 
--- src/lib.rt:58:9
+-- src/lib.rt:20:9
 own-cell-requires : tie.Need-own-cell-requires
 own-cell-requires c κs =
     let s = c .before .before .before in
-    let k = celled (s .pre .0 .node) (s .pre .0 .table) (s .pre .0 .cells) (switch-cell (s .pre .0 .kind)) in
+    let k = switch-celled (s .pre .0) in
     (k .listed, k .room)
 
--- src/lib.rt:59:5
+-- src/lib.rt:21:5
 hold-requires : tie.Need-hold-requires
 hold-requires c κs =
     let s = c .before .before .before .before .before .before in
-    (celled (s .pre .0 .node) (s .pre .0 .table) (s .pre .0 .cells) (switch-cell (s .pre .0 .kind)), s .pre .1)
+    (switch-celled (s .pre .0), s .pre .1)
 
--- src/lib.rt:61:9
+-- src/lib.rt:23:9
 resets-requires : tie.Need-resets-requires
 resets-requires c κs =
     let s = c .before .before .before .before .before .before .before .before .before .before .before in
@@ -37,7 +36,7 @@ resets-requires c κs =
     let second = read (s .pre .0 .fields .c-is) (kids .2) .node in
     record { node = search needs; indexed = s .pre .0 .table; enough = omega (arith, s .pre .0 .cells, c .before .before .before .before .hold .kept .1 .0) }
 
--- src/lib.rt:63:9
+-- src/lib.rt:25:9
 resets-requires-2 : tie.Need-resets-requires-2
 resets-requires-2 c κs =
     let s = c .before .before .before .before .before .before .before .before .before .before .before in
@@ -46,11 +45,11 @@ resets-requires-2 c κs =
     let second = read (s .pre .0 .fields .c-is) (kids .2) .node in
     record { node = search needs; indexed = s .pre .0 .table; enough = omega (arith, s .pre .0 .cells, c .before .before .before .before .hold .kept .1 .0) }
 
--- src/lib.rt:54:1
+-- src/lib.rt:16:1
 same-length : tie.Need-same-length
 same-length c = search needs
 
--- src/lib.rt:54:1
+-- src/lib.rt:16:1
 returns : tie.Need-returns
 returns c =
     let s = c .before .before .before .before .before .before .before .before .before .before .before .before .before .before in
@@ -59,11 +58,11 @@ returns c =
     let x = cell-number (s .pre .0 .node) (s .pre .0 .table) in
     switch-left p (s .args .st .now) x (s .args .n .a) (c .before .before .resets .ensures) (c .before .before .before .before .before .before .before .before .before .before .own-cell .ensures) (unpacked (s .args .v)) (c .before .before .before .before .before .before .before .hold .ensures) (aAt p i) (cAt p i) (s .pre .0 .fields .a-is) (c .before .before .before .before .if1 .taken)
 
--- src/lib.rt:54:1
+-- src/lib.rt:16:1
 same-length-2 : tie.Need-same-length-2
 same-length-2 c = search needs
 
--- src/lib.rt:54:1
+-- src/lib.rt:16:1
 returns-2 : tie.Need-returns-2
 returns-2 c =
     let s = c .before .before .before .before .before .before .before .before .before .before .before .before .before .before in

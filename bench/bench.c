@@ -111,7 +111,7 @@ static void print_row(const char *what, const char *name, const double least[SID
 {
     printf("%-6s %-13s", what, name);
     for (int s = 0; s < SIDES; s++)
-        printf(" %10.2f", least[s] / unit);
+        printf(" %10.3f", least[s] / unit);
     for (int s = 1; s < SIDES; s++)
         printf(" %9.2f", least[0] / least[s]);
     putchar('\n');

@@ -1,6 +1,7 @@
 -- An expression of each kind: its children are ready, and what it evaluates to by theirs.
 -- Assumes nothing.
 use mathlib.Core.Path.{_≡_, sym, ap, _∙_, subst}
+use mathlib.Core.List.{List}
 use Prim.Native.Nat.{ℕ, _+_, _<_, _≤_}
 use native.Mathlib.Omega.{arith}
 use borrow.Author.Tests.{leb-true}
@@ -26,19 +27,30 @@ use Rattle.outcomes.specs.declared.Arm.the-variants.{Go, Neither}
 use Rattle.outcomes.specs.declared.Event.{Event}
 use Rattle.outcomes.specs.declared.Event.the-variants.{Occurs, Quiet}
 use Rattle.outcomes.specs.declared.Parts.the-variants.{Maybe, Wrong}
-use Rattle.outcomes.specs.Outcome.{IsValue}
+use Rattle.outcomes.specs.Outcome.{IsValue, Slots}
+use Rattle.evaluate.specs.Ready.{ReadyE}
 use Rattle.outcomes.proofs.Numbers.{proper-from, proper-value}
 use Rattle.outcomes.proofs.Outcomes.{work-within, arm-goes, arm-none, arm-one, take-present, take-absent, take-wrong}
 
--- A sum is an operation.
-pub sum-operation : {k : ℕ} → k ≡ 18 → IsOperation k
-sum-operation e = record {
-  no16 = λ h. omega (arith, e, h);
-  no17 = λ h. omega (arith, e, h);
-  no24 = λ h. omega (arith, e, h);
-  no27 = λ h. omega (arith, e, h);
-  no28 = λ h. omega (arith, e, h);
-  no29 = λ h. omega (arith, e, h);
+-- Kinds 18-23 are operations, and so are those above that are no other node's.
+pub ints-operation : {k m : ℕ} → k ≡ m → 17 < k → k ≤ 23 → IsOperation m
+ints-operation e h l = record {
+  no16 = λ q. omega (arith, e, q, h);
+  no17 = λ q. omega (arith, e, q, h);
+  no24 = λ q. omega (arith, e, q, l);
+  no27 = λ q. omega (arith, e, q, l);
+  no28 = λ q. omega (arith, e, q, l);
+  no29 = λ q. omega (arith, e, q, l);
+}
+
+pub bools-operation : {A : Type 0} {k m : ℕ} → k ≡ m → 23 < k → ((((A × (k ≡ 24 → ⊥)) × (k ≡ 27 → ⊥)) × (k ≡ 28 → ⊥)) × (k ≡ 29 → ⊥)) → IsOperation m
+bools-operation e h rest = record {
+  no16 = λ q. omega (arith, e, q, h);
+  no17 = λ q. omega (arith, e, q, h);
+  no24 = λ q. rest .0 .0 .0 .1 (e ∙ q);
+  no27 = λ q. rest .0 .0 .1 (e ∙ q);
+  no28 = λ q. rest .0 .1 (e ∙ q);
+  no29 = λ q. rest .1 (e ∙ q);
 }
 
 -- An expression of a kind up to 17 that is no variable is a constant.
@@ -67,6 +79,10 @@ pub pair-work : (p : Bytes) (x y : ℕ) {r s : Evaluated} (env₁ env₂ : Env) 
     → workOf r + workOf s < 32767
 pair-work p x y env₁ env₂ k e f =
     rw (e, f) (omega (arith, work-within _ (evalE-within env₁ (exprAt p x)), work-within _ (evalE-within env₂ (exprAt p y)), k))
+
+-- A part is ready where the slots are as they were.
+pub next-e : {p : Bytes} {ix : List ℕ} {env env₁ : Env} {n x : ℕ} → ReadyE p ix env n → env₁ ≡ env → PartE p n x → ReadyE p ix env₁ x
+next-e r e k = record { node = k .node; indexed = r .indexed; slots = subst Slots (sym e) (r .slots); small = k .small }
 
 -- The same part, by the field that was read.
 pub read : {p : Bytes} {n x y : ℕ} → x ≡ y → PartE p n y → PartE p n x

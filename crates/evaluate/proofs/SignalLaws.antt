@@ -24,7 +24,7 @@ use Rattle.rules.specs.declared.Evaluated.{Evaluated}
 use Rattle.rules.specs.declared.Evaluated.the-variants.{Done, Stuck}
 use Rattle.rules.proofs.Static.{and-both}
 use Rattle.rules.proofs.Nodes.{signal-input, signal-time}
-use Rattle.rules.proofs.Signals.{ext-kid, ext-tree, delay-tree, let-kids, let-tree, switch-kids, switch-tree, group-kids, group-tree, until-kids, until-tree, branch-kid}
+use Rattle.rules.proofs.Signals.{ext-kid, ext-tree, delay-tree, let-kids, let-tree, switch-kids, switch-tree, group-kids, group-tree, until-kids, until-tree, until-left, branch-kid}
 use Rattle.rules.proofs.Within.{evalS-within}
 use Rattle.rules.proofs.CellNumbers.{cell-below}
 use Rattle.rules.proofs.Branches.{found, missing-evaluates}
@@ -135,6 +135,11 @@ time-alone p n w e low no-input no-ext =
     let a : kindAt p n ≡ 1 → ⊥ = λ h. no-input (e ∙ h) in
     let b : kindAt p n ≡ 3 → ⊥ = λ h. no-ext (e ∙ h) in
     omega (arith, a, b)
+
+-- Above the kinds that are read at once none but until is left where it is no let, switch or group.
+pub until-alone : (p : Bytes) (n : ℕ) (w : NodeOf isSignal p n) {A : Type 0} {m : ℕ} → m ≡ kindAt p n → 4 < m
+    → (((A × (m ≡ 5 → ⊥)) × (m ≡ 6 → ⊥)) × (m ≡ 7 → ⊥)) → kindAt p n ≡ 8
+until-alone p n w e low rest = until-left p n w e (omega (arith, low, rest .0 .0 .1)) (rest .0 .1) (rest .1)
 
 -- The cell of a node of kind 4, 6 or 7 is in the state.
 module _ (p : Bytes) (n : ℕ) (w : NodeOf isSignal p n) (index : List ℕ) (x : Indexed p index) (st : Bytes) (h : stateLength p ≤ length st) where

@@ -1,8 +1,9 @@
 // Evaluation of expressions and of signals, with the values of variables in lent slots, set and put back. An outcome is one number.
 // The outcome of each let's definition is noted in the slot of the let's number: the update that follows takes it from there.
 ghost use mathlib.Core.Path.{_≡_};
-ghost use Prim.Native.Nat.{_<_};
+ghost use Prim.Native.Nat.{_≤_, _<_};
 ghost use Rattle.rules.specs.Bytes.{Bytes};
+ghost use Rattle.rules.specs.Layout.{kindAt};
 ghost use Rattle.rules.specs.Values.{unpacked, middleIn};
 ghost use Rattle.rules.specs.Tree.{exprAt, signalAt};
 ghost use Rattle.rules.specs.Work.{rule};
@@ -22,7 +23,6 @@ use outcomes::Arm;
 use outcomes::Event;
 use outcomes::Parts;
 use outcomes::Shown;
-use outcomes::added;
 use outcomes::apart;
 use outcomes::chosen;
 use outcomes::exactly;
@@ -32,47 +32,60 @@ use outcomes::held;
 use outcomes::later;
 use outcomes::lifted;
 use outcomes::negated;
-use outcomes::operated;
+use outcomes::on_bools;
+use outcomes::on_ints;
 use outcomes::ruled;
 use outcomes::show;
 use outcomes::variable;
 use rules::INT;
 use rules::Value;
 
-// Expression i as an operand: a variable or a constant is read at once, without a call.
-fn operand(p: &&[u8], ix: &[u16; 10080], env: &mut [u64; 1008], i: usize) -> u64
-    requires { ⌜ ReadyE (now (now p)) (now ix) (now env) i ⌝ }
-    ensures { λ r. ⌜ (outcomeIn r ≡ evalE (now (env .entry)) (exprAt (now (now (p .entry))) i)) × IsOutcome r × (now (env .exit) ≡ now (env .entry)) ⌝ }
+// Expression i, a variable or a constant.
+fn simple(p: &&[u8], ix: &[u16; 10080], env: &[u64; 1008], i: usize) -> u64
+    requires { ⌜ ReadyE (now (now p)) (now ix) (now env) i × (kindAt (now (now p)) i ≤ 17) ⌝ }
+    ensures { λ r. ⌜ (outcomeIn r ≡ evalE (now (env .entry)) (exprAt (now (now (p .entry))) i)) × IsOutcome r ⌝ }
 {
     let n = node_by(*p, ix, i);
-    let k = n.kind;
-    if 17 < k {
-        return eval_e(p, ix, env, i);
-    }
-    if k == 16 {
+    if n.kind == 16 {
         return variable(env, n.a);
     }
     fixed(value_by(*p, ix, i))
 }
 
-// Expression i. If and take evaluate one arm only.
+// Expression i as an operand: a variable or a constant is read at once, without a call.
+fn operand(p: &&[u8], ix: &[u16; 10080], env: &mut [u64; 1008], i: usize) -> u64
+    requires { ⌜ ReadyE (now (now p)) (now ix) (now env) i ⌝ }
+    ensures { λ r. ⌜ (outcomeIn r ≡ evalE (now (env .entry)) (exprAt (now (now (p .entry))) i)) × IsOutcome r × (now (env .exit) ≡ now (env .entry)) ⌝ }
+{
+    if 17 < kind_by(*p, ix, i) {
+        return eval_e(p, ix, env, i);
+    }
+    simple(p, ix, env, i)
+}
+
+// Expression i. If and take evaluate one arm only. (Operations on ints come first, by tests that cost less than the table of a match.)
 fn eval_e(p: &&[u8], ix: &[u16; 10080], env: &mut [u64; 1008], i: usize) -> u64
     requires { ⌜ ReadyE (now (now p)) (now ix) (now env) i ⌝ }
     ensures { λ r. ⌜ (outcomeIn r ≡ evalE (now (env .entry)) (exprAt (now (now (p .entry))) i)) × IsOutcome r × (now (env .exit) ≡ now (env .entry)) ⌝ }
 {
     let n = node_by(*p, ix, i);
     let k = n.kind;
+    if k <= 23 {
+        if k <= 17 {
+            return simple(p, ix, env, i);
+        }
+        let x = operand(p, ix, env, n.a);
+        let y = operand(p, ix, env, n.b);
+        return on_ints(k, x, y);
+    }
     match k {
-        16 => variable(env, n.a),
-        17 => fixed(value_by(*p, ix, i)),
         24 => negated(operand(p, ix, env, n.a)),
         27 => {
             let test = operand(p, ix, env, n.a);
             let Arm::Go(arm, count) = chosen(test, n.b, n.c) else {
                 return 0;
             };
-            let r = eval_e(p, ix, env, arm);
-            later(count, r)
+            later(count, operand(p, ix, env, arm))
         }
         28 => lifted(operand(p, ix, env, n.a)),
         29 => {
@@ -81,21 +94,14 @@ fn eval_e(p: &&[u8], ix: &[u16; 10080], env: &mut [u64; 1008], i: usize) -> u64
                 return 0;
             };
             let Event::Occurs(v) = event else {
-                let absent = eval_e(p, ix, env, n.b);
-                return later(count, absent);
+                return later(count, eval_e(p, ix, env, n.b));
             };
-            let present = inside_e(p, ix, env, i, v, n.c);
-            later(count, present)
-        }
-        18 => {
-            let x = operand(p, ix, env, n.a);
-            let y = operand(p, ix, env, n.b);
-            added(x, y)
+            later(count, inside_e(p, ix, env, i, v, n.c))
         }
         _ => {
             let x = operand(p, ix, env, n.a);
             let y = operand(p, ix, env, n.b);
-            operated(k, x, y)
+            on_bools(k, x, y)
         }
     }
 }
@@ -119,6 +125,28 @@ pub fn branch_in(m: u64) -> usize
     (m / 65536 % 65536) as usize
 }
 
+// Signal i, an input, time, ext or delay: it has no part that is evaluated, and nothing is noted.
+fn at_once(
+    p: &&[u8],
+    ix: &[u16; 10080],
+    rec: &&[u8],
+    st: &&[u8],
+    env: &mut [u64; 1008],
+    i: usize,
+) -> u64
+    requires { ⌜ ReadyS (now (now p)) (now ix) (now (now st)) (now env) i × (kindAt (now (now p)) i ≤ 4) ⌝ }
+    ensures { λ r. ⌜ (outcomeIn r ≡ evalS (now (now (rec .entry))) (now (now (st .entry))) (now (env .entry)) (signalAt (now (now (p .entry))) i)) × IsOutcome r × (now (env .exit) ≡ now (env .entry)) ⌝ }
+{
+    let n = node_by(*p, ix, i);
+    let k = n.kind;
+    match k {
+        1 => given(channel_value(*rec, n.a)),
+        3 => ruled(operand(p, ix, env, n.a)),
+        4 => held(own_cell(ix, *st, i)),
+        _ => given(Value::Plain(INT, time_in(*rec))),
+    }
+}
+
 // Signal i. Switch and let continue evaluate the current part; a group's branch is known by its number in the cell.
 fn eval_s(
     p: &&[u8],
@@ -134,12 +162,12 @@ fn eval_s(
 {
     let n = node_by(*p, ix, i);
     let k = n.kind;
+    if k <= 4 {
+        return at_once(p, ix, rec, st, env, i);
+    }
     match k {
-        1 => given(channel_value(*rec, n.a)),
-        3 => ruled(operand(p, ix, env, n.a)),
-        4 => held(own_cell(ix, *st, i)),
         5 => {
-            let d = eval_s(p, ix, rec, st, env, n.a, memo);
+            let d = part(p, ix, rec, st, env, n.a, memo);
             memo[i] = d;
             let Shown::Value(v, count) = show(d) else {
                 return 0;
@@ -165,9 +193,28 @@ fn eval_s(
             }
             0
         }
-        8 => through(p, ix, rec, st, env, n.a, memo),
-        _ => given(Value::Plain(INT, time_in(*rec))),
+        _ => through(p, ix, rec, st, env, n.a, memo),
     }
+}
+
+// Signal i, a definition or what a variable is bound in: an ext is evaluated without a call.
+fn part(
+    p: &&[u8],
+    ix: &[u16; 10080],
+    rec: &&[u8],
+    st: &&[u8],
+    env: &mut [u64; 1008],
+    i: usize,
+    memo: &mut [u64; 1008],
+) -> u64
+    requires { ⌜ ReadyS (now (now p)) (now ix) (now (now st)) (now env) i × Noted (now (now p)) (now memo) ⌝ }
+    ensures { λ r. ⌜ (outcomeIn r ≡ evalS (now (now (rec .entry))) (now (now (st .entry))) (now (env .entry)) (signalAt (now (now (p .entry))) i)) × IsOutcome r × (now (env .exit) ≡ now (env .entry)) × Notes (now (now (p .entry))) (now (memo .entry)) (now (memo .exit)) (fillS (now (now (rec .entry))) (now (now (st .entry))) (now (env .entry)) (signalAt (now (now (p .entry))) i)) ⌝ }
+{
+    let n = node_by(*p, ix, i);
+    if n.kind == 3 {
+        return ruled(operand(p, ix, env, n.a));
+    }
+    eval_s(p, ix, rec, st, env, i, memo)
 }
 
 // Signal i of an until, by the until's rule: a delay is read at once, without a call.
@@ -207,7 +254,7 @@ fn inside_s(
 {
     let outer = env[i];
     env[i] = v;
-    let r = eval_s(p, ix, rec, st, env, k, memo);
+    let r = part(p, ix, rec, st, env, k, memo);
     env[i] = outer;
     r
 }

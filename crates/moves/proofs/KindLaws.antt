@@ -28,14 +28,13 @@ use Rattle.rules.specs.declared.Moved.{Moved}
 use Rattle.rules.specs.declared.Evaluated.{Evaluated}
 use Rattle.rules.specs.declared.Evaluated.the-variants.{Done, Stuck}
 use Rattle.rules.proofs.Nodes.{signal-input, signal-time}
-use Rattle.rules.proofs.ByKind.{SignalKind, is-input, is-time, is-ext, is-delay, is-let, is-switch, is-group, is-until, signal-kind}
 use Rattle.rules.proofs.Signals.{less, ext-tree, delay-tree, let-tree, switch-tree, group-tree, group-kids}
 use Rattle.outcomes.specs.Combine.{partsBy, partsOf}
 use Rattle.outcomes.specs.declared.Event.{Event}
 use Rattle.outcomes.specs.declared.Event.the-variants.{Occurs, Quiet}
 use Rattle.outcomes.specs.declared.Parts.the-variants.{Maybe, Wrong}
 use Rattle.outcomes.proofs.Outcomes.{parts-here}
-use Rattle.noted.proofs.FillLaws.{input-fills, time-fills, ext-fills}
+use Rattle.noted.proofs.FillLaws.{few-fills}
 use Rattle.moves.specs.Outcomes.{countIn, tallyIn, movedIn, calmOf}
 use Rattle.moves.specs.Parts.{inSwitch, switched, inGroup}
 use Rattle.moves.specs.declared.Calm.the-variants.{Still, Broken}
@@ -337,32 +336,14 @@ module _ (p : Bytes) (i : ℕ) (w : NodeOf isSignal p i) (rec : Bytes) (env : En
 
   -- their evaluation notes nothing
   pub low-fills : kindAt p i ≤ 3 → mem ≡ fillS rec st env (signalAt p i) mem
-  low-fills u = go (signal-kind (kindAt p i) (w .sorted))
-    where
-      go : SignalKind (kindAt p i) → mem ≡ fillS rec st env (signalAt p i) mem
-      go (is-input e) = sym (input-fills p i w rec st env e mem)
-      go (is-time e) = sym (time-fills p i w rec st env e mem)
-      go (is-ext e) = sym (ext-fills p i w rec st env e mem)
-      go (is-delay e) = absurd (omega (arith, e))
-      go (is-let e) = absurd (omega (arith, e))
-      go (is-switch e) = absurd (omega (arith, e))
-      go (is-group e) = absurd (omega (arith, e))
-      go (is-until e) = absurd (omega (arith, e))
+  low-fills u = sym (few-fills p i w rec st env (omega arith) mem)
 
-  -- a kind up to 3, and any that is none of the others
+  -- a kind up to 3, and one up to 5 that is neither a let nor a delay
   pub low-updates : {m : ℕ} → m ≡ kindAt p i → m ≤ 3 → leaving (moved (movedIn 1) st) mem ≡ recallS rec env (signalAt p i) st mem
   unfolding isSignal moved movedIn tallyIn countIn
   low-updates e u =
       let l = leb-true 1 (kindAt p i) (and-both _ _ (w .sorted) .0) in
       ap (λ (o : Updated). leaving o mem) (one-rule st) ∙ three (eqb (kindAt p i) 1) (eqb (kindAt p i) 3) refl refl l (omega (arith, e))
 
-  pub leaf-updates : {A : Type 0} {m : ℕ} → m ≡ kindAt p i
-      → (((((A × (m ≡ 4 → ⊥)) × (m ≡ 5 → ⊥)) × (m ≡ 6 → ⊥)) × (m ≡ 7 → ⊥)) × (m ≡ 8 → ⊥))
-      → leaving (moved (movedIn 1) st) mem ≡ recallS rec env (signalAt p i) st mem
-  unfolding isSignal
-  leaf-updates e r =
-      let b = and-both _ _ (w .sorted) in
-      let u = leb-true (kindAt p i) 8 (b .1) in
-      low-updates refl
-      (less 3 (less 4 (less 5 (less 6 (less 7 u (λ h. r .1 (e ∙ h))) (λ h. r .0 .1 (e ∙ h))) (λ h. r .0 .0 .1 (e ∙ h)))
-      (λ h. r .0 .0 .0 .1 (e ∙ h))) (λ h. r .0 .0 .0 .0 .1 (e ∙ h)))
+  pub leaf-updates : {m : ℕ} → m ≡ kindAt p i → m ≤ 5 → (m ≡ 5 → ⊥) → (m ≡ 4 → ⊥) → leaving (moved (movedIn 1) st) mem ≡ recallS rec env (signalAt p i) st mem
+  leaf-updates e u five four = low-updates e (less 3 (less 4 u five) four)

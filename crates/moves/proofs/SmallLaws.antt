@@ -40,7 +40,7 @@ use Rattle.moves.specs.Parts.{inSwitch}
 use Rattle.moves.specs.Lent.{ReadyAs, CaseAs}
 use Rattle.moves.proofs.OutcomeLaws.{still-work, moved-within}
 use Rattle.moves.proofs.NumberLaws.{count-of}
-use Rattle.moves.proofs.ReadyLaws.{group-list}
+use Rattle.moves.proofs.ReadyLaws.{let-parts, group-list}
 use Rattle.moves.proofs.RecallBounds.{recall-within}
 
 -- Of an evaluation.
@@ -55,7 +55,7 @@ module _ (rec st : Bytes) (env : Env) (s : Signal) {r : Evaluated} (q : r ≡ ev
   parts-work e = omega (arith, take-work r e, eval-work)
 
 -- Of a let's definition, by the slot that it is noted in.
-pub slot-work : {p : Bytes} {index : List ℕ} {s i : ℕ} {e : Env} {n : Node} → ReadyAs 5 p index s e i n → (l : List ℕ) → Noted p l
+slot-work : {p : Bytes} {index : List ℕ} {s i : ℕ} {e : Env} {n : Node} → ReadyAs 5 p index s e i n → (l : List ℕ) → Noted p l
     → {v : Value} {u : Tally} → memoryIn l i ≡ Done v u → u .work ≤ boundS (signalAt p (n .a))
 slot-work {p} {i = i} r l h d =
     omega (arith, ap evalWork d, h .bounded i (r .ready .node) (r .kind), ap (λ (k : ℕ). boundS (signalAt p k)) (r .fields .a-is))
@@ -96,15 +96,17 @@ module _ {p : Bytes} {index : List ℕ} {s i : ℕ} {e : Env} {n : Node} where
       let y = ap (λ (k : ℕ). boundU (signalAt p k)) (r .fields .a-is) in
       omega (arith, r .ready .small)
 
-  pub let-sum : ReadyAs 5 p index s e i n → {u w k : ℕ} → u ≤ boundS (signalAt p (n .a)) → w ≤ boundU (signalAt p (n .a)) → k ≤ boundU (signalAt p (n .b))
-      → u + w + k < 524287
+  -- a let by what is noted of its definition, by the definition's update and by the body's count k, which is 0 before the body is updated
+  pub let-sum : ReadyAs 5 p index s e i n → {l : List ℕ} → Noted p l → {v : Value} {u : Tally} → memoryIn l i ≡ Done v u
+      → (rec : Bytes) (env : Env) (st : Bytes) (x : ℕ) (st₁ : Bytes) {mem : Memory} → leaving (moved (movedIn x) st₁) mem ≡ recallS rec env (signalAt p (n .a)) st (memoryIn l)
+      → {w : Tally} → calmOf (movedIn x) ≡ Still w → {k : ℕ} → k ≤ boundU (signalAt p (n .b)) → u .work + w .work + k < 524287
   unfolding boundU
-  let-sum r h g l =
+  let-sum r {l} t d rec env st x st₁ q c h =
       let b = ap boundU (let-tree p i (r .ready .node) (r .kind)) in
-      let x = ap (λ (k : ℕ). boundS (signalAt p k)) (r .fields .a-is) in
+      let f = ap (λ (k : ℕ). boundS (signalAt p k)) (r .fields .a-is) in
       let y = ap (λ (k : ℕ). boundU (signalAt p k)) (r .fields .a-is) in
       let z = ap (λ (k : ℕ). boundU (signalAt p k)) (r .fields .b-is) in
-      omega (arith, r .ready .small)
+      omega (arith, slot-work r l t d, calm-work (n .a) (let-parts r .0 .ready .node) t rec env st x st₁ q c, r .ready .small)
 
   -- the part's count k is 0 where the switch catches
   pub switch-sum : ReadyAs 6 p index s e i n → {u w k : ℕ} → u ≤ boundS (signalAt p (n .b)) → w ≤ boundU (signalAt p (n .b))

@@ -88,7 +88,7 @@ pub fn ruled(r: u64) -> u64
 }
 
 // Two counts together, and one rule.
-fn together(u: Tally, w: Tally) -> Tally
+pub fn together(u: Tally, w: Tally) -> Tally
     requires { ⌜ u .work + w .work < 524287 ⌝ }
     ensures { λ t. ⌜ t ≡ oneRule plus (u plus w) ⌝ }
 {

@@ -25,6 +25,7 @@ use Rattle.rules.specs.declared.Tally.{Tally}
 use Rattle.rules.specs.declared.Evaluated.{Evaluated}
 use Rattle.rules.specs.declared.Evaluated.the-variants.{Done, Stuck}
 use Rattle.rules.proofs.Static.{not-both}
+use Rattle.rules.proofs.ByKind.{SignalKind, is-input, is-time, is-ext, is-delay, is-let, is-switch, is-group, is-until, signal-kind}
 use Rattle.rules.proofs.Kids.{or-none}
 use Rattle.rules.proofs.Nodes.{signal-input, signal-time}
 use Rattle.rules.proofs.Signals.{ext-tree, delay-tree, let-tree, switch-tree, group-kids, group-tree, until-tree, branch-next, branch-law, branch-on}
@@ -134,6 +135,20 @@ module _ (p : Bytes) (n : ℕ) (w : NodeOf isSignal p n) (rec st : Bytes) (env :
   pub delay-fills : kindAt p n ≡ 4 → (m : Memory) → fill m ≡ m
   unfolding fillS
   delay-fills e m = ap (λ s. fillS rec st env s m) (delay-tree p n w e)
+
+  -- none of these four notes anything
+  pub few-fills : kindAt p n ≤ 4 → (m : Memory) → fill m ≡ m
+  few-fills few m = go (signal-kind (kindAt p n) (w .sorted))
+    where
+      go : SignalKind (kindAt p n) → fill m ≡ m
+      go (is-input e) = input-fills e m
+      go (is-time e) = time-fills e m
+      go (is-ext e) = ext-fills e m
+      go (is-delay e) = delay-fills e m
+      go (is-let e) = absurd (omega (arith, e))
+      go (is-switch e) = absurd (omega (arith, e))
+      go (is-group e) = absurd (omega (arith, e))
+      go (is-until e) = absurd (omega (arith, e))
 
   pub until-fills : kindAt p n ≡ 8 → {a : ℕ} → a ≡ aAt p n → (m : Memory) → fill m ≡ fillS rec st env (signalAt p a) m
   unfolding fillS

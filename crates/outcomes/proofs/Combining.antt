@@ -122,6 +122,16 @@ pub means-truth : (k x y : ℕ) (b : Bool) → 20 < k → (k ≡ 21 → ⊥) →
 unfolding meaning truth
 means-truth k x y b h n e = simp (lt-leb k 20 h, ne-eqb k 21 n) (ap (λ (t : Bool). Plain 2 (if t then 1 else 0)) e)
 
+-- A truth value, by the test that was made; and with what was counted it is what a test gives.
+pub truth-said : {m : ℕ} {w : Tally} {t b : Bool} → t ≡ b → Gives m (Done (Plain 2 (if b then 1 else 0)) w) → Gives m (Done (truth t) w)
+unfolding truth
+truth-said {w = w} e d = (d .0 ∙ ap (λ (x : Bool). Done (Plain 2 (if x then 1 else 0)) w) (sym e), d .1)
+
+pub truth-gives : (k x y : ℕ) (w : Tally) {m : ℕ} {t : Bool} → 20 < k → (k ≡ 21 → ⊥) → t ≡ truthOf k x y → Gives m (Done (truth t) w)
+    → Gives m (after w (meant k x y))
+unfolding truth
+truth-gives k x y w h n e d = result-gives k x y w (means-truth k x y _ h n e) (stays-in-range k x y h n) (if-not-left refl d)
+
 -- The type that an operation takes.
 pub takes-ints : (k : ℕ) → k ≤ 23 → operandType k ≡ 3
 unfolding operandType
@@ -201,21 +211,11 @@ module _ (r : ℕ) {x : Word} (f : x ≡ wordBy boolT (outcomeIn r)) where
   unfolding rule after notOf
   negated-none h = gives-stuck (rw (negated-by (outcomeIn r), ← f, h))
 
-  negated-done : {a i m n : ℕ} → x ≡ Is a → truth (eqb a 0) ≡ Plain boolT n → i ≡ middleIn r → workOf (outcomeIn r) < 32767
-      → Gives m (Done (Plain boolT n) (tallyIn (i + 1))) → Gives m (rule (negated (outcomeIn r)))
+  pub negated-done : {a i m : ℕ} → x ≡ Is a → i ≡ middleIn r → workOf (outcomeIn r) < 32767 → Gives m (Done (truth (eqb a 0)) (tallyIn (i + 1)))
+      → Gives m (rule (negated (outcomeIn r)))
   unfolding rule after notOf give
-  negated-done {n = n} h q u l d =
-      (d .0 ∙ rw (negated-by (outcomeIn r), ← f, h, q, u) (ap (λ (x : Tally). Done (Plain boolT n) x) (one-more r l)), d .1)
-
-  pub negated-false : {a i m : ℕ} → x ≡ Is a → a ≡ 0 → i ≡ middleIn r → workOf (outcomeIn r) < 32767
-      → Gives m (Done (Plain boolT 1) (tallyIn (i + 1))) → Gives m (rule (negated (outcomeIn r)))
-  unfolding truth
-  negated-false h z u l d = negated-done h (simp (eq-eqb _ _ z)) u l d
-
-  pub negated-true : {a i m : ℕ} → x ≡ Is a → (a ≡ 0 → ⊥) → i ≡ middleIn r → workOf (outcomeIn r) < 32767
-      → Gives m (Done (Plain boolT 0) (tallyIn (i + 1))) → Gives m (rule (negated (outcomeIn r)))
-  unfolding truth
-  negated-true h z u l d = negated-done h (simp (ne-eqb _ _ z)) u l d
+  negated-done {a} h u l d =
+      (d .0 ∙ rw (negated-by (outcomeIn r), ← f, h, u) (ap (λ (x : Tally). Done (truth (eqb a 0)) x) (one-more r l)), d .1)
 
 -- The arm, by the word of the test.
 module _ (r yes₀ no₀ : ℕ) {x : Word} (f : x ≡ wordBy boolT (outcomeIn r)) where

@@ -1,9 +1,9 @@
 // The combinators of evaluation on outcomes that are one number each: the rules' small functions once, none of them recursive.
 ghost use mathlib.Core.Path.{_≡_};
 ghost use mathlib.Core.Bool.{true};
-ghost use Prim.Native.Nat.{_+_, _*_, _<_};
-ghost use Rattle.rules.specs.Values.{boolT, intT, packed, unpacked, middleIn};
-ghost use Rattle.rules.specs.Operations.{operandType};
+ghost use Prim.Native.Nat.{_+_, _*_, _≤_, _<_};
+ghost use Rattle.rules.specs.Values.{packed, unpacked, middleIn};
+ghost use Rattle.rules.specs.Operations.{operandType, truth as truthIs};
 ghost use Rattle.rules.specs.Work.{noted, _plus_, give, after as afterOf, rule};
 ghost use Rattle.rules.specs.Evaluate.{look as lookOf, meant, operated as operatedOf, negated as negatedOf, lifted as liftedOf};
 ghost use Rattle.rules.specs.declared.Word.the-variants.{Is};
@@ -26,7 +26,6 @@ use values::word_in;
 use words::divide;
 use words::number;
 use words::quotient_left;
-use words::sum;
 use words::test;
 
 // The arm that an if evaluates, with what its test counted.
@@ -71,16 +70,20 @@ fn tally_in(m: u64) -> Tally
     }
 }
 
-// Two counts together, marked where one of them is. (Both tests at once: the choice costs no jump.)
+// Two counts together, marked where one of them is. (That neither is marked is one test, with a jump that is foreseen.)
 fn joined(a: u64, b: u64) -> u64
     requires { ⌜ (a < 65536) × (b < 65536) × (tallyIn a .work + tallyIn b .work < 32767) ⌝ }
     ensures { λ r. ⌜ (tallyIn r ≡ tallyIn a plus tallyIn b) × (r < 65535) ⌝ }
 {
+    let count = a + b;
+    if count < 32768 {
+        return count;
+    }
     let once = (a < 32768) | (b < 32768);
     if once {
-        return a + b;
+        return count;
     }
-    a + b - 32768
+    count - 32768
 }
 
 // The 8 bytes of the value: what was counted is left out.
@@ -210,6 +213,17 @@ fn outcome_if(left: bool, v: Value, count: u64) -> u64
     outcome(v, count)
 }
 
+// A truth value with what was counted.
+fn truth(t: bool, count: u64) -> u64
+    requires { ⌜ (0 < count) × (count < 65536) ⌝ }
+    ensures { λ r. ⌜ (outcomeIn r ≡ Done (truthIs t) (tallyIn count)) × IsOutcome r ⌝ }
+{
+    if t {
+        return outcome(Value::Plain(BOOL, 1), count);
+    }
+    outcome(Value::Plain(BOOL, 0), count)
+}
+
 // What an operation gives on the words of its operands, with what was counted.
 fn result(k: u8, x: u32, y: u32, count: u64) -> u64
     requires { ⌜ (0 < count) × (count < 65536) ⌝ }
@@ -222,10 +236,7 @@ fn result(k: u8, x: u32, y: u32, count: u64) -> u64
     if k == 21 {
         return outcome_if(quotient_left(x, y), divide(x, y), count);
     }
-    if test(k, x, y) {
-        return outcome_if(false, Value::Plain(BOOL, 1), count);
-    }
-    outcome_if(false, Value::Plain(BOOL, 0), count)
+    truth(test(k, x, y), count)
 }
 
 // An operation on two outcomes that have these words, by one rule.
@@ -236,9 +247,9 @@ fn on_words(k: u8, x: u32, y: u32, r: u64, s: u64) -> u64
     result(k, x, y, joined(counted_in(r), counted_in(s)) + 1)
 }
 
-// An operation that takes ints, on two outcomes, by one rule.
-fn on_ints(k: u8, r: u64, s: u64) -> u64
-    requires { ⌜ (operandType k ≡ intT) × (workOf (outcomeIn r) + workOf (outcomeIn s) < 32767) ⌝ }
+// An operation that takes ints, kinds 18-23, on two outcomes, by one rule.
+pub fn on_ints(k: u8, r: u64, s: u64) -> u64
+    requires { ⌜ (k ≤ 23) × (workOf (outcomeIn r) + workOf (outcomeIn s) < 32767) ⌝ }
     ensures { λ e. ⌜ (outcomeIn e ≡ rule (operatedOf k (outcomeIn r) (outcomeIn s))) × IsOutcome e ⌝ }
 {
     let Word::Is(x) = plain_word(INT, r) else {
@@ -250,9 +261,10 @@ fn on_ints(k: u8, r: u64, s: u64) -> u64
     on_words(k, x, y, r, s)
 }
 
-// An operation that takes bools, on two outcomes, by one rule. (One function for both, with the type as an argument, costs 3 to 8 in a hundred.)
-fn on_bools(k: u8, r: u64, s: u64) -> u64
-    requires { ⌜ (operandType k ≡ boolT) × (workOf (outcomeIn r) + workOf (outcomeIn s) < 32767) ⌝ }
+// An operation that takes bools, kinds 25 and 26, on two outcomes, by one rule. (With on_words here too, its code stands apart from evaluation, and
+// each sum is a call more.)
+pub fn on_bools(k: u8, r: u64, s: u64) -> u64
+    requires { ⌜ (23 < k) × (workOf (outcomeIn r) + workOf (outcomeIn s) < 32767) ⌝ }
     ensures { λ e. ⌜ (outcomeIn e ≡ rule (operatedOf k (outcomeIn r) (outcomeIn s))) × IsOutcome e ⌝ }
 {
     let Word::Is(x) = plain_word(BOOL, r) else {
@@ -261,37 +273,7 @@ fn on_bools(k: u8, r: u64, s: u64) -> u64
     let Word::Is(y) = plain_word(BOOL, s) else {
         return 0;
     };
-    on_words(k, x, y, r, s)
-}
-
-// An operation on two outcomes, by one rule: up to kind 23 it takes ints, then bools.
-pub fn operated(k: u8, r: u64, s: u64) -> u64
-    requires { ⌜ workOf (outcomeIn r) + workOf (outcomeIn s) < 32767 ⌝ }
-    ensures { λ e. ⌜ (outcomeIn e ≡ rule (operatedOf k (outcomeIn r) (outcomeIn s))) × IsOutcome e ⌝ }
-{
-    if k <= 23 {
-        return on_ints(k, r, s);
-    }
-    on_bools(k, r, s)
-}
-
-// A sum of two outcomes, by one rule.
-pub fn added(r: u64, s: u64) -> u64
-    requires { ⌜ workOf (outcomeIn r) + workOf (outcomeIn s) < 32767 ⌝ }
-    ensures { λ e. ⌜ (outcomeIn e ≡ rule (operatedOf 18 (outcomeIn r) (outcomeIn s))) × IsOutcome e ⌝ }
-{
-    let Word::Is(x) = plain_word(INT, r) else {
-        return 0;
-    };
-    let Word::Is(y) = plain_word(INT, s) else {
-        return 0;
-    };
-    let n = sum(x, y);
-    outcome_if(
-        n.left,
-        Value::Plain(INT, n.word),
-        joined(counted_in(r), counted_in(s)) + 1,
-    )
+    truth(test(k, x, y), joined(counted_in(r), counted_in(s)) + 1)
 }
 
 // The value of 8 bytes, by one rule.
@@ -310,11 +292,7 @@ pub fn negated(r: u64) -> u64
     let Word::Is(w) = plain_word(BOOL, r) else {
         return 0;
     };
-    let count = counted_in(r) + 1;
-    if w == 0 {
-        return outcome(Value::Plain(BOOL, 1), count);
-    }
-    outcome(Value::Plain(BOOL, 0), count)
+    truth(w == 0, counted_in(r) + 1)
 }
 
 // Just of an outcome, by one rule.

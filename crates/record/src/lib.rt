@@ -1,13 +1,15 @@
 // Records of input: codes 12 and 13, the verdict on one, and the first record in whose step a number wrapped.
 ghost use mathlib.Core.Path.{_≡_};
 ghost use Prim.Native.Nat.{_<_, _≤_, _^_};
+ghost use lib.Dec.{eqb};
 ghost use lib.ListN.{length};
-ghost use Rattle.rules.specs.Bytes.{_or_};
+ghost use Rattle.rules.specs.Bytes.{u64At, _and_, _or_};
 ghost use Rattle.rules.specs.Layout.{headerLength, inputLength, timeIn};
 ghost use Rattle.rules.specs.Calls.{absentWrong, inputWrong, timeWrong, recordVerdict, firstWrapped};
 use answers::otherwise;
 use answers::refuse_if;
 use cells::last_time;
+use cells::u64_at;
 use kinds::both;
 use kinds::either;
 use rules::NO_STEP;
@@ -36,11 +38,22 @@ fn absent_wrong(rec: &[u8], c: usize, power: u8) -> bool
     rec[20] / power % 2 == 0
 }
 
-// An absent word of the channels 4-7 is not zero: asked one after the other, each with a jump of its own.
+// The words of the channels 4-7 are all zero.
+fn no_events(rec: &[u8]) -> bool
+    requires { ⌜ inputLength ≤ length (now rec) ⌝ }
+    ensures { λ r. ⌜ r ≡ (eqb (u64At (now (rec .entry)) 24) 0 and eqb (u64At (now (rec .entry)) 32) 0) ⌝ }
+{
+    both(u64_at(rec, 24) == 0, u64_at(rec, 32) == 0)
+}
+
+// An absent word of the channels 4-7 is not zero: none where all words are zero, as in most records; else asked one after the other.
 fn events_wrong(rec: &[u8]) -> bool
     requires { ⌜ inputLength ≤ length (now rec) ⌝ }
     ensures { λ r. ⌜ r ≡ (absentWrong (now (rec .entry)) 0 or absentWrong (now (rec .entry)) 1 or absentWrong (now (rec .entry)) 2 or absentWrong (now (rec .entry)) 3) ⌝ }
 {
+    if no_events(rec) {
+        return false;
+    }
     if absent_wrong(rec, 0, 1) {
         return true;
     }
@@ -53,15 +66,14 @@ fn events_wrong(rec: &[u8]) -> bool
     absent_wrong(rec, 3, 8)
 }
 
-// Code 12: high bits of the flags or zero bytes set, an absent word not zero, or the time too large.
+// Code 12: high bits of the flags or zero bytes set, an absent word not zero, or the time too large. (The flags and the zero bytes are one number.)
 pub fn input_wrong(rec: &[u8]) -> bool
     requires { ⌜ inputLength ≤ length (now rec) ⌝ }
     ensures { λ r. ⌜ r ≡ inputWrong (now (rec .entry)) ⌝ }
 {
-    let flags = 15 < rec[20];
-    let zeros = both(both(rec[21] == 0, rec[22] == 0), rec[23] == 0);
+    let flags = 15 < u32_at(rec, 20);
     let late = 2147483647 < time_of(rec);
-    either(either(either(flags, !zeros), events_wrong(rec)), late)
+    either(either(flags, events_wrong(rec)), late)
 }
 
 // Code 13: the time is before the state's time, if it has one.
@@ -70,7 +82,10 @@ pub fn time_wrong(st: &[u8], rec: &[u8]) -> bool
     ensures { λ r. ⌜ r ≡ timeWrong (now (st .entry)) (now (rec .entry)) ⌝ }
 {
     let last = last_time(st);
-    both(last != 4294967295, time_of(rec) < last)
+    if last <= time_of(rec) {
+        return false;
+    }
+    last != 4294967295
 }
 
 // The verdict on one record, after so many steps: 12, then 13.

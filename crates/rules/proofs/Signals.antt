@@ -83,6 +83,11 @@ module _ (p : Bytes) (n : ℕ) (w : NodeOf isSignal p n) where
       (less 2 (less 3 (less 4 (less 5 (less 6 (less 7 u (λ h. r .1 (e ∙ h))) (λ h. r .0 .1 (e ∙ h))) (λ h. r .0 .0 .1 (e ∙ h)))
       (λ h. r .0 .0 .0 .1 (e ∙ h))) (λ h. r .0 .0 .0 .0 .1 (e ∙ h))) (λ h. r .0 .0 .0 .0 .0 .1 (e ∙ h)))
 
+  -- None but until, above a let's.
+  pub until-left : {m : ℕ} → m ≡ kindAt p n → 5 < m → (m ≡ 6 → ⊥) → (m ≡ 7 → ⊥) → kindAt p n ≡ 8
+  unfolding isSignal
+  until-left e h six seven = let u : kindAt p n ≤ 8 = leb-true (kindAt p n) 8 (and-both _ _ (w .sorted) .1) in omega (arith, e, h, six, seven, u)
+
 module _ (p : Bytes) (n : ℕ) (w : NodeOf isBranch p n) where
   is-branch : kindAt p n ≡ 9
   unfolding isBranch

@@ -136,5 +136,5 @@ pub fn fill_start(p: &[u8], index: &[u16; 10080], st: &mut [u8], count: usize)
 {
     clear_all(st);
     put_header(p, st);
-    resets(&p, index, st, count - 1);
+    reset_s(&p, index, st, count - 1);
 }

@@ -40,6 +40,7 @@ use moves::settled;
 use moves::stay;
 use moves::stayed;
 use moves::target_in;
+use moves::together;
 use moves::value_in;
 use outcomes::Event;
 use outcomes::Parts;
@@ -244,7 +245,7 @@ fn goes(
     update_s(p, index, rec, st, env, i, memo)
 }
 
-// Signal i goes one step on. Input, time and ext do nothing.
+// Signal i goes one step on. Input, time and ext do nothing. (Lets and delays come first, by tests that cost less than the table of a match.)
 pub fn update_s(
     p: &&[u8],
     index: &[u16; 10080],
@@ -259,17 +260,23 @@ pub fn update_s(
 {
     let n = node_by(*p, index, i);
     let k = n.kind;
+    if k <= 5 {
+        if k == 5 {
+            return update_let(p, index, rec, st, env, i, n, memo);
+        }
+        if k == 4 {
+            return update_delay(p, index, rec, st, env, i, n, memo);
+        }
+        return 1;
+    }
     match k {
-        4 => update_delay(p, index, rec, st, env, i, n, memo),
-        5 => update_let(p, index, rec, st, env, i, n, memo),
         6 => update_switch(p, index, rec, st, env, i, n, memo),
         7 => update_group(p, index, rec, st, env, i, n, memo),
-        8 => update_until(p, index, rec, st, env, i, n, memo),
-        _ => 1,
+        _ => update_until(p, index, rec, st, env, i, n, memo),
     }
 }
 
-// Signal k with the value v in slot i, which is then put back.
+// Signal k with the value v in slot i, which is then put back; input, time and ext, which do nothing, without a call.
 fn inside(
     p: &&[u8],
     index: &[u16; 10080],
@@ -284,9 +291,12 @@ fn inside(
     requires { ⌜ Ready (now (now p)) (now index) (length (now st)) (now env) k × (i < 1008) × IsValue v × Noted (now (now p)) (now memo) ⌝ }
     ensures { λ r. ⌜ (leftIn r (now (st .exit)) (now (memo .exit)) ≡ recallS (now (now (rec .entry))) (bind (now (env .entry)) i (unpacked v)) (signalAt (now (now (p .entry))) k) (now (st .entry)) (memoryIn (now (memo .entry)))) × (now (env .exit) ≡ now (env .entry)) × Noted (now (now (p .entry))) (now (memo .exit)) ⌝ }
 {
+    if kind_by(*p, index, k) <= 3 {
+        return 1;
+    }
     let old = env[i];
     env[i] = v;
-    let r = goes(p, index, rec, st, env, k, memo);
+    let r = update_s(p, index, rec, st, env, k, memo);
     env[i] = old;
     r
 }
@@ -339,8 +349,9 @@ fn update_let(
     let Calm::Still(w) = settled(d) else {
         return 0;
     };
+    let t = together(u, w);
     let b = inside(p, index, rec, st, env, i, v, n.b, memo);
-    later(u, w, b)
+    after(t, b)
 }
 
 // A switch evaluates and updates its event; if it is present, the switch catches the value, else it updates the current part.

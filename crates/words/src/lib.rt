@@ -114,7 +114,7 @@ fn is_outside(z: i64) -> bool
 }
 
 // A sum leaves the range where both integers stand on one side of zero, and the wrapped sum on the other.
-pub fn sum(x: u32, y: u32) -> Worked
+fn sum(x: u32, y: u32) -> Worked
     ensures { λ r. ⌜ (r .word ≡ sumOf x y) × (r .left ≡ outside (signed x +ℤ signed y)) ⌝ }
 {
     let s = std::num::wrapping_add_u32(x, y);

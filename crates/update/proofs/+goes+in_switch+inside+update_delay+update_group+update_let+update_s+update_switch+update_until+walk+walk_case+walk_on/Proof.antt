@@ -1,16 +1,17 @@
 -- The update of a signal, of each kind, and the walk over an until's cases, which call each other: each goes down in node numbers, and each need
 -- is a law of the crate moves. In a need a are the arguments, h is what was required of the node, x the evaluation, r and q the updates of parts, o the walk.
 -- Assumes nothing.
-use Rattle.moves.proofs.SmallLaws.{slot-work, done-work, parts-work, number-work, calm-work, switch-work, delay-sum, let-sum, switch-sum, group-sum, branch-sum, walk-sum, until-sum, event-sum, rest-sum}
-use Rattle.moves.proofs.NumberLaws.{count-of}
+use Rattle.moves.proofs.SmallLaws.{done-work, parts-work, number-work, calm-work, switch-work, delay-sum, let-sum, switch-sum, group-sum, branch-sum, walk-sum, until-sum, event-sum, rest-sum}
+use Rattle.moves.proofs.NumberLaws.{count-of, later-fits, later-by}
 use Rattle.moves.proofs.ReadyLaws.{ready-again, ready-bound, as-again, walk-again, delay-part, let-parts, switch-parts, group-part, branch-node, branch-part, until-parts, case-part, case-rest, placed, celled, cell-number}
 use Rattle.evaluate.proofs.SignalLaws.{delay-cell, switch-cell, group-cell}
 use Rattle.rules.proofs.PutBack.{put-back}
 use Rattle.update.proofs.Evaluable.{evaluable}
 use Rattle.moves.proofs.WalkLaws.{walk-wrong, walk-took, walk-quiet, rest-work, last-on, broken-on, goes-on, until-broken, until-still, walked-within, walk-count, walk-still, occurs-plain}
 use Rattle.moves.proofs.KindLaws.{delay-stuck, delay-broken, delay-done, let-stuck, let-broken, let-done, switch-wrong, switch-broken, switch-caught, switch-quiet, switch-first, switch-second, group-first, group-branch, group-missing, leaf-updates, low-updates}
+use Rattle.rules.proofs.Signals.{until-left}
 use Rattle.moves.specs.Outcomes.{movedIn, walked}
-use Rattle.rules.specs.Evaluate.{Env}
+use Rattle.rules.specs.Evaluate.{Env, bind}
 use Rattle.update.proofs.QuietLaws.{known-by, known-again}
 use Rattle.update.proofs.PassLaws.{passes-from, passes-fit, walk-passed}
 use Rattle.outcomes.specs.declared.Parts.the-variants.{Maybe}
@@ -82,6 +83,7 @@ use Rattle.moves.proofs.ruled.Reads as ruled-reads
 use Rattle.moves.proofs.settled.Reads as settled-reads
 use Rattle.moves.proofs.stay.Reads as stay-reads
 use Rattle.moves.proofs.stayed.Reads as stayed-reads
+use Rattle.moves.proofs.together.Reads as together-reads
 use Rattle.outcomes.proofs.apart.Reads as apart-reads
 use Rattle.outcomes.proofs.exactly.Reads as exactly-reads
 use Rattle.outcomes.proofs.show.Reads as show-reads
@@ -241,7 +243,7 @@ abbrev in-switch-calls : ℕ → in-switch-lts.Claims
 in-switch-calls t = (own-cell-reads.Asked, own-cell-reads.Learnt, goes-below t, goes.Post, exactly-reads.Asked, exactly-reads.Learnt, inside-below t, inside.Post)
 
 abbrev inside-calls : ℕ → inside-lts.Claims
-inside-calls t = (goes-below t, goes.Post)
+inside-calls t = (kind-by-reads.Asked, kind-by-reads.Learnt, update-s-below t, update-s.Post)
 
 abbrev update-delay-calls : ℕ → update-delay-lts.Claims
 update-delay-calls t = (evaluated-reads.Asked, evaluated-reads.Learnt, show-reads.Asked, show-reads.Learnt, goes-below t, goes.Post, settled-reads.Asked, settled-reads.Learnt, hold-reads.Asked, hold-reads.Learnt, stayed-reads.Asked, stayed-reads.Learnt)
@@ -250,10 +252,10 @@ abbrev update-group-calls : ℕ → update-group-lts.Claims
 update-group-calls t = (own-cell-reads.Asked, own-cell-reads.Learnt, goes-below t, goes.Post, catches-reads.Asked, catches-reads.Learnt, branch-in-reads.Asked, branch-in-reads.Learnt, has-branch-reads.Asked, has-branch-reads.Learnt, node-by-reads.Asked, node-by-reads.Learnt, exactly-reads.Asked, exactly-reads.Learnt, inside-below t, inside.Post)
 
 abbrev update-let-calls : ℕ → update-let-lts.Claims
-update-let-calls t = (show-reads.Asked, show-reads.Learnt, inside-below t, inside.Post, settled-reads.Asked, settled-reads.Learnt, later-reads.Asked, later-reads.Learnt)
+update-let-calls t = (show-reads.Asked, show-reads.Learnt, inside-below t, inside.Post, settled-reads.Asked, settled-reads.Learnt, together-reads.Asked, together-reads.Learnt, after-reads.Asked, after-reads.Learnt)
 
 abbrev update-s-calls : ℕ → update-s-lts.Claims
-update-s-calls t = (node-by-reads.Asked, node-by-reads.Learnt, update-delay-below t, update-delay.Post, update-let-below t, update-let.Post, update-switch-below t, update-switch.Post, update-group-below t, update-group.Post, update-until-below t, update-until.Post)
+update-s-calls t = (node-by-reads.Asked, node-by-reads.Learnt, update-let-below t, update-let.Post, update-delay-below t, update-delay.Post, update-switch-below t, update-switch.Post, update-group-below t, update-group.Post, update-until-below t, update-until.Post)
 
 abbrev update-switch-calls : ℕ → update-switch-lts.Claims
 update-switch-calls t = (evaluated-reads.Asked, evaluated-reads.Learnt, apart-reads.Asked, apart-reads.Learnt, goes-below t, goes.Post, settled-reads.Asked, settled-reads.Learnt, in-switch-below t, in-switch.Post, stay-reads.Asked, stay-reads.Learnt, later-reads.Asked, later-reads.Learnt, switches-reads.Asked, switches-reads.Learnt, stayed-reads.Asked, stayed-reads.Learnt)
@@ -270,30 +272,30 @@ walk-case-calls t = (node-by-reads.Asked, node-by-reads.Learnt, event-of-reads.A
 abbrev walk-on-calls : ℕ → walk-on-lts.Claims
 walk-on-calls t = (goes-below t, goes.Post, stay-reads.Asked, stay-reads.Learnt, walk-below t, walk.Post, settled-reads.Asked, settled-reads.Learnt, after-reads.Asked, after-reads.Learnt)
 
--- src/lib.rt:237:9
+-- src/lib.rt:241:9
 goes-kind-by-requires : (t : ℕ) → goes-lts.Need-kind-by-requires (goes-calls t) (goes-at t) goes.Post
 goes-kind-by-requires t c κs = let h = c .before .before .pre .1 .0 in (h .lent .table, h .node .shaped, h .node .inside)
 
--- src/lib.rt:239:9
+-- src/lib.rt:243:9
 goes-returns : (t : ℕ) → goes-lts.Need-returns (goes-calls t) (goes-at t) goes.Post
 goes-returns t c =
     let a = c .before .before .before .before .args in
     let h = c .before .before .before .before .pre .1 .0 in
     (low-updates (a .p .now .now) (a .i) (h .node) (a .rec .now .now) (a .env .now) (a .st .now) (memoryIn (a .memo .now)) (c .before .kind-by .ensures) (c .if1 .taken), refl, c .before .before .before .before .pre .1 .1)
 
--- src/lib.rt:241:5
+-- src/lib.rt:245:5
 goes-update-s-requires : (t : ℕ) → goes-lts.Need-update-s-requires (goes-calls t) (goes-at t) goes.Post
 goes-update-s-requires t c κs = (omega (arith, c .before .before .before .before .before .before .before .pre .0), c .before .before .before .before .before .before .before .pre .1)
 
--- src/lib.rt:225:1
+-- src/lib.rt:229:1
 goes-same-length : (t : ℕ) → goes-lts.Need-same-length (goes-calls t) (goes-at t) goes.Post
 goes-same-length t c = c .before .before .update-s .kept .1 .1 .1 .0
 
--- src/lib.rt:225:1
+-- src/lib.rt:229:1
 goes-returns-2 : (t : ℕ) → goes-lts.Need-returns-2 (goes-calls t) (goes-at t) goes.Post
 goes-returns-2 t c = c .before .before .update-s .ensures
 
--- src/lib.rt:387:9
+-- src/lib.rt:401:9
 in-switch-own-cell-requires : (t : ℕ) → in-switch-lts.Need-own-cell-requires (in-switch-calls t) (in-switch-at t) in-switch.Post
 in-switch-own-cell-requires t c κs =
     let a = c .before .before .before .args in
@@ -301,18 +303,18 @@ in-switch-own-cell-requires t c κs =
     let k = celled {s = length (a .st .now)} (h .ready .node) (h .ready .lent .table) (omega (arith, h .ready .lent .cells)) (switch-cell (h .kind)) in
     (k .listed, k .room)
 
--- src/lib.rt:390:9
+-- src/lib.rt:404:9
 in-switch-goes-requires : (t : ℕ) → in-switch-lts.Need-goes-requires (in-switch-calls t) (in-switch-at t) in-switch.Post
 in-switch-goes-requires t c κs =
     let h = c .before .before .before .before .before .before .before .before .pre .1 .0 in
     let k = switch-parts h in let first = k .0 .ready in let second = k .2 .ready in
     (omega (arith, k .0 .less, k .2 .less, c .before .before .before .before .before .before .before .before .pre .0), (search needs, c .before .before .before .before .before .before .before .before .pre .1 .1))
 
--- src/lib.rt:390:9
+-- src/lib.rt:404:9
 in-switch-same-length : (t : ℕ) → in-switch-lts.Need-same-length (in-switch-calls t) (in-switch-at t) in-switch.Post
 in-switch-same-length t c = c .before .before .goes .kept .1 .1 .1 .0
 
--- src/lib.rt:390:9
+-- src/lib.rt:404:9
 in-switch-returns : (t : ℕ) → in-switch-lts.Need-returns (in-switch-calls t) (in-switch-at t) in-switch.Post
 in-switch-returns t c =
     let a = c .before .before .before .before .before .before .before .before .before .before .before .args in
@@ -326,11 +328,11 @@ in-switch-returns t c =
       r .ensures .2,
     )
 
--- src/lib.rt:392:39
+-- src/lib.rt:406:39
 in-switch-exactly-requires : (t : ℕ) → in-switch-lts.Need-exactly-requires (in-switch-calls t) (in-switch-at t) in-switch.Post
 in-switch-exactly-requires t c κs = search needs
 
--- src/lib.rt:392:5
+-- src/lib.rt:406:5
 in-switch-inside-requires : (t : ℕ) → in-switch-lts.Need-inside-requires (in-switch-calls t) (in-switch-at t) in-switch.Post
 in-switch-inside-requires t c κs =
     let h = c .before .before .before .before .before .before .before .before .before .pre .1 .0 in
@@ -340,11 +342,11 @@ in-switch-inside-requires t c κs =
       (k .ready, omega (arith, h .ready .node .inside, h .ready .node .shaped .small), subst IsValue (sym (c .before .exactly .ensures)) (exact-value (m .result)), c .before .before .before .before .before .before .before .before .before .pre .1 .1),
     )
 
--- src/lib.rt:374:1
+-- src/lib.rt:388:1
 in-switch-same-length-2 : (t : ℕ) → in-switch-lts.Need-same-length-2 (in-switch-calls t) (in-switch-at t) in-switch.Post
 in-switch-same-length-2 t c = c .before .before .inside .kept .1 .1 .1 .0
 
--- src/lib.rt:374:1
+-- src/lib.rt:388:1
 in-switch-returns-2 : (t : ℕ) → in-switch-lts.Need-returns-2 (in-switch-calls t) (in-switch-at t) in-switch.Post
 in-switch-returns-2 t c =
     let a = c .before .before .before .before .before .before .before .before .before .before .before .before .args in
@@ -359,83 +361,86 @@ in-switch-returns-2 t c =
       r .ensures .2,
     )
 
--- src/lib.rt:284:15
-inside-mul-old :
-    (t : ℕ) → inside-lts.Need-mul-old (inside-calls t) (inside-at t) inside.Post
+-- src/lib.rt:294:8
+inside-kind-by-requires : (t : ℕ) → inside-lts.Need-kind-by-requires (inside-calls t) (inside-at t) inside.Post
+inside-kind-by-requires t c κs = let h = c .before .before .pre .1 .0 in (h .lent .table, h .node .shaped, h .node .inside)
+
+-- src/lib.rt:295:9
+inside-returns : (t : ℕ) → inside-lts.Need-returns (inside-calls t) (inside-at t) inside.Post
+inside-returns t c =
+    let a = c .before .before .before .before .args in
+    let h = c .before .before .before .before .pre .1 in
+    (low-updates (a .p .now .now) (a .k) (h .0 .node) (a .rec .now .now) (bind (a .env .now) (a .i) (unpacked (a .v))) (a .st .now) (memoryIn (a .memo .now)) (c .before .kind-by .ensures) (c .if1 .taken), refl, h .3)
+
+-- src/lib.rt:297:15
+inside-mul-old : (t : ℕ) → inside-lts.Need-mul-old (inside-calls t) (inside-at t) inside.Post
 inside-mul-old t c = search needs
 
--- src/lib.rt:284:15
+-- src/lib.rt:297:15
 inside-element-copy-out-old : (t : ℕ) → inside-lts.Need-element-copy-out-old (inside-calls t) (inside-at t) inside.Post
-inside-element-copy-out-old t c = c .before .pre .1 .1
+inside-element-copy-out-old t c = c .before .before .before .before .pre .1 .1
 
--- src/lib.rt:285:5
-inside-mul-env :
-    (t : ℕ) → inside-lts.Need-mul-env (inside-calls t) (inside-at t) inside.Post
+-- src/lib.rt:298:5
+inside-mul-env : (t : ℕ) → inside-lts.Need-mul-env (inside-calls t) (inside-at t) inside.Post
 inside-mul-env t c = search needs
 
--- src/lib.rt:285:5
-inside-element-write-env :
-    (t : ℕ) →
-    inside-lts.Need-element-write-env (inside-calls t) (inside-at t) inside.Post
-inside-element-write-env t c = c .before .before .pre .1 .1
+-- src/lib.rt:298:5
+inside-element-write-env : (t : ℕ) → inside-lts.Need-element-write-env (inside-calls t) (inside-at t) inside.Post
+inside-element-write-env t c = c .before .before .before .before .before .pre .1 .1
 
--- src/lib.rt:286:9
-inside-goes-requires :
-    (t : ℕ) → inside-lts.Need-goes-requires (inside-calls t) (inside-at t) inside.Post
-inside-goes-requires t c κs =
-    let a = c .before .before .before .before .before .args in
-    let h = c .before .before .before .before .before .pre .1 in
-    (omega (arith, c .before .before .before .before .before .pre .0), (ready-bound (a .i) (a .v) (h .2) (h .0), h .3))
-
--- src/lib.rt:287:5
-inside-mul-env-2 :
-    (t : ℕ) → inside-lts.Need-mul-env-2 (inside-calls t) (inside-at t) inside.Post
-inside-mul-env-2 t c = search needs
-
--- src/lib.rt:287:5
-inside-element-write-env-2 : (t : ℕ) → inside-lts.Need-element-write-env-2 (inside-calls t) (inside-at t) inside.Post
-inside-element-write-env-2 t c = c .before .before .before .before .before .before .before .before .pre .1 .1
-
--- src/lib.rt:270:1
-inside-same-length :
-    (t : ℕ) → inside-lts.Need-same-length (inside-calls t) (inside-at t) inside.Post
-inside-same-length t c = c .before .before .goes .kept .1 .1 .1 .0
-
--- src/lib.rt:270:1
-inside-returns :
-    (t : ℕ) → inside-lts.Need-returns (inside-calls t) (inside-at t) inside.Post
-inside-returns t c =
+-- src/lib.rt:299:9
+inside-update-s-requires : (t : ℕ) → inside-lts.Need-update-s-requires (inside-calls t) (inside-at t) inside.Post
+inside-update-s-requires t c κs =
     let a = c .before .before .before .before .before .before .before .before .args in
     let h = c .before .before .before .before .before .before .before .before .pre .1 in
-    let env = a .env .now in let i = a .i in let v = a .v in let r = c .before .before .goes in (
+    (omega (arith, c .before .before .before .before .before .before .before .before .pre .0), (ready-bound (a .i) (a .v) (h .2) (h .0), h .3))
+
+-- src/lib.rt:300:5
+inside-mul-env-2 : (t : ℕ) → inside-lts.Need-mul-env-2 (inside-calls t) (inside-at t) inside.Post
+inside-mul-env-2 t c = search needs
+
+-- src/lib.rt:300:5
+inside-element-write-env-2 : (t : ℕ) → inside-lts.Need-element-write-env-2 (inside-calls t) (inside-at t) inside.Post
+inside-element-write-env-2 t c = c .before .before .before .before .before .before .before .before .before .before .before .pre .1 .1
+
+-- src/lib.rt:280:1
+inside-same-length : (t : ℕ) → inside-lts.Need-same-length (inside-calls t) (inside-at t) inside.Post
+inside-same-length t c = c .before .before .update-s .kept .1 .1 .1 .0
+
+-- src/lib.rt:280:1
+inside-returns-2 : (t : ℕ) → inside-lts.Need-returns-2 (inside-calls t) (inside-at t) inside.Post
+inside-returns-2 t c =
+    let a = c .before .before .before .before .before .before .before .before .before .before .before .args in
+    let h = c .before .before .before .before .before .before .before .before .before .before .before .pre .1 in
+    let env = a .env .now in let i = a .i in let v = a .v in let r = c .before .before .update-s in (
       r .ensures .0 ∙ ap (λ (l : List ℕ). recallS (a .rec .now .now) l (signalAt (a .p .now .now) (a .k)) (a .st .now) (memoryIn (a .memo .now))) (sym (bind-value env i v (h .2))),
       _∙_ {b = set (set env i v) i (getD env i 0)} (ap (λ (l : List ℕ). set l i (getD env i 0)) (r .ensures .1)) (put-back env i v),
       r .ensures .2,
     )
 
--- src/lib.rt:305:9
+-- src/lib.rt:318:9
 update-delay-evaluated-requires : (t : ℕ) → update-delay-lts.Need-evaluated-requires (update-delay-calls t) (update-delay-at t) update-delay.Post
 update-delay-evaluated-requires t c κs =
     let a = c .before .before .before .before .args in
     (evaluable (a .st .now) (a .env .now) (delay-part (c .before .before .before .before .pre .1 .0)), c .before .before .before .before .pre .1 .1)
 
--- src/lib.rt:306:30
+-- src/lib.rt:319:30
 update-delay-show-requires : (t : ℕ) → update-delay-lts.Need-show-requires (update-delay-calls t) (update-delay-at t) update-delay.Post
 update-delay-show-requires t c κs = search needs
 
--- src/lib.rt:306:22
+-- src/lib.rt:319:22
 update-delay-enum-known-v : (t : ℕ) → update-delay-lts.Need-enum-known-v (update-delay-calls t) (update-delay-at t) update-delay.Post
 update-delay-enum-known-v t c = c .match .keys1
 
--- src/lib.rt:307:9
+-- src/lib.rt:320:9
 update-delay-enum-told : (t : ℕ) → update-delay-lts.Need-enum-told (update-delay-calls t) (update-delay-at t) update-delay.Post
 update-delay-enum-told t c = c .match .keys2
 
--- src/lib.rt:307:9
+-- src/lib.rt:320:9
 update-delay-same-length : (t : ℕ) → update-delay-lts.Need-same-length (update-delay-calls t) (update-delay-at t) update-delay.Post
 update-delay-same-length t c = refl
 
--- src/lib.rt:307:9
+-- src/lib.rt:320:9
 update-delay-returns : (t : ℕ) → update-delay-lts.Need-returns (update-delay-calls t) (update-delay-at t) update-delay.Post
 unfolding moved movedIn
 update-delay-returns t c =
@@ -446,7 +451,7 @@ update-delay-returns t c =
     let e = shown-stuck (x .result) (sym (z .ensures) ∙ c .enum-told .given .1) in
     (delay-stuck (a .p .now .now) (a .i) (h .ready .node) (h .fields) (a .rec .now .now) (a .env .now) (a .st .now) (memoryIn (a .memo .now)) (h .kind) (x .ensures .0) (x .ensures .3 .filled) e, x .ensures .2, x .ensures .3 .noted)
 
--- src/lib.rt:309:9
+-- src/lib.rt:322:9
 update-delay-goes-requires : (t : ℕ) → update-delay-lts.Need-goes-requires (update-delay-calls t) (update-delay-at t) update-delay.Post
 update-delay-goes-requires t c κs =
     let h = c .before .before .before .before .before .before .before .before .before .before .before .before .pre .1 .0 in
@@ -456,23 +461,23 @@ update-delay-goes-requires t c κs =
       (ready-again refl (x .ensures .2) (k .ready), x .ensures .3 .noted),
     )
 
--- src/lib.rt:310:26
+-- src/lib.rt:323:26
 update-delay-settled-requires : (t : ℕ) → update-delay-lts.Need-settled-requires (update-delay-calls t) (update-delay-at t) update-delay.Post
 update-delay-settled-requires t c κs = search needs
 
--- src/lib.rt:310:21
+-- src/lib.rt:323:21
 update-delay-enum-known-w : (t : ℕ) → update-delay-lts.Need-enum-known-w (update-delay-calls t) (update-delay-at t) update-delay.Post
 update-delay-enum-known-w t c = c .match2 .keys1
 
--- src/lib.rt:311:9
+-- src/lib.rt:324:9
 update-delay-enum-told-2 : (t : ℕ) → update-delay-lts.Need-enum-told-2 (update-delay-calls t) (update-delay-at t) update-delay.Post
 update-delay-enum-told-2 t c = c .match2 .keys2
 
--- src/lib.rt:311:9
+-- src/lib.rt:324:9
 update-delay-same-length-2 : (t : ℕ) → update-delay-lts.Need-same-length-2 (update-delay-calls t) (update-delay-at t) update-delay.Post
 update-delay-same-length-2 t c = c .before .before .before .before .before .goes .kept .1 .1 .1 .0
 
--- src/lib.rt:311:9
+-- src/lib.rt:324:9
 update-delay-returns-2 : (t : ℕ) → update-delay-lts.Need-returns-2 (update-delay-calls t) (update-delay-at t) update-delay.Post
 unfolding moved movedIn
 update-delay-returns-2 t c =
@@ -490,7 +495,7 @@ update-delay-returns-2 t c =
       r .ensures .2,
     )
 
--- src/lib.rt:313:5
+-- src/lib.rt:326:5
 update-delay-hold-requires : (t : ℕ) → update-delay-lts.Need-hold-requires (update-delay-calls t) (update-delay-at t) update-delay.Post
 update-delay-hold-requires t c κs =
     let h = c .before .before .before .before .before .before .before .before .before .before .before .before .before .before .before .before .before .before .before .before .before .pre .1 .0 in
@@ -502,7 +507,7 @@ update-delay-hold-requires t c κs =
           (x .ensures .1) (sym (z .ensures) ∙ c .before .before .before .before .before .before .before .before .before .before .before .before .before .v .given .1),
     )
 
--- src/lib.rt:314:5
+-- src/lib.rt:327:5
 update-delay-stayed-requires : (t : ℕ) → update-delay-lts.Need-stayed-requires (update-delay-calls t) (update-delay-at t) update-delay.Post
 update-delay-stayed-requires t c κs =
     let a = c .before .before .before .before .before .before .before .before .before .before .before .before .before .before .before .before .before .before .before .before .before .before .before .before .args in
@@ -517,13 +522,13 @@ update-delay-stayed-requires t c κs =
     delay-sum h (done-work (a .rec .now .now) (a .st .now) (a .env .now) (signalAt (a .p .now .now) (a .n .a)) (x .ensures .0) e)
     (calm-work (a .n .a) (delay-part h .ready .node) (x .ensures .3 .noted) (a .rec .now .now) _ (a .st .now) (r .result) (r .last .1 .1 .1 .0) (r .ensures .0) k)
 
--- src/lib.rt:292:1
+-- src/lib.rt:305:1
 update-delay-same-length-3 : (t : ℕ) → update-delay-lts.Need-same-length-3 (update-delay-calls t) (update-delay-at t) update-delay.Post
 update-delay-same-length-3 t c =
     c .before .before .before .hold .kept .1 .0
     ∙ c .before .before .before .before .before .before .before .before .before .before .before .before .goes .kept .1 .1 .1 .0
 
--- src/lib.rt:292:1
+-- src/lib.rt:305:1
 update-delay-returns-3 : (t : ℕ) → update-delay-lts.Need-returns-3 (update-delay-calls t) (update-delay-at t) update-delay.Post
 update-delay-returns-3 t c =
     let a = c .before .before .before .before .before .before .before .before .before .before .before .before .before .before .before .before .before .before .before .before .before .before .before .before .before .args in
@@ -543,7 +548,7 @@ update-delay-returns-3 t c =
       r .ensures .2,
     )
 
--- src/lib.rt:409:9
+-- src/lib.rt:423:9
 update-group-own-cell-requires : (t : ℕ) → update-group-lts.Need-own-cell-requires (update-group-calls t) (update-group-at t) update-group.Post
 update-group-own-cell-requires t c κs =
     let a = c .before .before .before .args in
@@ -551,13 +556,13 @@ update-group-own-cell-requires t c κs =
     let k = celled {s = length (a .st .now)} (h .ready .node) (h .ready .lent .table) (omega (arith, h .ready .lent .cells)) (group-cell (h .kind)) in
     (k .listed, k .room)
 
--- src/lib.rt:411:13
+-- src/lib.rt:425:13
 update-group-goes-requires : (t : ℕ) → update-group-lts.Need-goes-requires (update-group-calls t) (update-group-at t) update-group.Post
 update-group-goes-requires t c κs =
     let k = group-part (c .before .before .before .before .before .before .before .before .pre .1 .0) in
     (omega (arith, k .less, c .before .before .before .before .before .before .before .before .pre .0), (k .ready, c .before .before .before .before .before .before .before .before .pre .1 .1))
 
--- src/lib.rt:412:9
+-- src/lib.rt:426:9
 update-group-catches-requires : (t : ℕ) → update-group-lts.Need-catches-requires (update-group-calls t) (update-group-at t) update-group.Post
 update-group-catches-requires t c κs =
     let a = c .before .before .before .before .before .before .before .before .before .before .before .before .args in
@@ -569,11 +574,11 @@ update-group-catches-requires t c κs =
           (number-work (a .n .a) (group-part h .ready .node) (c .before .before .before .before .before .before .before .before .before .before .before .before .pre .1 .1) (a .rec .now .now) _ (a .st .now) (r .result) (r .last .1 .1 .1 .0) (r .ensures .0)),
     )
 
--- src/lib.rt:412:9
+-- src/lib.rt:426:9
 update-group-same-length : (t : ℕ) → update-group-lts.Need-same-length (update-group-calls t) (update-group-at t) update-group.Post
 update-group-same-length t c = c .before .before .catches .kept .1 .1 .0 ∙ c .before .before .before .before .before .before .goes .kept .1 .1 .1 .0
 
--- src/lib.rt:412:9
+-- src/lib.rt:426:9
 update-group-returns : (t : ℕ) → update-group-lts.Need-returns (update-group-calls t) (update-group-at t) update-group.Post
 update-group-returns t c =
     let a = c .before .before .before .before .before .before .before .before .before .before .before .before .before .before .before .args in
@@ -587,26 +592,26 @@ update-group-returns t c =
       r .ensures .2,
     )
 
--- src/lib.rt:414:9
+-- src/lib.rt:428:9
 update-group-branch-in-requires : (t : ℕ) → update-group-lts.Need-branch-in-requires (update-group-calls t) (update-group-at t) update-group.Post
 update-group-branch-in-requires t c κs = search needs
 
--- src/lib.rt:415:8
+-- src/lib.rt:429:8
 update-group-has-branch-requires : (t : ℕ) → update-group-lts.Need-has-branch-requires (update-group-calls t) (update-group-at t) update-group.Post
 update-group-has-branch-requires t c κs =
     let n = c .before .before .before .before .before .before .before .pre .1 .0 in list-first (n .ready .lent .table) (n .ready .node) (n .kind) (n .fields .b-is)
 
--- src/lib.rt:416:13
+-- src/lib.rt:430:13
 update-group-node-by-requires : (t : ℕ) → update-group-lts.Need-node-by-requires (update-group-calls t) (update-group-at t) update-group.Post
 update-group-node-by-requires t c κs =
     let h = c .before .before .before .before .before .before .before .before .before .before .pre .1 .0 in let k = branch-node h
     (c .before .before .has-branch .ensures) (c .before .if2 .taken) in (h .ready .lent .table, k .shaped, k .inside)
 
--- src/lib.rt:418:55
+-- src/lib.rt:432:55
 update-group-exactly-requires : (t : ℕ) → update-group-lts.Need-exactly-requires (update-group-calls t) (update-group-at t) update-group.Post
 update-group-exactly-requires t c κs = search needs
 
--- src/lib.rt:418:13
+-- src/lib.rt:432:13
 update-group-inside-requires : (t : ℕ) → update-group-lts.Need-inside-requires (update-group-calls t) (update-group-at t) update-group.Post
 update-group-inside-requires t c κs =
     let h = c .before .before .before .before .before .before .before .before .before .before .before .before .before .before .before .pre .1 .0 in
@@ -619,7 +624,7 @@ update-group-inside-requires t c κs =
       (k .ready, omega (arith, b .inside, b .shaped .small), subst IsValue (sym (c .before .exactly .ensures)) (exact-value (m .result)), c .before .before .before .before .before .before .before .before .before .before .before .before .before .before .before .pre .1 .1),
     )
 
--- src/lib.rt:419:9
+-- src/lib.rt:433:9
 update-group-catches-requires-2 : (t : ℕ) → update-group-lts.Need-catches-requires-2 (update-group-calls t) (update-group-at t) update-group.Post
 update-group-catches-requires-2 t c κs =
     let a = c .before .before .before .before .before .before .before .before .before .before .before .before .before .before .before .before .before .before .before .args in
@@ -634,11 +639,11 @@ update-group-catches-requires-2 t c κs =
           (number-work (f .result .a) (branch-part h (d .ensures) (c .before .before .before .before .before .before .before .before .before .before .if2 .taken) (f .ensures) .ready .node) (c .before .before .before .before .before .before .before .before .before .before .before .before .before .before .before .before .before .before .before .pre .1 .1) (a .rec .now .now) _ (a .st .now) (r .result) (r .last .1 .1 .1 .0) (r .ensures .0)),
     )
 
--- src/lib.rt:419:9
+-- src/lib.rt:433:9
 update-group-same-length-2 : (t : ℕ) → update-group-lts.Need-same-length-2 (update-group-calls t) (update-group-at t) update-group.Post
 update-group-same-length-2 t c = c .before .before .catches2 .kept .1 .1 .0 ∙ c .before .before .before .before .before .before .inside .kept .1 .1 .1 .0
 
--- src/lib.rt:419:9
+-- src/lib.rt:433:9
 update-group-returns-2 : (t : ℕ) → update-group-lts.Need-returns-2 (update-group-calls t) (update-group-at t) update-group.Post
 update-group-returns-2 t c =
     let a = c .before .before .before .before .before .before .before .before .before .before .before .before .before .before .before .before .before .before .before .before .before .before .args in
@@ -658,11 +663,11 @@ update-group-returns-2 t c =
       r .ensures .2,
     )
 
--- src/lib.rt:396:1
+-- src/lib.rt:410:1
 update-group-same-length-3 : (t : ℕ) → update-group-lts.Need-same-length-3 (update-group-calls t) (update-group-at t) update-group.Post
 update-group-same-length-3 t c = refl
 
--- src/lib.rt:396:1
+-- src/lib.rt:410:1
 update-group-returns-3 : (t : ℕ) → update-group-lts.Need-returns-3 (update-group-calls t) (update-group-at t) update-group.Post
 unfolding moved movedIn
 update-group-returns-3 t c =
@@ -676,29 +681,29 @@ update-group-returns-3 t c =
       c .before .before .before .before .before .before .before .before .before .pre .1 .1,
     )
 
--- src/lib.rt:331:13
+-- src/lib.rt:344:13
 update-let-mul-e : (t : ℕ) → update-let-lts.Need-mul-e (update-let-calls t) (update-let-at t) update-let.Post
 update-let-mul-e t c = search needs
 
--- src/lib.rt:331:13
+-- src/lib.rt:344:13
 update-let-element-copy-out-e : (t : ℕ) → update-let-lts.Need-element-copy-out-e (update-let-calls t) (update-let-at t) update-let.Post
 update-let-element-copy-out-e t c =
     let h = c .before .pre .1 .0 .ready .node in
     omega (arith, h .inside, h .shaped .small)
 
--- src/lib.rt:332:30
+-- src/lib.rt:345:30
 update-let-show-requires : (t : ℕ) → update-let-lts.Need-show-requires (update-let-calls t) (update-let-at t) update-let.Post
 update-let-show-requires t c κs = search needs
 
--- src/lib.rt:332:22
+-- src/lib.rt:345:22
 update-let-enum-known-v : (t : ℕ) → update-let-lts.Need-enum-known-v (update-let-calls t) (update-let-at t) update-let.Post
 update-let-enum-known-v t c = c .match .keys1
 
--- src/lib.rt:333:9
+-- src/lib.rt:346:9
 update-let-enum-told : (t : ℕ) → update-let-lts.Need-enum-told (update-let-calls t) (update-let-at t) update-let.Post
 update-let-enum-told t c = c .match .keys2
 
--- src/lib.rt:333:9
+-- src/lib.rt:346:9
 update-let-returns : (t : ℕ) → update-let-lts.Need-returns (update-let-calls t) (update-let-at t) update-let.Post
 unfolding moved movedIn memoryIn
 update-let-returns t c =
@@ -708,7 +713,7 @@ update-let-returns t c =
     let e = shown-stuck (getD (a .memo .now) (a .i) 0) (sym (z .ensures) ∙ c .enum-told .given .1) in
     (let-stuck (a .p .now .now) (a .i) (h .ready .node) (h .fields) (a .rec .now .now) (a .env .now) (a .st .now) (memoryIn (a .memo .now)) (h .kind) e, refl, c .before .before .before .before .before .pre .1 .1)
 
--- src/lib.rt:335:9
+-- src/lib.rt:348:9
 update-let-inside-requires : (t : ℕ) → update-let-lts.Need-inside-requires (update-let-calls t) (update-let-at t) update-let.Post
 update-let-inside-requires t c κs =
     let a = c .before .before .before .before .before .before .before .before .before .args in
@@ -724,23 +729,23 @@ update-let-inside-requires t c κs =
       ),
     )
 
--- src/lib.rt:336:26
+-- src/lib.rt:349:26
 update-let-settled-requires : (t : ℕ) → update-let-lts.Need-settled-requires (update-let-calls t) (update-let-at t) update-let.Post
 update-let-settled-requires t c κs = search needs
 
--- src/lib.rt:336:21
+-- src/lib.rt:349:21
 update-let-enum-known-w : (t : ℕ) → update-let-lts.Need-enum-known-w (update-let-calls t) (update-let-at t) update-let.Post
 update-let-enum-known-w t c = c .match2 .keys1
 
--- src/lib.rt:337:9
+-- src/lib.rt:350:9
 update-let-enum-told-2 : (t : ℕ) → update-let-lts.Need-enum-told-2 (update-let-calls t) (update-let-at t) update-let.Post
 update-let-enum-told-2 t c = c .match2 .keys2
 
--- src/lib.rt:337:9
+-- src/lib.rt:350:9
 update-let-same-length : (t : ℕ) → update-let-lts.Need-same-length (update-let-calls t) (update-let-at t) update-let.Post
 update-let-same-length t c = c .before .before .before .before .before .inside .kept .1 .1 .1 .0
 
--- src/lib.rt:337:9
+-- src/lib.rt:350:9
 update-let-returns-2 : (t : ℕ) → update-let-lts.Need-returns-2 (update-let-calls t) (update-let-at t) update-let.Post
 unfolding moved movedIn memoryIn
 update-let-returns-2 t c =
@@ -757,181 +762,194 @@ update-let-returns-2 t c =
       r .ensures .2,
     )
 
--- src/lib.rt:339:9
+-- src/lib.rt:352:9
+update-let-together-requires : (t : ℕ) → update-let-lts.Need-together-requires (update-let-calls t) (update-let-at t) update-let.Post
+unfolding memoryIn
+update-let-together-requires t c κs =
+    let a = c .before .before .before .before .before .before .before .before .before .before .before .before .before .before .before .before .args in
+    let h = c .before .before .before .before .before .before .before .before .before .before .before .before .before .before .before .before .pre .1 .0 in
+    let z = c .before .before .before .before .before .before .before .before .before .before .before .before .before .show in
+    let r = c .before .before .before .before .before .before .inside in
+    let w = c .before .before .before .settled in
+    let e = shown-value (getD (a .memo .now) (a .i) 0) (sym (z .ensures) ∙ c .before .before .before .before .before .before .before .before .before .before .before .v .given .1) in
+    let k = sym (w .ensures) ∙ c .before .w .given .1 in
+    omega (arith, let-sum h (c .before .before .before .before .before .before .before .before .before .before .before .before .before .before .before .before .pre .1 .1) e (a .rec .now .now) _ (a .st .now) (r .result) (r .last .1 .1 .1 .0) (r .ensures .0) k {k = 0} (omega arith))
+
+-- src/lib.rt:353:9
 update-let-inside-requires-2 : (t : ℕ) → update-let-lts.Need-inside-requires-2 (update-let-calls t) (update-let-at t) update-let.Post
 update-let-inside-requires-2 t c κs =
-    let a = c .before .before .before .before .before .before .before .before .before .before .before .before .before .before .before .before .before .before .before .args in
-    let h = c .before .before .before .before .before .before .before .before .before .before .before .before .before .before .before .before .before .before .before .pre .1 .0 in
-    let r = c .before .before .before .before .before .before .before .before .before .inside in
-    let z = c .before .before .before .before .before .before .before .before .before .before .before .before .before .before .before .before .show in
+    let a = c .before .before .before .before .before .before .before .before .before .before .before .before .before .before .before .before .before .before .before .before .args in
+    let h = c .before .before .before .before .before .before .before .before .before .before .before .before .before .before .before .before .before .before .before .before .pre .1 .0 in
+    let r = c .before .before .before .before .before .before .before .before .before .before .inside in
+    let z = c .before .before .before .before .before .before .before .before .before .before .before .before .before .before .before .before .before .show in
     let k = let-parts h .1 in (
-      omega (arith, k .less, c .before .before .before .before .before .before .before .before .before .before .before .before .before .before .before .before .before .before .before .pre .0),
+      omega (arith, k .less, c .before .before .before .before .before .before .before .before .before .before .before .before .before .before .before .before .before .before .before .before .pre .0),
       (
         ready-again (r .kept .1 .1 .1 .0) (r .ensures .1) (k .ready),
         omega (arith, h .ready .node .inside, h .ready .node .shaped .small),
-        shown-exact (getD (a .memo .now) (a .i) 0) (c .before .before .before .before .before .before .before .before .before .before .before .before .before .before .before .before .before .before .before .pre .1 .1 .outcomes (a .i)) (sym (z .ensures) ∙ c .before .before .before .before .before .before .before .before .before .before .before .before .before .before .v .given .1),
+        shown-exact (getD (a .memo .now) (a .i) 0) (c .before .before .before .before .before .before .before .before .before .before .before .before .before .before .before .before .before .before .before .before .pre .1 .1 .outcomes (a .i)) (sym (z .ensures) ∙ c .before .before .before .before .before .before .before .before .before .before .before .before .before .before .before .v .given .1),
         r .ensures .2,
       ),
     )
 
--- src/lib.rt:340:5
-update-let-later-requires : (t : ℕ) → update-let-lts.Need-later-requires (update-let-calls t) (update-let-at t) update-let.Post
+-- src/lib.rt:354:5
+update-let-after-requires : (t : ℕ) → update-let-lts.Need-after-requires (update-let-calls t) (update-let-at t) update-let.Post
 unfolding memoryIn
-update-let-later-requires t c κs =
-    let a = c .before .before .before .before .before .before .before .before .before .before .before .before .before .before .before .before .before .before .before .before .before .before .args in
-    let h = c .before .before .before .before .before .before .before .before .before .before .before .before .before .before .before .before .before .before .before .before .before .before .pre .1 .0 in
-    let z = c .before .before .before .before .before .before .before .before .before .before .before .before .before .before .before .before .before .before .before .show in
-    let r = c .before .before .before .before .before .before .before .before .before .before .before .before .inside in
-    let w = c .before .before .before .before .before .before .before .before .before .settled in
-    let q = c .before .before .inside2 in
-    let e = shown-value (getD (a .memo .now) (a .i) 0) (sym (z .ensures) ∙ c .before .before .before .before .before .before .before .before .before .before .before .before .before .before .before .before .before .v .given .1) in
-    let k = sym (w .ensures) ∙ c .before .before .before .before .before .before .before .w .given .1 in
-    let-sum h (slot-work h (a .memo .now) (c .before .before .before .before .before .before .before .before .before .before .before .before .before .before .before .before .before .before .before .before .before .before .pre .1 .1) e)
-    (calm-work (a .n .a) (let-parts h .0 .ready .node) (c .before .before .before .before .before .before .before .before .before .before .before .before .before .before .before .before .before .before .before .before .before .before .pre .1 .1) (a .rec .now .now) _ (a .st .now) (r .result) (r .last .1 .1 .1 .0) (r .ensures .0) k)
-    (number-work (a .n .b) (let-parts h .1 .ready .node) (r .ensures .2) (a .rec .now .now) _ (r .last .1 .1 .1 .0) (q .result) (q .last .1 .1 .1 .0) (q .ensures .0))
-
--- src/lib.rt:318:1
-update-let-same-length-2 : (t : ℕ) → update-let-lts.Need-same-length-2 (update-let-calls t) (update-let-at t) update-let.Post
-update-let-same-length-2 t c = c .before .before .before .inside2 .kept .1 .1 .1 .0 ∙ c .before .before .before .before .before .before .before .before .before .before .before .before .before .inside .kept .1 .1 .1 .0
-
--- src/lib.rt:318:1
-update-let-returns-3 : (t : ℕ) → update-let-lts.Need-returns-3 (update-let-calls t) (update-let-at t) update-let.Post
-unfolding memoryIn
-update-let-returns-3 t c =
+update-let-after-requires t c κs =
     let a = c .before .before .before .before .before .before .before .before .before .before .before .before .before .before .before .before .before .before .before .before .before .before .before .args in
     let h = c .before .before .before .before .before .before .before .before .before .before .before .before .before .before .before .before .before .before .before .before .before .before .before .pre .1 .0 in
     let z = c .before .before .before .before .before .before .before .before .before .before .before .before .before .before .before .before .before .before .before .before .show in
     let r = c .before .before .before .before .before .before .before .before .before .before .before .before .before .inside in
     let w = c .before .before .before .before .before .before .before .before .before .before .settled in
-    let q = c .before .before .before .inside2 in
+    let q = c .before .before .inside2 in
     let e = shown-value (getD (a .memo .now) (a .i) 0) (sym (z .ensures) ∙ c .before .before .before .before .before .before .before .before .before .before .before .before .before .before .before .before .before .before .v .given .1) in
-    let k = sym (w .ensures) ∙ c .before .before .before .before .before .before .before .before .w .given .1 in (
+    let k = sym (w .ensures) ∙ c .before .before .before .before .before .before .before .before .w .given .1 in
+    later-fits _ _ _ (c .before .before .before .before .before .before .together .ensures) (let-sum h (c .before .before .before .before .before .before .before .before .before .before .before .before .before .before .before .before .before .before .before .before .before .before .before .pre .1 .1) e (a .rec .now .now) _ (a .st .now) (r .result) (r .last .1 .1 .1 .0) (r .ensures .0) k
+    (number-work (a .n .b) (let-parts h .1 .ready .node) (r .ensures .2) (a .rec .now .now) _ (r .last .1 .1 .1 .0) (q .result) (q .last .1 .1 .1 .0) (q .ensures .0)))
+
+-- src/lib.rt:331:1
+update-let-same-length-2 : (t : ℕ) → update-let-lts.Need-same-length-2 (update-let-calls t) (update-let-at t) update-let.Post
+update-let-same-length-2 t c = c .before .before .before .inside2 .kept .1 .1 .1 .0 ∙ c .before .before .before .before .before .before .before .before .before .before .before .before .before .before .inside .kept .1 .1 .1 .0
+
+-- src/lib.rt:331:1
+update-let-returns-3 : (t : ℕ) → update-let-lts.Need-returns-3 (update-let-calls t) (update-let-at t) update-let.Post
+unfolding memoryIn
+update-let-returns-3 t c =
+    let a = c .before .before .before .before .before .before .before .before .before .before .before .before .before .before .before .before .before .before .before .before .before .before .before .before .args in
+    let h = c .before .before .before .before .before .before .before .before .before .before .before .before .before .before .before .before .before .before .before .before .before .before .before .before .pre .1 .0 in
+    let z = c .before .before .before .before .before .before .before .before .before .before .before .before .before .before .before .before .before .before .before .before .before .show in
+    let r = c .before .before .before .before .before .before .before .before .before .before .before .before .before .before .inside in
+    let w = c .before .before .before .before .before .before .before .before .before .before .before .settled in
+    let q = c .before .before .before .inside2 in
+    let e = shown-value (getD (a .memo .now) (a .i) 0) (sym (z .ensures) ∙ c .before .before .before .before .before .before .before .before .before .before .before .before .before .before .before .before .before .before .before .v .given .1) in
+    let k = sym (w .ensures) ∙ c .before .before .before .before .before .before .before .before .before .w .given .1 in (
       let-done (a .p .now .now) (a .i) (h .ready .node) (h .fields) (a .rec .now .now) (a .env .now) (a .st .now) (memoryIn (a .memo .now)) (h .kind) e
-          (movedIn (r .result)) (r .last .1 .1 .1 .0) (r .ensures .0) k (r .ensures .1) (q .ensures .0) (c .later .ensures (q .last .1 .1 .1 .0)),
+          (movedIn (r .result)) (r .last .1 .1 .1 .0) (r .ensures .0) k (r .ensures .1) (q .ensures .0)
+          (c .after .ensures .0 (q .last .1 .1 .1 .0) ∙ later-by _ _ (q .result) (q .last .1 .1 .1 .0) (c .before .before .before .before .before .before .before .together .ensures)),
       q .ensures .1 ∙ r .ensures .1,
       q .ensures .2,
     )
 
--- src/lib.rt:257:9
+-- src/lib.rt:261:9
 update-s-node-by-requires : (t : ℕ) → update-s-lts.Need-node-by-requires (update-s-calls t) (update-s-at t) update-s.Post
 update-s-node-by-requires t c κs = let h = c .before .before .pre .1 .0 in (h .lent .table, h .node .shaped, h .node .inside)
 
--- src/lib.rt:260:14
-update-s-update-delay-requires : (t : ℕ) → update-s-lts.Need-update-delay-requires (update-s-calls t) (update-s-at t) update-s.Post
-update-s-update-delay-requires t c κs =
-    let h = c .before .before .before .before .before .before .before .pre .1 .0 in
-    let f = c .before .before .before .before .node-by in (
-      omega (arith, c .before .before .before .before .before .before .before .pre .0),
-      (record { ready = h; fields = f .ensures; kind = sym (f .ensures .kind-is) ∙ c .before .before .before .match .keys1 }, c .before .before .before .before .before .before .before .pre .1 .1),
-    )
-
--- src/lib.rt:261:14
+-- src/lib.rt:265:13
 update-s-update-let-requires : (t : ℕ) → update-s-lts.Need-update-let-requires (update-s-calls t) (update-s-at t) update-s.Post
 update-s-update-let-requires t c κs =
-    let h = c .before .before .before .before .before .before .before .pre .1 .0 in
-    let f = c .before .before .before .before .node-by in (
-      omega (arith, c .before .before .before .before .before .before .before .pre .0),
-      (record { ready = h; fields = f .ensures; kind = sym (f .ensures .kind-is) ∙ c .before .before .before .match .keys2 }, c .before .before .before .before .before .before .before .pre .1 .1),
+    let h = c .before .before .before .before .before .before .before .before .pre .1 .0 in
+    let f = c .before .before .before .before .before .node-by in (
+      omega (arith, c .before .before .before .before .before .before .before .before .pre .0),
+      (record { ready = h; fields = f .ensures; kind = sym (f .ensures .kind-is) ∙ c .before .before .before .if2 .taken }, c .before .before .before .before .before .before .before .before .pre .1 .1),
     )
 
--- src/lib.rt:262:14
+-- src/lib.rt:265:13
+update-s-same-length : (t : ℕ) → update-s-lts.Need-same-length (update-s-calls t) (update-s-at t) update-s.Post
+update-s-same-length t c = c .before .before .update-let .kept .1 .1 .1 .0
+
+-- src/lib.rt:265:13
+update-s-returns : (t : ℕ) → update-s-lts.Need-returns (update-s-calls t) (update-s-at t) update-s.Post
+update-s-returns t c = c .before .before .update-let .ensures
+
+-- src/lib.rt:268:13
+update-s-update-delay-requires : (t : ℕ) → update-s-lts.Need-update-delay-requires (update-s-calls t) (update-s-at t) update-s.Post
+update-s-update-delay-requires t c κs =
+    let h = c .before .before .before .before .before .before .before .before .before .pre .1 .0 in
+    let f = c .before .before .before .before .before .before .node-by in (
+      omega (arith, c .before .before .before .before .before .before .before .before .before .pre .0),
+      (record { ready = h; fields = f .ensures; kind = sym (f .ensures .kind-is) ∙ c .before .before .before .if3 .taken }, c .before .before .before .before .before .before .before .before .before .pre .1 .1),
+    )
+
+-- src/lib.rt:268:13
+update-s-same-length-2 : (t : ℕ) → update-s-lts.Need-same-length-2 (update-s-calls t) (update-s-at t) update-s.Post
+update-s-same-length-2 t c = c .before .before .update-delay .kept .1 .1 .1 .0
+
+-- src/lib.rt:268:13
+update-s-returns-2 : (t : ℕ) → update-s-lts.Need-returns-2 (update-s-calls t) (update-s-at t) update-s.Post
+update-s-returns-2 t c = c .before .before .update-delay .ensures
+
+-- src/lib.rt:270:9
+update-s-returns-3 : (t : ℕ) → update-s-lts.Need-returns-3 (update-s-calls t) (update-s-at t) update-s.Post
+update-s-returns-3 t c =
+    let a = c .before .before .before .before .before .before .args in
+    let h = c .before .before .before .before .before .before .pre .1 .0 in
+    (leaf-updates (a .p .now .now) (a .i) (h .node) (a .rec .now .now) (a .env .now) (a .st .now) (memoryIn (a .memo .now)) (c .before .before .before .node-by .ensures .kind-is) (c .before .before .if1 .taken) (c .before .if2 .left) (c .if3 .left), refl, c .before .before .before .before .before .before .pre .1 .1)
+
+-- src/lib.rt:273:14
 update-s-update-switch-requires : (t : ℕ) → update-s-lts.Need-update-switch-requires (update-s-calls t) (update-s-at t) update-s.Post
 update-s-update-switch-requires t c κs =
-    let h = c .before .before .before .before .before .before .before .pre .1 .0 in
-    let f = c .before .before .before .before .node-by in (
-      omega (arith, c .before .before .before .before .before .before .before .pre .0),
-      (record { ready = h; fields = f .ensures; kind = sym (f .ensures .kind-is) ∙ c .before .before .before .match .keys3 }, c .before .before .before .before .before .before .before .pre .1 .1),
+    let h = c .before .before .before .before .before .before .before .before .pre .1 .0 in
+    let f = c .before .before .before .before .before .node-by in (
+      omega (arith, c .before .before .before .before .before .before .before .before .pre .0),
+      (record { ready = h; fields = f .ensures; kind = sym (f .ensures .kind-is) ∙ c .before .before .before .match .keys1 }, c .before .before .before .before .before .before .before .before .pre .1 .1),
     )
 
--- src/lib.rt:263:14
+-- src/lib.rt:274:14
 update-s-update-group-requires : (t : ℕ) → update-s-lts.Need-update-group-requires (update-s-calls t) (update-s-at t) update-s.Post
 update-s-update-group-requires t c κs =
-    let h = c .before .before .before .before .before .before .before .pre .1 .0 in
-    let f = c .before .before .before .before .node-by in (
-      omega (arith, c .before .before .before .before .before .before .before .pre .0),
-      (record { ready = h; fields = f .ensures; kind = sym (f .ensures .kind-is) ∙ c .before .before .before .match .keys4 }, c .before .before .before .before .before .before .before .pre .1 .1),
+    let h = c .before .before .before .before .before .before .before .before .pre .1 .0 in
+    let f = c .before .before .before .before .before .node-by in (
+      omega (arith, c .before .before .before .before .before .before .before .before .pre .0),
+      (record { ready = h; fields = f .ensures; kind = sym (f .ensures .kind-is) ∙ c .before .before .before .match .keys2 }, c .before .before .before .before .before .before .before .before .pre .1 .1),
     )
 
--- src/lib.rt:264:14
+-- src/lib.rt:275:14
 update-s-update-until-requires : (t : ℕ) → update-s-lts.Need-update-until-requires (update-s-calls t) (update-s-at t) update-s.Post
 update-s-update-until-requires t c κs =
-    let h = c .before .before .before .before .before .before .before .pre .1 .0 in
-    let f = c .before .before .before .before .node-by in (
-      omega (arith, c .before .before .before .before .before .before .before .pre .0),
-      (record { ready = h; fields = f .ensures; kind = sym (f .ensures .kind-is) ∙ c .before .before .before .match .keys5 }, c .before .before .before .before .before .before .before .pre .1 .1),
+    let h = c .before .before .before .before .before .before .before .before .pre .1 .0 in
+    let rest = c .before .before .before .match .rest in
+    let f = c .before .before .before .before .before .node-by in (
+      omega (arith, c .before .before .before .before .before .before .before .before .pre .0),
+      (record { ready = h; fields = f .ensures; kind = until-left _ _ (h .node) (f .ensures .kind-is) (c .before .before .before .before .if1 .left) (rest .0 .1) (rest .1) }, c .before .before .before .before .before .before .before .before .pre .1 .1),
     )
 
--- src/lib.rt:245:1
-update-s-same-length : (t : ℕ) → update-s-lts.Need-same-length (update-s-calls t) (update-s-at t) update-s.Post
-update-s-same-length t c = c .before .before .update-delay .kept .1 .1 .1 .0
-
--- src/lib.rt:245:1
-update-s-returns : (t : ℕ) → update-s-lts.Need-returns (update-s-calls t) (update-s-at t) update-s.Post
-update-s-returns t c = c .before .before .update-delay .ensures
-
--- src/lib.rt:245:1
-update-s-same-length-2 : (t : ℕ) → update-s-lts.Need-same-length-2 (update-s-calls t) (update-s-at t) update-s.Post
-update-s-same-length-2 t c = c .before .before .update-let .kept .1 .1 .1 .0
-
--- src/lib.rt:245:1
-update-s-returns-2 : (t : ℕ) → update-s-lts.Need-returns-2 (update-s-calls t) (update-s-at t) update-s.Post
-update-s-returns-2 t c = c .before .before .update-let .ensures
-
--- src/lib.rt:245:1
+-- src/lib.rt:249:1
 update-s-same-length-3 : (t : ℕ) → update-s-lts.Need-same-length-3 (update-s-calls t) (update-s-at t) update-s.Post
 update-s-same-length-3 t c = c .before .before .update-switch .kept .1 .1 .1 .0
 
--- src/lib.rt:245:1
-update-s-returns-3 : (t : ℕ) → update-s-lts.Need-returns-3 (update-s-calls t) (update-s-at t) update-s.Post
-update-s-returns-3 t c = c .before .before .update-switch .ensures
+-- src/lib.rt:249:1
+update-s-returns-4 : (t : ℕ) → update-s-lts.Need-returns-4 (update-s-calls t) (update-s-at t) update-s.Post
+update-s-returns-4 t c = c .before .before .update-switch .ensures
 
--- src/lib.rt:245:1
+-- src/lib.rt:249:1
 update-s-same-length-4 : (t : ℕ) → update-s-lts.Need-same-length-4 (update-s-calls t) (update-s-at t) update-s.Post
 update-s-same-length-4 t c = c .before .before .update-group .kept .1 .1 .1 .0
 
--- src/lib.rt:245:1
-update-s-returns-4 : (t : ℕ) → update-s-lts.Need-returns-4 (update-s-calls t) (update-s-at t) update-s.Post
-update-s-returns-4 t c = c .before .before .update-group .ensures
+-- src/lib.rt:249:1
+update-s-returns-5 : (t : ℕ) → update-s-lts.Need-returns-5 (update-s-calls t) (update-s-at t) update-s.Post
+update-s-returns-5 t c = c .before .before .update-group .ensures
 
--- src/lib.rt:245:1
+-- src/lib.rt:249:1
 update-s-same-length-5 : (t : ℕ) → update-s-lts.Need-same-length-5 (update-s-calls t) (update-s-at t) update-s.Post
 update-s-same-length-5 t c = c .before .before .update-until .kept .1 .1 .1 .0
 
--- src/lib.rt:245:1
-update-s-returns-5 : (t : ℕ) → update-s-lts.Need-returns-5 (update-s-calls t) (update-s-at t) update-s.Post
-update-s-returns-5 t c = c .before .before .update-until .ensures
-
--- src/lib.rt:245:1
+-- src/lib.rt:249:1
 update-s-returns-6 : (t : ℕ) → update-s-lts.Need-returns-6 (update-s-calls t) (update-s-at t) update-s.Post
-update-s-returns-6 t c =
-    let a = c .before .before .before .before .args in
-    let h = c .before .before .before .before .pre .1 .0 in
-    let f = c .before .node-by in
-    (leaf-updates (a .p .now .now) (a .i) (h .node) (a .rec .now .now) (a .env .now) (a .st .now) (memoryIn (a .memo .now)) (f .ensures .kind-is) (c .match .rest), refl, c .before .before .before .before .pre .1 .1)
+update-s-returns-6 t c = c .before .before .update-until .ensures
 
--- src/lib.rt:357:9
+-- src/lib.rt:371:9
 update-switch-evaluated-requires : (t : ℕ) → update-switch-lts.Need-evaluated-requires (update-switch-calls t) (update-switch-at t) update-switch.Post
 update-switch-evaluated-requires t c κs =
     let a = c .before .before .before .before .args in
     (evaluable (a .st .now) (a .env .now) (switch-parts (c .before .before .before .before .pre .1 .0) .1), c .before .before .before .before .pre .1 .1)
 
--- src/lib.rt:358:34
+-- src/lib.rt:372:34
 update-switch-apart-requires : (t : ℕ) → update-switch-lts.Need-apart-requires (update-switch-calls t) (update-switch-at t) update-switch.Post
 update-switch-apart-requires t c κs = search needs
 
--- src/lib.rt:358:22
+-- src/lib.rt:372:22
 update-switch-enum-known-event : (t : ℕ) → update-switch-lts.Need-enum-known-event (update-switch-calls t) (update-switch-at t) update-switch.Post
 update-switch-enum-known-event t c = c .match .keys1
 
--- src/lib.rt:359:9
+-- src/lib.rt:373:9
 update-switch-enum-told : (t : ℕ) → update-switch-lts.Need-enum-told (update-switch-calls t) (update-switch-at t) update-switch.Post
 update-switch-enum-told t c = c .match .keys2
 
--- src/lib.rt:359:9
+-- src/lib.rt:373:9
 update-switch-same-length : (t : ℕ) → update-switch-lts.Need-same-length (update-switch-calls t) (update-switch-at t) update-switch.Post
 update-switch-same-length t c = refl
 
--- src/lib.rt:359:9
+-- src/lib.rt:373:9
 update-switch-returns : (t : ℕ) → update-switch-lts.Need-returns (update-switch-calls t) (update-switch-at t) update-switch.Post
 unfolding moved movedIn
 update-switch-returns t c =
@@ -945,7 +963,7 @@ update-switch-returns t c =
       x .ensures .3 .noted,
     )
 
--- src/lib.rt:361:9
+-- src/lib.rt:375:9
 update-switch-goes-requires : (t : ℕ) → update-switch-lts.Need-goes-requires (update-switch-calls t) (update-switch-at t) update-switch.Post
 update-switch-goes-requires t c κs =
     let h = c .before .before .before .before .before .before .before .before .before .before .before .before .pre .1 .0 in
@@ -955,23 +973,23 @@ update-switch-goes-requires t c κs =
       (ready-again refl (x .ensures .2) (k .ready), x .ensures .3 .noted),
     )
 
--- src/lib.rt:362:26
+-- src/lib.rt:376:26
 update-switch-settled-requires : (t : ℕ) → update-switch-lts.Need-settled-requires (update-switch-calls t) (update-switch-at t) update-switch.Post
 update-switch-settled-requires t c κs = search needs
 
--- src/lib.rt:362:21
+-- src/lib.rt:376:21
 update-switch-enum-known-w : (t : ℕ) → update-switch-lts.Need-enum-known-w (update-switch-calls t) (update-switch-at t) update-switch.Post
 update-switch-enum-known-w t c = c .match2 .keys1
 
--- src/lib.rt:363:9
+-- src/lib.rt:377:9
 update-switch-enum-told-2 : (t : ℕ) → update-switch-lts.Need-enum-told-2 (update-switch-calls t) (update-switch-at t) update-switch.Post
 update-switch-enum-told-2 t c = c .match2 .keys2
 
--- src/lib.rt:363:9
+-- src/lib.rt:377:9
 update-switch-same-length-2 : (t : ℕ) → update-switch-lts.Need-same-length-2 (update-switch-calls t) (update-switch-at t) update-switch.Post
 update-switch-same-length-2 t c = c .before .before .before .before .before .goes .kept .1 .1 .1 .0
 
--- src/lib.rt:363:9
+-- src/lib.rt:377:9
 update-switch-returns-2 : (t : ℕ) → update-switch-lts.Need-returns-2 (update-switch-calls t) (update-switch-at t) update-switch.Post
 unfolding moved movedIn
 update-switch-returns-2 t c =
@@ -988,15 +1006,15 @@ update-switch-returns-2 t c =
       r .ensures .2,
     )
 
--- src/lib.rt:365:23
+-- src/lib.rt:379:23
 update-switch-enum-known-event-2 : (t : ℕ) → update-switch-lts.Need-enum-known-event-2 (update-switch-calls t) (update-switch-at t) update-switch.Post
 update-switch-enum-known-event-2 t c = c .match3 .keys1
 
--- src/lib.rt:366:42
+-- src/lib.rt:380:42
 update-switch-enum-told-3 : (t : ℕ) → update-switch-lts.Need-enum-told-3 (update-switch-calls t) (update-switch-at t) update-switch.Post
 update-switch-enum-told-3 t c = c .match3 .keys2
 
--- src/lib.rt:366:13
+-- src/lib.rt:380:13
 update-switch-in-switch-requires : (t : ℕ) → update-switch-lts.Need-in-switch-requires (update-switch-calls t) (update-switch-at t) update-switch.Post
 update-switch-in-switch-requires t c κs =
     let h = c .before .before .before .before .before .before .before .before .before .before .before .before .before .before .before .before .before .before .before .before .before .before .before .before .pre .1 .0 in
@@ -1008,11 +1026,11 @@ update-switch-in-switch-requires t c κs =
       (as-again (r .kept .1 .1 .1 .0) (r .ensures .1 ∙ c .before .before .before .before .before .before .before .before .before .before .before .before .before .before .before .before .before .before .before .evaluated .ensures .2) h, r .ensures .2),
     )
 
--- src/lib.rt:367:28
+-- src/lib.rt:381:28
 update-switch-stay-requires : (t : ℕ) → update-switch-lts.Need-stay-requires (update-switch-calls t) (update-switch-at t) update-switch.Post
 update-switch-stay-requires t c κs = search needs
 
--- src/lib.rt:367:9
+-- src/lib.rt:381:9
 update-switch-later-requires : (t : ℕ) → update-switch-lts.Need-later-requires (update-switch-calls t) (update-switch-at t) update-switch.Post
 update-switch-later-requires t c κs =
     let a = c .before .before .before .before .before .before .before .before .before .before .before .before .before .before .before .before .before .before .before .before .before .before .before .before .before .before .before .before .args in
@@ -1034,13 +1052,13 @@ update-switch-later-requires t c κs =
           (q .ensures .0)),
     ))
 
--- src/lib.rt:367:9
+-- src/lib.rt:381:9
 update-switch-same-length-3 : (t : ℕ) → update-switch-lts.Need-same-length-3 (update-switch-calls t) (update-switch-at t) update-switch.Post
 update-switch-same-length-3 t c =
     c .before .before .before .before .in-switch .kept .1 .1 .1 .0
     ∙ c .before .before .before .before .before .before .before .before .before .before .before .before .before .before .before .before .goes .kept .1 .1 .1 .0
 
--- src/lib.rt:367:9
+-- src/lib.rt:381:9
 update-switch-returns-3 : (t : ℕ) → update-switch-lts.Need-returns-3 (update-switch-calls t) (update-switch-at t) update-switch.Post
 update-switch-returns-3 t c =
     let a = c .before .before .before .before .before .before .before .before .before .before .before .before .before .before .before .before .before .before .before .before .before .before .before .before .before .before .before .before .before .args in
@@ -1062,7 +1080,7 @@ update-switch-returns-3 t c =
       q .ensures .2,
     )
 
--- src/lib.rt:369:5
+-- src/lib.rt:383:5
 update-switch-switches-requires : (t : ℕ) → update-switch-lts.Need-switches-requires (update-switch-calls t) (update-switch-at t) update-switch.Post
 update-switch-switches-requires t c κs =
     let h = c .before .before .before .before .before .before .before .before .before .before .before .before .before .before .before .before .before .before .before .before .before .before .before .pre .1 .0 in
@@ -1072,7 +1090,7 @@ update-switch-switches-requires t c κs =
     let g = c .before .before .before .before .before .before .before .before .before .before .before .before .before .before .before .event in
     (placed (r .kept .1 .1 .1 .0) h, take-value (outcomeIn (x .result)) (sym (z .ensures) ∙ g .given .1) (c .before .before .event2 .given .1))
 
--- src/lib.rt:370:5
+-- src/lib.rt:384:5
 update-switch-stayed-requires : (t : ℕ) → update-switch-lts.Need-stayed-requires (update-switch-calls t) (update-switch-at t) update-switch.Post
 update-switch-stayed-requires t c κs =
     let a = c .before .before .before .before .before .before .before .before .before .before .before .before .before .before .before .before .before .before .before .before .before .before .before .before .before .before .args in
@@ -1090,13 +1108,13 @@ update-switch-stayed-requires t c κs =
           (r .ensures .0) k) (omega arith),
     )
 
--- src/lib.rt:344:1
+-- src/lib.rt:358:1
 update-switch-same-length-4 : (t : ℕ) → update-switch-lts.Need-same-length-4 (update-switch-calls t) (update-switch-at t) update-switch.Post
 update-switch-same-length-4 t c =
     c .before .before .before .switches .kept .1 .1 .0
     ∙ c .before .before .before .before .before .before .before .before .before .before .before .before .before .before .goes .kept .1 .1 .1 .0
 
--- src/lib.rt:344:1
+-- src/lib.rt:358:1
 update-switch-returns-4 : (t : ℕ) → update-switch-lts.Need-returns-4 (update-switch-calls t) (update-switch-at t) update-switch.Post
 update-switch-returns-4 t c =
     let a = c .before .before .before .before .before .before .before .before .before .before .before .before .before .before .before .before .before .before .before .before .before .before .before .before .before .before .before .args in
@@ -1115,23 +1133,23 @@ update-switch-returns-4 t c =
       r .ensures .2,
     )
 
--- src/lib.rt:438:9
+-- src/lib.rt:452:9
 update-until-walk-requires : (t : ℕ) → update-until-lts.Need-walk-requires (update-until-calls t) (update-until-at t) update-until.Post
 update-until-walk-requires t c κs = let k = until-parts (c .before .before .before .before .pre .1 .0) .1 in (omega (arith, k .0, c .before .before .before .before .pre .0), (k .1, c .before .before .before .before .pre .1 .1))
 
--- src/lib.rt:439:26
+-- src/lib.rt:453:26
 update-until-settled-requires : (t : ℕ) → update-until-lts.Need-settled-requires (update-until-calls t) (update-until-at t) update-until.Post
 update-until-settled-requires t c κs = search needs
 
--- src/lib.rt:439:21
+-- src/lib.rt:453:21
 update-until-enum-known-u : (t : ℕ) → update-until-lts.Need-enum-known-u (update-until-calls t) (update-until-at t) update-until.Post
 update-until-enum-known-u t c = c .match .keys1
 
--- src/lib.rt:440:9
+-- src/lib.rt:454:9
 update-until-enum-told : (t : ℕ) → update-until-lts.Need-enum-told (update-until-calls t) (update-until-at t) update-until.Post
 update-until-enum-told t c = c .match .keys2
 
--- src/lib.rt:440:9
+-- src/lib.rt:454:9
 update-until-ruled-requires : (t : ℕ) → update-until-lts.Need-ruled-requires (update-until-calls t) (update-until-at t) update-until.Post
 update-until-ruled-requires t c κs =
     let a = c .before .before .before .before .before .before .before .before .before .before .args in
@@ -1143,11 +1161,11 @@ update-until-ruled-requires t c κs =
       walk-count (a .n .b) (until-parts h .1 .1 .node) (c .before .before .before .before .before .before .before .before .before .before .pre .1 .1) (a .rec .now .now) (a .env .now) (a .st .now) (movedIn (o .result)) (o .last .1 .1 .1 .0) (o .ensures .0),
     ))
 
--- src/lib.rt:440:9
+-- src/lib.rt:454:9
 update-until-same-length : (t : ℕ) → update-until-lts.Need-same-length (update-until-calls t) (update-until-at t) update-until.Post
 update-until-same-length t c = c .before .before .before .before .before .before .walk .kept .1 .1 .1 .0
 
--- src/lib.rt:440:9
+-- src/lib.rt:454:9
 update-until-returns : (t : ℕ) → update-until-lts.Need-returns (update-until-calls t) (update-until-at t) update-until.Post
 update-until-returns t c =
     let a = c .before .before .before .before .before .before .before .before .before .before .before .args in
@@ -1161,7 +1179,7 @@ update-until-returns t c =
       o .ensures .2,
     )
 
--- src/lib.rt:442:9
+-- src/lib.rt:456:9
 update-until-goes-requires : (t : ℕ) → update-until-lts.Need-goes-requires (update-until-calls t) (update-until-at t) update-until.Post
 update-until-goes-requires t c κs =
     let h = c .before .before .before .before .before .before .before .before .before .before .before .before .before .before .pre .1 .0 in
@@ -1171,11 +1189,11 @@ update-until-goes-requires t c κs =
       (ready-again (o .kept .1 .1 .1 .0) (o .ensures .1) (k .ready), o .ensures .2),
     )
 
--- src/lib.rt:443:20
+-- src/lib.rt:457:20
 update-until-stay-requires : (t : ℕ) → update-until-lts.Need-stay-requires (update-until-calls t) (update-until-at t) update-until.Post
 update-until-stay-requires t c κs = search needs
 
--- src/lib.rt:443:11
+-- src/lib.rt:457:11
 update-until-after-requires : (t : ℕ) → update-until-lts.Need-after-requires (update-until-calls t) (update-until-at t) update-until.Post
 update-until-after-requires t c κs =
     let a = c .before .before .before .before .before .before .before .before .before .before .before .before .before .before .before .before .before .before .args in
@@ -1192,7 +1210,7 @@ update-until-after-requires t c κs =
           (number-work (a .n .a) (until-parts h .0 .ready .node) (o .ensures .2) (a .rec .now .now) _ (o .last .1 .1 .1 .0) (r .result) (r .last .1 .1 .1 .0) (r .ensures .0)),
     )
 
--- src/lib.rt:443:5
+-- src/lib.rt:457:5
 update-until-ruled-requires-2 : (t : ℕ) → update-until-lts.Need-ruled-requires-2 (update-until-calls t) (update-until-at t) update-until.Post
 update-until-ruled-requires-2 t c κs =
     let a = c .before .before .before .before .before .before .before .before .before .before .before .before .before .before .before .before .before .before .before .args in
@@ -1211,13 +1229,13 @@ update-until-ruled-requires-2 t c κs =
           (number-work (a .n .a) (until-parts h .0 .ready .node) (o .ensures .2) (a .rec .now .now) _ (o .last .1 .1 .1 .0) (r .result) (r .last .1 .1 .1 .0) (r .ensures .0)),
     )
 
--- src/lib.rt:425:1
+-- src/lib.rt:439:1
 update-until-same-length-2 : (t : ℕ) → update-until-lts.Need-same-length-2 (update-until-calls t) (update-until-at t) update-until.Post
 update-until-same-length-2 t c =
     c .before .before .before .before .before .goes .kept .1 .1 .1 .0
     ∙ c .before .before .before .before .before .before .before .before .before .before .before .before .before .before .before .walk .kept .1 .1 .1 .0
 
--- src/lib.rt:425:1
+-- src/lib.rt:439:1
 update-until-returns-2 : (t : ℕ) → update-until-lts.Need-returns-2 (update-until-calls t) (update-until-at t) update-until.Post
 update-until-returns-2 t c =
     let a = c .before .before .before .before .before .before .before .before .before .before .before .before .before .before .before .before .before .before .before .before .args in
@@ -1234,11 +1252,11 @@ update-until-returns-2 t c =
       r .ensures .2,
     )
 
--- src/lib.rt:459:9
+-- src/lib.rt:473:9
 walk-pass-requires : (t : ℕ) → walk-lts.Need-pass-requires (walk-calls t) (walk-at t) walk.Post
 walk-pass-requires t c κs = c .before .before .before .pre .1 .0
 
--- src/lib.rt:462:9
+-- src/lib.rt:476:9
 walk-walk-case-requires : (t : ℕ) → walk-lts.Need-walk-case-requires (walk-calls t) (walk-at t) walk.Post
 walk-walk-case-requires t c κs =
     let a = c .before .before .before .before .before .before .before .before .args in
@@ -1247,7 +1265,7 @@ walk-walk-case-requires t c κs =
     let s = passes-from (a .rec .now .now) (a .st .now) h (y .ensures .0) in
     (omega (arith, s .down, c .before .before .before .before .before .before .before .before .pre .0), (walk-again refl (y .ensures .1) (s .ready), c .before .before .before .before .before .before .before .before .pre .1 .1, known-again (y .ensures .1) (y .ensures .2)))
 
--- src/lib.rt:463:5
+-- src/lib.rt:477:5
 walk-added-requires : (t : ℕ) → walk-lts.Need-added-requires (walk-calls t) (walk-at t) walk.Post
 walk-added-requires t c κs =
     let a = c .before .before .before .before .before .before .before .before .before .before .before .args in
@@ -1257,11 +1275,11 @@ walk-added-requires t c κs =
     passes-fit h (passes-from (a .rec .now .now) (a .st .now) h (y .ensures .0)) (c .before .before .before .before .before .before .before .before .before .before .before .pre .1 .1) (o .result) (o .last .1 .1 .1 .0)
     (o .ensures .0 ∙ ap (λ (e : Env). walked (a .rec .now .now) e (casesAt (a .p .now .now) (y .result .passed .at)) (a .st .now) (memoryIn (a .memo .now))) (y .ensures .1))
 
--- src/lib.rt:447:1
+-- src/lib.rt:461:1
 walk-same-length : (t : ℕ) → walk-lts.Need-same-length (walk-calls t) (walk-at t) walk.Post
 walk-same-length t c = c .before .before .before .walk-case .kept .1 .1 .1 .0
 
--- src/lib.rt:447:1
+-- src/lib.rt:461:1
 walk-returns : (t : ℕ) → walk-lts.Need-returns (walk-calls t) (walk-at t) walk.Post
 walk-returns t c =
     let a = c .before .before .before .before .before .before .before .before .before .before .before .before .args in
@@ -1275,11 +1293,11 @@ walk-returns t c =
       o .ensures .2,
     )
 
--- src/lib.rt:480:9
+-- src/lib.rt:494:9
 walk-case-node-by-requires : (t : ℕ) → walk-case-lts.Need-node-by-requires (walk-case-calls t) (walk-case-at t) walk-case.Post
 walk-case-node-by-requires t c κs = let h = c .before .before .pre .1 .0 in (h .lent .table, h .node .shaped, h .node .inside)
 
--- src/lib.rt:481:9
+-- src/lib.rt:495:9
 walk-case-event-of-requires : (t : ℕ) → walk-case-lts.Need-event-of-requires (walk-case-calls t) (walk-case-at t) walk-case.Post
 walk-case-event-of-requires t c κs =
     let a = c .before .before .before .before .before .before .args in
@@ -1287,23 +1305,23 @@ walk-case-event-of-requires t c κs =
     let f = c .before .before .before .node-by in
     (evaluable (a .st .now) (a .env .now) (case-part (record { ready = h; fields = f .ensures })), c .before .before .before .before .before .before .pre .1 .1, known-by (f .ensures .a-is) (c .before .before .before .before .before .before .pre .1 .2))
 
--- src/lib.rt:482:34
+-- src/lib.rt:496:34
 walk-case-apart-requires : (t : ℕ) → walk-case-lts.Need-apart-requires (walk-case-calls t) (walk-case-at t) walk-case.Post
 walk-case-apart-requires t c κs = search needs
 
--- src/lib.rt:482:22
+-- src/lib.rt:496:22
 walk-case-enum-known-event : (t : ℕ) → walk-case-lts.Need-enum-known-event (walk-case-calls t) (walk-case-at t) walk-case.Post
 walk-case-enum-known-event t c = c .match .keys1
 
--- src/lib.rt:483:9
+-- src/lib.rt:497:9
 walk-case-enum-told : (t : ℕ) → walk-case-lts.Need-enum-told (walk-case-calls t) (walk-case-at t) walk-case.Post
 walk-case-enum-told t c = c .match .keys2
 
--- src/lib.rt:483:9
+-- src/lib.rt:497:9
 walk-case-same-length : (t : ℕ) → walk-case-lts.Need-same-length (walk-case-calls t) (walk-case-at t) walk-case.Post
 walk-case-same-length t c = refl
 
--- src/lib.rt:483:9
+-- src/lib.rt:497:9
 walk-case-returns : (t : ℕ) → walk-case-lts.Need-returns (walk-case-calls t) (walk-case-at t) walk-case.Post
 unfolding moved movedIn
 walk-case-returns t c =
@@ -1318,15 +1336,15 @@ walk-case-returns t c =
       x .ensures .3 .noted,
     )
 
--- src/lib.rt:485:23
+-- src/lib.rt:499:23
 walk-case-enum-known-event-2 : (t : ℕ) → walk-case-lts.Need-enum-known-event-2 (walk-case-calls t) (walk-case-at t) walk-case.Post
 walk-case-enum-known-event-2 t c = c .match2 .keys1
 
--- src/lib.rt:486:43
+-- src/lib.rt:500:43
 walk-case-enum-told-2 : (t : ℕ) → walk-case-lts.Need-enum-told-2 (walk-case-calls t) (walk-case-at t) walk-case.Post
 walk-case-enum-told-2 t c = c .match2 .keys2
 
--- src/lib.rt:486:13
+-- src/lib.rt:500:13
 walk-case-walk-on-requires : (t : ℕ) → walk-case-lts.Need-walk-on-requires (walk-case-calls t) (walk-case-at t) walk-case.Post
 walk-case-walk-on-requires t c κs =
     let h = c .before .before .before .before .before .before .before .before .before .before .before .before .before .before .before .before .pre .1 .0 in
@@ -1335,7 +1353,7 @@ walk-case-walk-on-requires t c κs =
       (record { ready = walk-again refl (x .ensures .2) h; fields = c .before .before .before .before .before .before .before .before .before .before .before .before .before .node-by .ensures }, x .ensures .3 .noted),
     )
 
--- src/lib.rt:487:9
+-- src/lib.rt:501:9
 walk-case-after-requires : (t : ℕ) → walk-case-lts.Need-after-requires (walk-case-calls t) (walk-case-at t) walk-case.Post
 walk-case-after-requires t c κs =
     let a = c .before .before .before .before .before .before .before .before .before .before .before .before .before .before .before .before .before .before .before .args in
@@ -1356,11 +1374,11 @@ walk-case-after-requires t c κs =
           (parts-work (a .rec .now .now) (a .st .now) (a .env .now) (signalAt (a .p .now .now) (f .result .a)) (x .ensures .0) (sym (z .ensures) ∙ g .given .1))),
     )
 
--- src/lib.rt:487:9
+-- src/lib.rt:501:9
 walk-case-same-length-2 : (t : ℕ) → walk-case-lts.Need-same-length-2 (walk-case-calls t) (walk-case-at t) walk-case.Post
 walk-case-same-length-2 t c = c .before .before .before .walk-on .kept .1 .1 .1 .0
 
--- src/lib.rt:487:9
+-- src/lib.rt:501:9
 walk-case-returns-2 : (t : ℕ) → walk-case-lts.Need-returns-2 (walk-case-calls t) (walk-case-at t) walk-case.Post
 walk-case-returns-2 t c =
     let a = c .before .before .before .before .before .before .before .before .before .before .before .before .before .before .before .before .before .before .before .before .args in
@@ -1378,7 +1396,7 @@ walk-case-returns-2 t c =
       o .ensures .2,
     )
 
--- src/lib.rt:489:5
+-- src/lib.rt:503:5
 walk-case-jump-requires : (t : ℕ) → walk-case-lts.Need-jump-requires (walk-case-calls t) (walk-case-at t) walk-case.Post
 walk-case-jump-requires t c κs =
     let a = c .before .before .before .before .before .before .before .before .before .before .before .before .before .before .args in
@@ -1399,11 +1417,11 @@ walk-case-jump-requires t c κs =
       ),
     )
 
--- src/lib.rt:467:1
+-- src/lib.rt:481:1
 walk-case-same-length-3 : (t : ℕ) → walk-case-lts.Need-same-length-3 (walk-case-calls t) (walk-case-at t) walk-case.Post
 walk-case-same-length-3 t c = refl
 
--- src/lib.rt:467:1
+-- src/lib.rt:481:1
 walk-case-returns-3 : (t : ℕ) → walk-case-lts.Need-returns-3 (walk-case-calls t) (walk-case-at t) walk-case.Post
 walk-case-returns-3 t c =
     let a = c .before .before .before .before .before .before .before .before .before .before .before .before .before .before .before .args in
@@ -1418,20 +1436,20 @@ walk-case-returns-3 t c =
       x .ensures .3 .noted,
     )
 
--- src/lib.rt:507:13
+-- src/lib.rt:521:13
 walk-on-goes-requires : (t : ℕ) → walk-on-lts.Need-goes-requires (walk-on-calls t) (walk-on-at t) walk-on.Post
 walk-on-goes-requires t c κs =
     let k = case-part (c .before .before .before .before .before .before .pre .1 .0) in (omega (arith, k .less, c .before .before .before .before .before .before .pre .0), (k .ready, c .before .before .before .before .before .before .pre .1 .1))
 
--- src/lib.rt:508:9
+-- src/lib.rt:522:9
 walk-on-stay-requires : (t : ℕ) → walk-on-lts.Need-stay-requires (walk-on-calls t) (walk-on-at t) walk-on.Post
 walk-on-stay-requires t c κs = search needs
 
--- src/lib.rt:508:9
+-- src/lib.rt:522:9
 walk-on-same-length : (t : ℕ) → walk-on-lts.Need-same-length (walk-on-calls t) (walk-on-at t) walk-on.Post
 walk-on-same-length t c = c .before .before .before .goes .kept .1 .1 .1 .0
 
--- src/lib.rt:508:9
+-- src/lib.rt:522:9
 walk-on-returns : (t : ℕ) → walk-on-lts.Need-returns (walk-on-calls t) (walk-on-at t) walk-on.Post
 walk-on-returns t c =
     let a = c .before .before .before .before .before .before .before .before .before .before .args in
@@ -1445,29 +1463,29 @@ walk-on-returns t c =
       r .ensures .2,
     )
 
--- src/lib.rt:510:9
+-- src/lib.rt:524:9
 walk-on-walk-requires : (t : ℕ) → walk-on-lts.Need-walk-requires (walk-on-calls t) (walk-on-at t) walk-on.Post
 walk-on-walk-requires t c κs =
     let k = case-rest (c .before .before .before .before .before .before .pre .1 .0) (c .before .before .before .if1 .left) in
     (omega (arith, k .0, c .before .before .before .before .before .before .pre .0), (k .1, c .before .before .before .before .before .before .pre .1 .1))
 
--- src/lib.rt:511:26
+-- src/lib.rt:525:26
 walk-on-settled-requires : (t : ℕ) → walk-on-lts.Need-settled-requires (walk-on-calls t) (walk-on-at t) walk-on.Post
 walk-on-settled-requires t c κs = search needs
 
--- src/lib.rt:511:21
+-- src/lib.rt:525:21
 walk-on-enum-known-w : (t : ℕ) → walk-on-lts.Need-enum-known-w (walk-on-calls t) (walk-on-at t) walk-on.Post
 walk-on-enum-known-w t c = c .match .keys1
 
--- src/lib.rt:512:9
+-- src/lib.rt:526:9
 walk-on-enum-told : (t : ℕ) → walk-on-lts.Need-enum-told (walk-on-calls t) (walk-on-at t) walk-on.Post
 walk-on-enum-told t c = c .match .keys2
 
--- src/lib.rt:512:9
+-- src/lib.rt:526:9
 walk-on-same-length-2 : (t : ℕ) → walk-on-lts.Need-same-length-2 (walk-on-calls t) (walk-on-at t) walk-on.Post
 walk-on-same-length-2 t c = c .before .before .before .before .before .walk .kept .1 .1 .1 .0
 
--- src/lib.rt:512:9
+-- src/lib.rt:526:9
 walk-on-returns-2 : (t : ℕ) → walk-on-lts.Need-returns-2 (walk-on-calls t) (walk-on-at t) walk-on.Post
 walk-on-returns-2 t c =
     let a = c .before .before .before .before .before .before .before .before .before .before .before .before .args in
@@ -1481,7 +1499,7 @@ walk-on-returns-2 t c =
       o .ensures .2,
     )
 
--- src/lib.rt:514:9
+-- src/lib.rt:528:9
 walk-on-goes-requires-2 : (t : ℕ) → walk-on-lts.Need-goes-requires-2 (walk-on-calls t) (walk-on-at t) walk-on.Post
 walk-on-goes-requires-2 t c κs =
     let h = c .before .before .before .before .before .before .before .before .before .before .before .before .before .before .before .before .pre .1 .0 in
@@ -1491,11 +1509,11 @@ walk-on-goes-requires-2 t c κs =
       (ready-again (o .kept .1 .1 .1 .0) (o .ensures .1) (k .ready), o .ensures .2),
     )
 
--- src/lib.rt:515:14
+-- src/lib.rt:529:14
 walk-on-stay-requires-2 : (t : ℕ) → walk-on-lts.Need-stay-requires-2 (walk-on-calls t) (walk-on-at t) walk-on.Post
 walk-on-stay-requires-2 t c κs = search needs
 
--- src/lib.rt:515:5
+-- src/lib.rt:529:5
 walk-on-after-requires : (t : ℕ) → walk-on-lts.Need-after-requires (walk-on-calls t) (walk-on-at t) walk-on.Post
 walk-on-after-requires t c κs =
     let a = c .before .before .before .before .before .before .before .before .before .before .before .before .before .before .before .before .before .before .before .before .args in
@@ -1514,13 +1532,13 @@ walk-on-after-requires t c κs =
           (number-work (a .n .a) (case-part h .ready .node) (o .ensures .2) (a .rec .now .now) _ (o .last .1 .1 .1 .0) (q .result) (q .last .1 .1 .1 .0) (q .ensures .0)),
     )
 
--- src/lib.rt:493:1
+-- src/lib.rt:507:1
 walk-on-same-length-3 : (t : ℕ) → walk-on-lts.Need-same-length-3 (walk-on-calls t) (walk-on-at t) walk-on.Post
 walk-on-same-length-3 t c =
     c .before .before .before .before .goes2 .kept .1 .1 .1 .0
     ∙ c .before .before .before .before .before .before .before .before .before .before .before .before .before .before .walk .kept .1 .1 .1 .0
 
--- src/lib.rt:493:1
+-- src/lib.rt:507:1
 walk-on-returns-3 : (t : ℕ) → walk-on-lts.Need-returns-3 (walk-on-calls t) (walk-on-at t) walk-on.Post
 walk-on-returns-3 t c =
     let a = c .before .before .before .before .before .before .before .before .before .before .before .before .before .before .before .before .before .before .before .before .before .args in
@@ -1573,15 +1591,17 @@ pub +goes+in-switch+inside+update-delay+update-group+update-let+update-s+update-
     (in-switch-returns-2 t))
     (λ t. inside-lts.spec (inside-calls t) (inside-at t)
     inside.Post
+    (inside-kind-by-requires t)
+    (inside-returns t)
     (inside-mul-old t)
     (inside-element-copy-out-old t)
     (inside-mul-env t)
     (inside-element-write-env t)
-    (inside-goes-requires t)
+    (inside-update-s-requires t)
     (inside-mul-env-2 t)
     (inside-element-write-env-2 t)
     (inside-same-length t)
-    (inside-returns t))
+    (inside-returns-2 t))
     (λ t. update-delay-lts.spec (update-delay-calls t) (update-delay-at t)
     update-delay.Post
     (update-delay-evaluated-requires t)
@@ -1631,28 +1651,29 @@ pub +goes+in-switch+inside+update-delay+update-group+update-let+update-s+update-
     (update-let-enum-told-2 t)
     (update-let-same-length t)
     (update-let-returns-2 t)
+    (update-let-together-requires t)
     (update-let-inside-requires-2 t)
-    (update-let-later-requires t)
+    (update-let-after-requires t)
     (update-let-same-length-2 t)
     (update-let-returns-3 t))
     (λ t. update-s-lts.spec (update-s-calls t) (update-s-at t)
     update-s.Post
     (update-s-node-by-requires t)
-    (update-s-update-delay-requires t)
     (update-s-update-let-requires t)
+    (update-s-same-length t)
+    (update-s-returns t)
+    (update-s-update-delay-requires t)
+    (update-s-same-length-2 t)
+    (update-s-returns-2 t)
+    (update-s-returns-3 t)
     (update-s-update-switch-requires t)
     (update-s-update-group-requires t)
     (update-s-update-until-requires t)
-    (update-s-same-length t)
-    (update-s-returns t)
-    (update-s-same-length-2 t)
-    (update-s-returns-2 t)
     (update-s-same-length-3 t)
-    (update-s-returns-3 t)
-    (update-s-same-length-4 t)
     (update-s-returns-4 t)
-    (update-s-same-length-5 t)
+    (update-s-same-length-4 t)
     (update-s-returns-5 t)
+    (update-s-same-length-5 t)
     (update-s-returns-6 t))
     (λ t. update-switch-lts.spec (update-switch-calls t) (update-switch-at t)
     update-switch.Post

@@ -407,6 +407,7 @@ fn in_switch(
 }
 
 // A let continue updates its current part, its body or the branch that its cell names, the argument bound; a jump to one of its branches is caught.
+// (Of a branch that does nothing the argument is not made ready.)
 fn update_group(
     p: &&[u8],
     index: &[u16; 10080],
@@ -429,6 +430,9 @@ fn update_group(
     if has_branch(*p, index, n.b, which) {
         let branch = node_by(*p, index, which);
         let part = branch.a;
+        if kind_by(*p, index, part) <= 3 {
+            return catches(p, index, st, i, n, part, 1);
+        }
         let r = inside(p, index, rec, st, env, which, exactly(m), part, memo);
         return catches(p, index, st, i, n, part, r);
     }

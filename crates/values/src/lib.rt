@@ -31,10 +31,13 @@ pub fn is_maybe(t: u8) -> bool
     both(MAYBE_UNIT <= t, t <= MAYBE_INT)
 }
 
-// A present byte and a word are those of a value of type t.
+// A present byte and a word are those of a value of type t. (Most values are ints, of which only the present byte is asked.)
 pub fn value_fits(t: u8, present: u64, word: u64) -> bool
     ensures { λ r. ⌜ r ≡ valueFits t present word ⌝ }
 {
+    if t == INT {
+        return present == 1;
+    }
     let there = either(present == 1, both(present == 0, is_maybe(t)));
     let absent = either(word == 0, present == 1);
     let unit = either(word == 0, !either(t == UNIT, t == MAYBE_UNIT));

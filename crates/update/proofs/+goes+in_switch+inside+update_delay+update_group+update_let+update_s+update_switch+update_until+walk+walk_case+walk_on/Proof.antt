@@ -10,7 +10,7 @@ use Rattle.update.proofs.Evaluable.{evaluable}
 use Rattle.moves.proofs.WalkLaws.{walk-wrong, walk-took, walk-quiet, rest-work, last-on, broken-on, goes-on, until-broken, until-still, walked-within, walk-count, walk-still, occurs-plain}
 use Rattle.moves.proofs.KindLaws.{delay-stuck, delay-broken, delay-done, let-stuck, let-broken, let-done, switch-wrong, switch-broken, switch-caught, switch-quiet, switch-first, switch-second, group-first, group-branch, group-missing, leaf-updates, low-updates}
 use Rattle.rules.proofs.Signals.{until-left}
-use Rattle.moves.specs.Outcomes.{movedIn, walked}
+use Rattle.moves.specs.Outcomes.{countIn, movedIn, walked}
 use Rattle.rules.specs.Evaluate.{Env, bind}
 use Rattle.update.proofs.QuietLaws.{known-by, known-again}
 use Rattle.update.proofs.PassLaws.{passes-from, passes-fit, walk-passed}
@@ -249,7 +249,7 @@ abbrev update-delay-calls : ℕ → update-delay-lts.Claims
 update-delay-calls t = (evaluated-reads.Asked, evaluated-reads.Learnt, show-reads.Asked, show-reads.Learnt, goes-below t, goes.Post, settled-reads.Asked, settled-reads.Learnt, hold-reads.Asked, hold-reads.Learnt, stayed-reads.Asked, stayed-reads.Learnt)
 
 abbrev update-group-calls : ℕ → update-group-lts.Claims
-update-group-calls t = (own-cell-reads.Asked, own-cell-reads.Learnt, goes-below t, goes.Post, catches-reads.Asked, catches-reads.Learnt, branch-in-reads.Asked, branch-in-reads.Learnt, has-branch-reads.Asked, has-branch-reads.Learnt, node-by-reads.Asked, node-by-reads.Learnt, exactly-reads.Asked, exactly-reads.Learnt, inside-below t, inside.Post)
+update-group-calls t = (own-cell-reads.Asked, own-cell-reads.Learnt, goes-below t, goes.Post, catches-reads.Asked, catches-reads.Learnt, branch-in-reads.Asked, branch-in-reads.Learnt, has-branch-reads.Asked, has-branch-reads.Learnt, node-by-reads.Asked, node-by-reads.Learnt, kind-by-reads.Asked, kind-by-reads.Learnt, exactly-reads.Asked, exactly-reads.Learnt, inside-below t, inside.Post)
 
 abbrev update-let-calls : ℕ → update-let-lts.Claims
 update-let-calls t = (show-reads.Asked, show-reads.Learnt, inside-below t, inside.Post, settled-reads.Asked, settled-reads.Learnt, together-reads.Asked, together-reads.Learnt, after-reads.Asked, after-reads.Learnt)
@@ -548,7 +548,7 @@ update-delay-returns-3 t c =
       r .ensures .2,
     )
 
--- src/lib.rt:423:9
+-- src/lib.rt:424:9
 update-group-own-cell-requires : (t : ℕ) → update-group-lts.Need-own-cell-requires (update-group-calls t) (update-group-at t) update-group.Post
 update-group-own-cell-requires t c κs =
     let a = c .before .before .before .args in
@@ -556,13 +556,13 @@ update-group-own-cell-requires t c κs =
     let k = celled {s = length (a .st .now)} (h .ready .node) (h .ready .lent .table) (omega (arith, h .ready .lent .cells)) (group-cell (h .kind)) in
     (k .listed, k .room)
 
--- src/lib.rt:425:13
+-- src/lib.rt:426:13
 update-group-goes-requires : (t : ℕ) → update-group-lts.Need-goes-requires (update-group-calls t) (update-group-at t) update-group.Post
 update-group-goes-requires t c κs =
     let k = group-part (c .before .before .before .before .before .before .before .before .pre .1 .0) in
     (omega (arith, k .less, c .before .before .before .before .before .before .before .before .pre .0), (k .ready, c .before .before .before .before .before .before .before .before .pre .1 .1))
 
--- src/lib.rt:426:9
+-- src/lib.rt:427:9
 update-group-catches-requires : (t : ℕ) → update-group-lts.Need-catches-requires (update-group-calls t) (update-group-at t) update-group.Post
 update-group-catches-requires t c κs =
     let a = c .before .before .before .before .before .before .before .before .before .before .before .before .args in
@@ -574,11 +574,11 @@ update-group-catches-requires t c κs =
           (number-work (a .n .a) (group-part h .ready .node) (c .before .before .before .before .before .before .before .before .before .before .before .before .pre .1 .1) (a .rec .now .now) _ (a .st .now) (r .result) (r .last .1 .1 .1 .0) (r .ensures .0)),
     )
 
--- src/lib.rt:426:9
+-- src/lib.rt:427:9
 update-group-same-length : (t : ℕ) → update-group-lts.Need-same-length (update-group-calls t) (update-group-at t) update-group.Post
 update-group-same-length t c = c .before .before .catches .kept .1 .1 .0 ∙ c .before .before .before .before .before .before .goes .kept .1 .1 .1 .0
 
--- src/lib.rt:426:9
+-- src/lib.rt:427:9
 update-group-returns : (t : ℕ) → update-group-lts.Need-returns (update-group-calls t) (update-group-at t) update-group.Post
 update-group-returns t c =
     let a = c .before .before .before .before .before .before .before .before .before .before .before .before .before .before .before .args in
@@ -592,85 +592,127 @@ update-group-returns t c =
       r .ensures .2,
     )
 
--- src/lib.rt:428:9
+-- src/lib.rt:429:9
 update-group-branch-in-requires : (t : ℕ) → update-group-lts.Need-branch-in-requires (update-group-calls t) (update-group-at t) update-group.Post
 update-group-branch-in-requires t c κs = search needs
 
--- src/lib.rt:429:8
+-- src/lib.rt:430:8
 update-group-has-branch-requires : (t : ℕ) → update-group-lts.Need-has-branch-requires (update-group-calls t) (update-group-at t) update-group.Post
 update-group-has-branch-requires t c κs =
     let n = c .before .before .before .before .before .before .before .pre .1 .0 in list-first (n .ready .lent .table) (n .ready .node) (n .kind) (n .fields .b-is)
 
--- src/lib.rt:430:13
+-- src/lib.rt:431:13
 update-group-node-by-requires : (t : ℕ) → update-group-lts.Need-node-by-requires (update-group-calls t) (update-group-at t) update-group.Post
 update-group-node-by-requires t c κs =
     let h = c .before .before .before .before .before .before .before .before .before .before .pre .1 .0 in let k = branch-node h
     (c .before .before .has-branch .ensures) (c .before .if2 .taken) in (h .ready .lent .table, k .shaped, k .inside)
 
--- src/lib.rt:432:55
-update-group-exactly-requires : (t : ℕ) → update-group-lts.Need-exactly-requires (update-group-calls t) (update-group-at t) update-group.Post
-update-group-exactly-requires t c κs = search needs
+-- src/lib.rt:433:12
+update-group-kind-by-requires : (t : ℕ) → update-group-lts.Need-kind-by-requires (update-group-calls t) (update-group-at t) update-group.Post
+update-group-kind-by-requires t c κs =
+    let h = c .before .before .before .before .before .before .before .before .before .before .before .before .pre .1 .0 in
+    let d = c .before .before .before .before .has-branch in
+    let f = c .before .node-by in
+    let k = branch-part h (d .ensures) (c .before .before .before .if2 .taken) (f .ensures) .ready .node in (h .ready .lent .table, k .shaped, k .inside)
 
--- src/lib.rt:432:13
-update-group-inside-requires : (t : ℕ) → update-group-lts.Need-inside-requires (update-group-calls t) (update-group-at t) update-group.Post
-update-group-inside-requires t c κs =
+-- src/lib.rt:434:13
+update-group-catches-requires-2 : (t : ℕ) → update-group-lts.Need-catches-requires-2 (update-group-calls t) (update-group-at t) update-group.Post
+unfolding countIn
+update-group-catches-requires-2 t c κs =
     let h = c .before .before .before .before .before .before .before .before .before .before .before .before .before .before .before .pre .1 .0 in
     let d = c .before .before .before .before .before .before .before .has-branch in
     let f = c .before .before .before .before .node-by in
-    let m = c .before .before .before .before .before .before .before .before .before .before .before .own-cell in
-    let k = branch-part h (d .ensures) (c .before .before .before .before .before .before .if2 .taken) (f .ensures) in let b = branch-node h (d .ensures)
-    (c .before .before .before .before .before .before .if2 .taken) in (
-      omega (arith, k .less, c .before .before .before .before .before .before .before .before .before .before .before .before .before .before .before .pre .0),
-      (k .ready, omega (arith, b .inside, b .shaped .small), subst IsValue (sym (c .before .exactly .ensures)) (exact-value (m .result)), c .before .before .before .before .before .before .before .before .before .before .before .before .before .before .before .pre .1 .1),
-    )
+    (placed refl h, branch-part h (d .ensures) (c .before .before .before .before .before .before .if2 .taken) (f .ensures) .ready .node, omega arith)
 
--- src/lib.rt:433:9
-update-group-catches-requires-2 : (t : ℕ) → update-group-lts.Need-catches-requires-2 (update-group-calls t) (update-group-at t) update-group.Post
-update-group-catches-requires-2 t c κs =
-    let a = c .before .before .before .before .before .before .before .before .before .before .before .before .before .before .before .before .before .before .before .args in
-    let h = c .before .before .before .before .before .before .before .before .before .before .before .before .before .before .before .before .before .before .before .pre .1 .0 in
-    let r = c .before .before .before .inside in
-    let d = c .before .before .before .before .before .before .before .before .before .before .before .has-branch in
-    let f = c .before .before .before .before .before .before .before .before .node-by in (
-      placed (r .kept .1 .1 .1 .0) h,
-      branch-part h (d .ensures) (c .before .before .before .before .before .before .before .before .before .before .if2 .taken)
-          (f .ensures) .ready .node,
-      branch-sum h (d .ensures) (c .before .before .before .before .before .before .before .before .before .before .if2 .taken) (f .ensures)
-          (number-work (f .result .a) (branch-part h (d .ensures) (c .before .before .before .before .before .before .before .before .before .before .if2 .taken) (f .ensures) .ready .node) (c .before .before .before .before .before .before .before .before .before .before .before .before .before .before .before .before .before .before .before .pre .1 .1) (a .rec .now .now) _ (a .st .now) (r .result) (r .last .1 .1 .1 .0) (r .ensures .0)),
-    )
-
--- src/lib.rt:433:9
+-- src/lib.rt:434:13
 update-group-same-length-2 : (t : ℕ) → update-group-lts.Need-same-length-2 (update-group-calls t) (update-group-at t) update-group.Post
-update-group-same-length-2 t c = c .before .before .catches2 .kept .1 .1 .0 ∙ c .before .before .before .before .before .before .inside .kept .1 .1 .1 .0
+update-group-same-length-2 t c = c .before .before .catches2 .kept .1 .1 .0
 
--- src/lib.rt:433:9
+-- src/lib.rt:434:13
 update-group-returns-2 : (t : ℕ) → update-group-lts.Need-returns-2 (update-group-calls t) (update-group-at t) update-group.Post
 update-group-returns-2 t c =
+    let a = c .before .before .before .before .before .before .before .before .before .before .before .before .before .before .before .before .before .before .args in
+    let h = c .before .before .before .before .before .before .before .before .before .before .before .before .before .before .before .before .before .before .pre .1 .0 in
+    let d = c .before .before .before .before .before .before .before .before .before .before .has-branch in
+    let f = c .before .before .before .before .before .before .before .node-by in
+    let m = c .before .before .before .before .before .before .before .before .before .before .before .before .before .before .own-cell in
+    let i = cell-number (h .ready .node) (h .ready .lent .table) in (
+      group-branch (a .p .now .now) (a .i) (h .ready .node) (h .fields) (a .rec .now .now) (a .env .now) (a .st .now) (memoryIn (a .memo .now)) (m .ensures) i (h .kind)
+          (c .before .before .before .before .before .before .before .before .before .before .before .before .before .if1 .left)
+          (c .before .before .before .before .before .before .before .before .before .before .before .before .branch-in .ensures)
+          (d .ensures)
+          (c .before .before .before .before .before .before .before .before .before .if2 .taken)
+          refl (f .ensures)
+          (low-updates (a .p .now .now) (f .result .a) (branch-part h (d .ensures) (c .before .before .before .before .before .before .before .before .before .if2 .taken) (f .ensures) .ready .node) (a .rec .now .now) (bind (a .env .now) (c .before .before .before .before .before .before .before .before .before .before .before .before .branch-in .result) (unpacked (m .result))) (a .st .now) (memoryIn (a .memo .now)) (c .before .before .before .before .before .kind-by .ensures) (c .before .before .before .before .if3 .taken))
+          (c .before .before .catches2 .ensures),
+      refl,
+      c .before .before .before .before .before .before .before .before .before .before .before .before .before .before .before .before .before .before .pre .1 .1,
+    )
+
+-- src/lib.rt:436:55
+update-group-exactly-requires : (t : ℕ) → update-group-lts.Need-exactly-requires (update-group-calls t) (update-group-at t) update-group.Post
+update-group-exactly-requires t c κs = search needs
+
+-- src/lib.rt:436:13
+update-group-inside-requires : (t : ℕ) → update-group-lts.Need-inside-requires (update-group-calls t) (update-group-at t) update-group.Post
+update-group-inside-requires t c κs =
+    let h = c .before .before .before .before .before .before .before .before .before .before .before .before .before .before .before .before .before .before .pre .1 .0 in
+    let d = c .before .before .before .before .before .before .before .before .before .before .has-branch in
+    let f = c .before .before .before .before .before .before .before .node-by in
+    let m = c .before .before .before .before .before .before .before .before .before .before .before .before .before .before .own-cell in
+    let k = branch-part h (d .ensures) (c .before .before .before .before .before .before .before .before .before .if2 .taken) (f .ensures) in let b = branch-node h (d .ensures)
+    (c .before .before .before .before .before .before .before .before .before .if2 .taken) in (
+      omega (arith, k .less, c .before .before .before .before .before .before .before .before .before .before .before .before .before .before .before .before .before .before .pre .0),
+      (k .ready, omega (arith, b .inside, b .shaped .small), subst IsValue (sym (c .before .exactly .ensures)) (exact-value (m .result)), c .before .before .before .before .before .before .before .before .before .before .before .before .before .before .before .before .before .before .pre .1 .1),
+    )
+
+-- src/lib.rt:437:9
+update-group-catches-requires-3 : (t : ℕ) → update-group-lts.Need-catches-requires-3 (update-group-calls t) (update-group-at t) update-group.Post
+update-group-catches-requires-3 t c κs =
     let a = c .before .before .before .before .before .before .before .before .before .before .before .before .before .before .before .before .before .before .before .before .before .before .args in
     let h = c .before .before .before .before .before .before .before .before .before .before .before .before .before .before .before .before .before .before .before .before .before .before .pre .1 .0 in
-    let m = c .before .before .before .before .before .before .before .before .before .before .before .before .before .before .before .before .before .before .own-cell in
+    let d = c .before .before .before .before .before .before .before .before .before .before .before .before .before .before .has-branch in
     let f = c .before .before .before .before .before .before .before .before .before .before .before .node-by in
+    let r = c .before .before .before .inside in (
+      placed (r .kept .1 .1 .1 .0) h,
+      branch-part h (d .ensures) (c .before .before .before .before .before .before .before .before .before .before .before .before .before .if2 .taken) (f .ensures) .ready .node,
+      branch-sum h (d .ensures) (c .before .before .before .before .before .before .before .before .before .before .before .before .before .if2 .taken) (f .ensures)
+          (number-work (f .result .a) (branch-part h (d .ensures) (c .before .before .before .before .before .before .before .before .before .before .before .before .before .if2 .taken) (f .ensures) .ready .node) (c .before .before .before .before .before .before .before .before .before .before .before .before .before .before .before .before .before .before .before .before .before .before .pre .1 .1) (a .rec .now .now) _ (a .st .now) (r .result) (r .last .1 .1 .1 .0) (r .ensures .0)),
+    )
+
+-- src/lib.rt:437:9
+update-group-same-length-3 : (t : ℕ) → update-group-lts.Need-same-length-3 (update-group-calls t) (update-group-at t) update-group.Post
+update-group-same-length-3 t c = c .before .before .catches3 .kept .1 .1 .0 ∙ c .before .before .before .before .before .before .inside .kept .1 .1 .1 .0
+
+-- src/lib.rt:437:9
+update-group-returns-3 : (t : ℕ) → update-group-lts.Need-returns-3 (update-group-calls t) (update-group-at t) update-group.Post
+update-group-returns-3 t c =
+    let a = c .before .before .before .before .before .before .before .before .before .before .before .before .before .before .before .before .before .before .before .before .before .before .before .before .before .args in
+    let h = c .before .before .before .before .before .before .before .before .before .before .before .before .before .before .before .before .before .before .before .before .before .before .before .before .before .pre .1 .0 in
+    let d = c .before .before .before .before .before .before .before .before .before .before .before .before .before .before .before .before .before .has-branch in
+    let f = c .before .before .before .before .before .before .before .before .before .before .before .before .before .before .node-by in
+    let m = c .before .before .before .before .before .before .before .before .before .before .before .before .before .before .before .before .before .before .before .before .before .own-cell in
     let r = c .before .before .before .before .before .before .inside in
     let i = cell-number (h .ready .node) (h .ready .lent .table) in (
       group-branch (a .p .now .now) (a .i) (h .ready .node) (h .fields) (a .rec .now .now) (a .env .now) (a .st .now) (memoryIn (a .memo .now)) (m .ensures) i (h .kind)
-          (c .before .before .before .before .before .before .before .before .before .before .before .before .before .before .before .before .before .if1 .left)
-          (c .before .before .before .before .before .before .before .before .before .before .before .before .before .before .before .before .branch-in .ensures)
-          (c .before .before .before .before .before .before .before .before .before .before .before .before .before .before .has-branch .ensures)
-          (c .before .before .before .before .before .before .before .before .before .before .before .before .before .if2 .taken)
+          (c .before .before .before .before .before .before .before .before .before .before .before .before .before .before .before .before .before .before .before .before .if1 .left)
+          (c .before .before .before .before .before .before .before .before .before .before .before .before .before .before .before .before .before .before .before .branch-in .ensures)
+          (d .ensures)
+          (c .before .before .before .before .before .before .before .before .before .before .before .before .before .before .before .before .if2 .taken)
           (ap unpacked (c .before .before .before .before .before .before .before .before .exactly .ensures) ∙ exact-same (m .result)) (f .ensures) (r .ensures .0)
-          (c .before .before .catches2 .ensures),
+          (c .before .before .catches3 .ensures),
       r .ensures .1,
       r .ensures .2,
     )
 
--- src/lib.rt:410:1
-update-group-same-length-3 : (t : ℕ) → update-group-lts.Need-same-length-3 (update-group-calls t) (update-group-at t) update-group.Post
-update-group-same-length-3 t c = refl
+-- src/lib.rt:411:1
+update-group-same-length-4 : (t : ℕ) → update-group-lts.Need-same-length-4 (update-group-calls t) (update-group-at t) update-group.Post
+update-group-same-length-4 t c = refl
 
--- src/lib.rt:410:1
-update-group-returns-3 : (t : ℕ) → update-group-lts.Need-returns-3 (update-group-calls t) (update-group-at t) update-group.Post
+-- src/lib.rt:411:1
+update-group-returns-4 : (t : ℕ) → update-group-lts.Need-returns-4 (update-group-calls t) (update-group-at t) update-group.Post
 unfolding moved movedIn
-update-group-returns-3 t c =
+update-group-returns-4 t c =
     let a = c .before .before .before .before .before .before .before .before .before .args in
     let h = c .before .before .before .before .before .before .before .before .before .pre .1 .0 in
     let m = c .before .before .before .before .before .own-cell in
@@ -1133,23 +1175,23 @@ update-switch-returns-4 t c =
       r .ensures .2,
     )
 
--- src/lib.rt:452:9
+-- src/lib.rt:456:9
 update-until-walk-requires : (t : ℕ) → update-until-lts.Need-walk-requires (update-until-calls t) (update-until-at t) update-until.Post
 update-until-walk-requires t c κs = let k = until-parts (c .before .before .before .before .pre .1 .0) .1 in (omega (arith, k .0, c .before .before .before .before .pre .0), (k .1, c .before .before .before .before .pre .1 .1))
 
--- src/lib.rt:453:26
+-- src/lib.rt:457:26
 update-until-settled-requires : (t : ℕ) → update-until-lts.Need-settled-requires (update-until-calls t) (update-until-at t) update-until.Post
 update-until-settled-requires t c κs = search needs
 
--- src/lib.rt:453:21
+-- src/lib.rt:457:21
 update-until-enum-known-u : (t : ℕ) → update-until-lts.Need-enum-known-u (update-until-calls t) (update-until-at t) update-until.Post
 update-until-enum-known-u t c = c .match .keys1
 
--- src/lib.rt:454:9
+-- src/lib.rt:458:9
 update-until-enum-told : (t : ℕ) → update-until-lts.Need-enum-told (update-until-calls t) (update-until-at t) update-until.Post
 update-until-enum-told t c = c .match .keys2
 
--- src/lib.rt:454:9
+-- src/lib.rt:458:9
 update-until-ruled-requires : (t : ℕ) → update-until-lts.Need-ruled-requires (update-until-calls t) (update-until-at t) update-until.Post
 update-until-ruled-requires t c κs =
     let a = c .before .before .before .before .before .before .before .before .before .before .args in
@@ -1161,11 +1203,11 @@ update-until-ruled-requires t c κs =
       walk-count (a .n .b) (until-parts h .1 .1 .node) (c .before .before .before .before .before .before .before .before .before .before .pre .1 .1) (a .rec .now .now) (a .env .now) (a .st .now) (movedIn (o .result)) (o .last .1 .1 .1 .0) (o .ensures .0),
     ))
 
--- src/lib.rt:454:9
+-- src/lib.rt:458:9
 update-until-same-length : (t : ℕ) → update-until-lts.Need-same-length (update-until-calls t) (update-until-at t) update-until.Post
 update-until-same-length t c = c .before .before .before .before .before .before .walk .kept .1 .1 .1 .0
 
--- src/lib.rt:454:9
+-- src/lib.rt:458:9
 update-until-returns : (t : ℕ) → update-until-lts.Need-returns (update-until-calls t) (update-until-at t) update-until.Post
 update-until-returns t c =
     let a = c .before .before .before .before .before .before .before .before .before .before .before .args in
@@ -1179,7 +1221,7 @@ update-until-returns t c =
       o .ensures .2,
     )
 
--- src/lib.rt:456:9
+-- src/lib.rt:460:9
 update-until-goes-requires : (t : ℕ) → update-until-lts.Need-goes-requires (update-until-calls t) (update-until-at t) update-until.Post
 update-until-goes-requires t c κs =
     let h = c .before .before .before .before .before .before .before .before .before .before .before .before .before .before .pre .1 .0 in
@@ -1189,11 +1231,11 @@ update-until-goes-requires t c κs =
       (ready-again (o .kept .1 .1 .1 .0) (o .ensures .1) (k .ready), o .ensures .2),
     )
 
--- src/lib.rt:457:20
+-- src/lib.rt:461:20
 update-until-stay-requires : (t : ℕ) → update-until-lts.Need-stay-requires (update-until-calls t) (update-until-at t) update-until.Post
 update-until-stay-requires t c κs = search needs
 
--- src/lib.rt:457:11
+-- src/lib.rt:461:11
 update-until-after-requires : (t : ℕ) → update-until-lts.Need-after-requires (update-until-calls t) (update-until-at t) update-until.Post
 update-until-after-requires t c κs =
     let a = c .before .before .before .before .before .before .before .before .before .before .before .before .before .before .before .before .before .before .args in
@@ -1210,7 +1252,7 @@ update-until-after-requires t c κs =
           (number-work (a .n .a) (until-parts h .0 .ready .node) (o .ensures .2) (a .rec .now .now) _ (o .last .1 .1 .1 .0) (r .result) (r .last .1 .1 .1 .0) (r .ensures .0)),
     )
 
--- src/lib.rt:457:5
+-- src/lib.rt:461:5
 update-until-ruled-requires-2 : (t : ℕ) → update-until-lts.Need-ruled-requires-2 (update-until-calls t) (update-until-at t) update-until.Post
 update-until-ruled-requires-2 t c κs =
     let a = c .before .before .before .before .before .before .before .before .before .before .before .before .before .before .before .before .before .before .before .args in
@@ -1229,13 +1271,13 @@ update-until-ruled-requires-2 t c κs =
           (number-work (a .n .a) (until-parts h .0 .ready .node) (o .ensures .2) (a .rec .now .now) _ (o .last .1 .1 .1 .0) (r .result) (r .last .1 .1 .1 .0) (r .ensures .0)),
     )
 
--- src/lib.rt:439:1
+-- src/lib.rt:443:1
 update-until-same-length-2 : (t : ℕ) → update-until-lts.Need-same-length-2 (update-until-calls t) (update-until-at t) update-until.Post
 update-until-same-length-2 t c =
     c .before .before .before .before .before .goes .kept .1 .1 .1 .0
     ∙ c .before .before .before .before .before .before .before .before .before .before .before .before .before .before .before .walk .kept .1 .1 .1 .0
 
--- src/lib.rt:439:1
+-- src/lib.rt:443:1
 update-until-returns-2 : (t : ℕ) → update-until-lts.Need-returns-2 (update-until-calls t) (update-until-at t) update-until.Post
 update-until-returns-2 t c =
     let a = c .before .before .before .before .before .before .before .before .before .before .before .before .before .before .before .before .before .before .before .before .args in
@@ -1252,11 +1294,11 @@ update-until-returns-2 t c =
       r .ensures .2,
     )
 
--- src/lib.rt:473:9
+-- src/lib.rt:477:9
 walk-pass-requires : (t : ℕ) → walk-lts.Need-pass-requires (walk-calls t) (walk-at t) walk.Post
 walk-pass-requires t c κs = c .before .before .before .pre .1 .0
 
--- src/lib.rt:476:9
+-- src/lib.rt:480:9
 walk-walk-case-requires : (t : ℕ) → walk-lts.Need-walk-case-requires (walk-calls t) (walk-at t) walk.Post
 walk-walk-case-requires t c κs =
     let a = c .before .before .before .before .before .before .before .before .args in
@@ -1265,7 +1307,7 @@ walk-walk-case-requires t c κs =
     let s = passes-from (a .rec .now .now) (a .st .now) h (y .ensures .0) in
     (omega (arith, s .down, c .before .before .before .before .before .before .before .before .pre .0), (walk-again refl (y .ensures .1) (s .ready), c .before .before .before .before .before .before .before .before .pre .1 .1, known-again (y .ensures .1) (y .ensures .2)))
 
--- src/lib.rt:477:5
+-- src/lib.rt:481:5
 walk-added-requires : (t : ℕ) → walk-lts.Need-added-requires (walk-calls t) (walk-at t) walk.Post
 walk-added-requires t c κs =
     let a = c .before .before .before .before .before .before .before .before .before .before .before .args in
@@ -1275,11 +1317,11 @@ walk-added-requires t c κs =
     passes-fit h (passes-from (a .rec .now .now) (a .st .now) h (y .ensures .0)) (c .before .before .before .before .before .before .before .before .before .before .before .pre .1 .1) (o .result) (o .last .1 .1 .1 .0)
     (o .ensures .0 ∙ ap (λ (e : Env). walked (a .rec .now .now) e (casesAt (a .p .now .now) (y .result .passed .at)) (a .st .now) (memoryIn (a .memo .now))) (y .ensures .1))
 
--- src/lib.rt:461:1
+-- src/lib.rt:465:1
 walk-same-length : (t : ℕ) → walk-lts.Need-same-length (walk-calls t) (walk-at t) walk.Post
 walk-same-length t c = c .before .before .before .walk-case .kept .1 .1 .1 .0
 
--- src/lib.rt:461:1
+-- src/lib.rt:465:1
 walk-returns : (t : ℕ) → walk-lts.Need-returns (walk-calls t) (walk-at t) walk.Post
 walk-returns t c =
     let a = c .before .before .before .before .before .before .before .before .before .before .before .before .args in
@@ -1293,11 +1335,11 @@ walk-returns t c =
       o .ensures .2,
     )
 
--- src/lib.rt:494:9
+-- src/lib.rt:498:9
 walk-case-node-by-requires : (t : ℕ) → walk-case-lts.Need-node-by-requires (walk-case-calls t) (walk-case-at t) walk-case.Post
 walk-case-node-by-requires t c κs = let h = c .before .before .pre .1 .0 in (h .lent .table, h .node .shaped, h .node .inside)
 
--- src/lib.rt:495:9
+-- src/lib.rt:499:9
 walk-case-event-of-requires : (t : ℕ) → walk-case-lts.Need-event-of-requires (walk-case-calls t) (walk-case-at t) walk-case.Post
 walk-case-event-of-requires t c κs =
     let a = c .before .before .before .before .before .before .args in
@@ -1305,23 +1347,23 @@ walk-case-event-of-requires t c κs =
     let f = c .before .before .before .node-by in
     (evaluable (a .st .now) (a .env .now) (case-part (record { ready = h; fields = f .ensures })), c .before .before .before .before .before .before .pre .1 .1, known-by (f .ensures .a-is) (c .before .before .before .before .before .before .pre .1 .2))
 
--- src/lib.rt:496:34
+-- src/lib.rt:500:34
 walk-case-apart-requires : (t : ℕ) → walk-case-lts.Need-apart-requires (walk-case-calls t) (walk-case-at t) walk-case.Post
 walk-case-apart-requires t c κs = search needs
 
--- src/lib.rt:496:22
+-- src/lib.rt:500:22
 walk-case-enum-known-event : (t : ℕ) → walk-case-lts.Need-enum-known-event (walk-case-calls t) (walk-case-at t) walk-case.Post
 walk-case-enum-known-event t c = c .match .keys1
 
--- src/lib.rt:497:9
+-- src/lib.rt:501:9
 walk-case-enum-told : (t : ℕ) → walk-case-lts.Need-enum-told (walk-case-calls t) (walk-case-at t) walk-case.Post
 walk-case-enum-told t c = c .match .keys2
 
--- src/lib.rt:497:9
+-- src/lib.rt:501:9
 walk-case-same-length : (t : ℕ) → walk-case-lts.Need-same-length (walk-case-calls t) (walk-case-at t) walk-case.Post
 walk-case-same-length t c = refl
 
--- src/lib.rt:497:9
+-- src/lib.rt:501:9
 walk-case-returns : (t : ℕ) → walk-case-lts.Need-returns (walk-case-calls t) (walk-case-at t) walk-case.Post
 unfolding moved movedIn
 walk-case-returns t c =
@@ -1336,15 +1378,15 @@ walk-case-returns t c =
       x .ensures .3 .noted,
     )
 
--- src/lib.rt:499:23
+-- src/lib.rt:503:23
 walk-case-enum-known-event-2 : (t : ℕ) → walk-case-lts.Need-enum-known-event-2 (walk-case-calls t) (walk-case-at t) walk-case.Post
 walk-case-enum-known-event-2 t c = c .match2 .keys1
 
--- src/lib.rt:500:43
+-- src/lib.rt:504:43
 walk-case-enum-told-2 : (t : ℕ) → walk-case-lts.Need-enum-told-2 (walk-case-calls t) (walk-case-at t) walk-case.Post
 walk-case-enum-told-2 t c = c .match2 .keys2
 
--- src/lib.rt:500:13
+-- src/lib.rt:504:13
 walk-case-walk-on-requires : (t : ℕ) → walk-case-lts.Need-walk-on-requires (walk-case-calls t) (walk-case-at t) walk-case.Post
 walk-case-walk-on-requires t c κs =
     let h = c .before .before .before .before .before .before .before .before .before .before .before .before .before .before .before .before .pre .1 .0 in
@@ -1353,7 +1395,7 @@ walk-case-walk-on-requires t c κs =
       (record { ready = walk-again refl (x .ensures .2) h; fields = c .before .before .before .before .before .before .before .before .before .before .before .before .before .node-by .ensures }, x .ensures .3 .noted),
     )
 
--- src/lib.rt:501:9
+-- src/lib.rt:505:9
 walk-case-after-requires : (t : ℕ) → walk-case-lts.Need-after-requires (walk-case-calls t) (walk-case-at t) walk-case.Post
 walk-case-after-requires t c κs =
     let a = c .before .before .before .before .before .before .before .before .before .before .before .before .before .before .before .before .before .before .before .args in
@@ -1374,11 +1416,11 @@ walk-case-after-requires t c κs =
           (parts-work (a .rec .now .now) (a .st .now) (a .env .now) (signalAt (a .p .now .now) (f .result .a)) (x .ensures .0) (sym (z .ensures) ∙ g .given .1))),
     )
 
--- src/lib.rt:501:9
+-- src/lib.rt:505:9
 walk-case-same-length-2 : (t : ℕ) → walk-case-lts.Need-same-length-2 (walk-case-calls t) (walk-case-at t) walk-case.Post
 walk-case-same-length-2 t c = c .before .before .before .walk-on .kept .1 .1 .1 .0
 
--- src/lib.rt:501:9
+-- src/lib.rt:505:9
 walk-case-returns-2 : (t : ℕ) → walk-case-lts.Need-returns-2 (walk-case-calls t) (walk-case-at t) walk-case.Post
 walk-case-returns-2 t c =
     let a = c .before .before .before .before .before .before .before .before .before .before .before .before .before .before .before .before .before .before .before .before .args in
@@ -1396,7 +1438,7 @@ walk-case-returns-2 t c =
       o .ensures .2,
     )
 
--- src/lib.rt:503:5
+-- src/lib.rt:507:5
 walk-case-jump-requires : (t : ℕ) → walk-case-lts.Need-jump-requires (walk-case-calls t) (walk-case-at t) walk-case.Post
 walk-case-jump-requires t c κs =
     let a = c .before .before .before .before .before .before .before .before .before .before .before .before .before .before .args in
@@ -1417,11 +1459,11 @@ walk-case-jump-requires t c κs =
       ),
     )
 
--- src/lib.rt:481:1
+-- src/lib.rt:485:1
 walk-case-same-length-3 : (t : ℕ) → walk-case-lts.Need-same-length-3 (walk-case-calls t) (walk-case-at t) walk-case.Post
 walk-case-same-length-3 t c = refl
 
--- src/lib.rt:481:1
+-- src/lib.rt:485:1
 walk-case-returns-3 : (t : ℕ) → walk-case-lts.Need-returns-3 (walk-case-calls t) (walk-case-at t) walk-case.Post
 walk-case-returns-3 t c =
     let a = c .before .before .before .before .before .before .before .before .before .before .before .before .before .before .before .args in
@@ -1436,20 +1478,20 @@ walk-case-returns-3 t c =
       x .ensures .3 .noted,
     )
 
--- src/lib.rt:521:13
+-- src/lib.rt:525:13
 walk-on-goes-requires : (t : ℕ) → walk-on-lts.Need-goes-requires (walk-on-calls t) (walk-on-at t) walk-on.Post
 walk-on-goes-requires t c κs =
     let k = case-part (c .before .before .before .before .before .before .pre .1 .0) in (omega (arith, k .less, c .before .before .before .before .before .before .pre .0), (k .ready, c .before .before .before .before .before .before .pre .1 .1))
 
--- src/lib.rt:522:9
+-- src/lib.rt:526:9
 walk-on-stay-requires : (t : ℕ) → walk-on-lts.Need-stay-requires (walk-on-calls t) (walk-on-at t) walk-on.Post
 walk-on-stay-requires t c κs = search needs
 
--- src/lib.rt:522:9
+-- src/lib.rt:526:9
 walk-on-same-length : (t : ℕ) → walk-on-lts.Need-same-length (walk-on-calls t) (walk-on-at t) walk-on.Post
 walk-on-same-length t c = c .before .before .before .goes .kept .1 .1 .1 .0
 
--- src/lib.rt:522:9
+-- src/lib.rt:526:9
 walk-on-returns : (t : ℕ) → walk-on-lts.Need-returns (walk-on-calls t) (walk-on-at t) walk-on.Post
 walk-on-returns t c =
     let a = c .before .before .before .before .before .before .before .before .before .before .args in
@@ -1463,29 +1505,29 @@ walk-on-returns t c =
       r .ensures .2,
     )
 
--- src/lib.rt:524:9
+-- src/lib.rt:528:9
 walk-on-walk-requires : (t : ℕ) → walk-on-lts.Need-walk-requires (walk-on-calls t) (walk-on-at t) walk-on.Post
 walk-on-walk-requires t c κs =
     let k = case-rest (c .before .before .before .before .before .before .pre .1 .0) (c .before .before .before .if1 .left) in
     (omega (arith, k .0, c .before .before .before .before .before .before .pre .0), (k .1, c .before .before .before .before .before .before .pre .1 .1))
 
--- src/lib.rt:525:26
+-- src/lib.rt:529:26
 walk-on-settled-requires : (t : ℕ) → walk-on-lts.Need-settled-requires (walk-on-calls t) (walk-on-at t) walk-on.Post
 walk-on-settled-requires t c κs = search needs
 
--- src/lib.rt:525:21
+-- src/lib.rt:529:21
 walk-on-enum-known-w : (t : ℕ) → walk-on-lts.Need-enum-known-w (walk-on-calls t) (walk-on-at t) walk-on.Post
 walk-on-enum-known-w t c = c .match .keys1
 
--- src/lib.rt:526:9
+-- src/lib.rt:530:9
 walk-on-enum-told : (t : ℕ) → walk-on-lts.Need-enum-told (walk-on-calls t) (walk-on-at t) walk-on.Post
 walk-on-enum-told t c = c .match .keys2
 
--- src/lib.rt:526:9
+-- src/lib.rt:530:9
 walk-on-same-length-2 : (t : ℕ) → walk-on-lts.Need-same-length-2 (walk-on-calls t) (walk-on-at t) walk-on.Post
 walk-on-same-length-2 t c = c .before .before .before .before .before .walk .kept .1 .1 .1 .0
 
--- src/lib.rt:526:9
+-- src/lib.rt:530:9
 walk-on-returns-2 : (t : ℕ) → walk-on-lts.Need-returns-2 (walk-on-calls t) (walk-on-at t) walk-on.Post
 walk-on-returns-2 t c =
     let a = c .before .before .before .before .before .before .before .before .before .before .before .before .args in
@@ -1499,7 +1541,7 @@ walk-on-returns-2 t c =
       o .ensures .2,
     )
 
--- src/lib.rt:528:9
+-- src/lib.rt:532:9
 walk-on-goes-requires-2 : (t : ℕ) → walk-on-lts.Need-goes-requires-2 (walk-on-calls t) (walk-on-at t) walk-on.Post
 walk-on-goes-requires-2 t c κs =
     let h = c .before .before .before .before .before .before .before .before .before .before .before .before .before .before .before .before .pre .1 .0 in
@@ -1509,11 +1551,11 @@ walk-on-goes-requires-2 t c κs =
       (ready-again (o .kept .1 .1 .1 .0) (o .ensures .1) (k .ready), o .ensures .2),
     )
 
--- src/lib.rt:529:14
+-- src/lib.rt:533:14
 walk-on-stay-requires-2 : (t : ℕ) → walk-on-lts.Need-stay-requires-2 (walk-on-calls t) (walk-on-at t) walk-on.Post
 walk-on-stay-requires-2 t c κs = search needs
 
--- src/lib.rt:529:5
+-- src/lib.rt:533:5
 walk-on-after-requires : (t : ℕ) → walk-on-lts.Need-after-requires (walk-on-calls t) (walk-on-at t) walk-on.Post
 walk-on-after-requires t c κs =
     let a = c .before .before .before .before .before .before .before .before .before .before .before .before .before .before .before .before .before .before .before .before .args in
@@ -1532,13 +1574,13 @@ walk-on-after-requires t c κs =
           (number-work (a .n .a) (case-part h .ready .node) (o .ensures .2) (a .rec .now .now) _ (o .last .1 .1 .1 .0) (q .result) (q .last .1 .1 .1 .0) (q .ensures .0)),
     )
 
--- src/lib.rt:507:1
+-- src/lib.rt:511:1
 walk-on-same-length-3 : (t : ℕ) → walk-on-lts.Need-same-length-3 (walk-on-calls t) (walk-on-at t) walk-on.Post
 walk-on-same-length-3 t c =
     c .before .before .before .before .goes2 .kept .1 .1 .1 .0
     ∙ c .before .before .before .before .before .before .before .before .before .before .before .before .before .before .walk .kept .1 .1 .1 .0
 
--- src/lib.rt:507:1
+-- src/lib.rt:511:1
 walk-on-returns-3 : (t : ℕ) → walk-on-lts.Need-returns-3 (walk-on-calls t) (walk-on-at t) walk-on.Post
 walk-on-returns-3 t c =
     let a = c .before .before .before .before .before .before .before .before .before .before .before .before .before .before .before .before .before .before .before .before .before .args in
@@ -1630,13 +1672,17 @@ pub +goes+in-switch+inside+update-delay+update-group+update-let+update-s+update-
     (update-group-branch-in-requires t)
     (update-group-has-branch-requires t)
     (update-group-node-by-requires t)
-    (update-group-exactly-requires t)
-    (update-group-inside-requires t)
+    (update-group-kind-by-requires t)
     (update-group-catches-requires-2 t)
     (update-group-same-length-2 t)
     (update-group-returns-2 t)
+    (update-group-exactly-requires t)
+    (update-group-inside-requires t)
+    (update-group-catches-requires-3 t)
     (update-group-same-length-3 t)
-    (update-group-returns-3 t))
+    (update-group-returns-3 t)
+    (update-group-same-length-4 t)
+    (update-group-returns-4 t))
     (λ t. update-let-lts.spec (update-let-calls t) (update-let-at t)
     update-let.Post
     (update-let-mul-e t)

@@ -41,18 +41,37 @@ pub record Listed (p : Bytes) (index : List ℕ) : Type 0 where
 abbrev pub tableRoom : ℕ
 tableRoom = 10080
 
+-- Where the columns begin: the kinds, the types, the fields a, b and c, and the values, four places each.
+abbrev pub kindsFrom : ℕ
+kindsFrom = 1008
+
+abbrev pub typesFrom : ℕ
+typesFrom = 2016
+
+abbrev pub aFrom : ℕ
+aFrom = 3024
+
+abbrev pub bFrom : ℕ
+bFrom = 4032
+
+abbrev pub cFrom : ℕ
+cFrom = 5040
+
+abbrev pub valuesFrom : ℕ
+valuesFrom = 6048
+
 -- The number of 8 bytes in four places.
 abbrev pub valueAt : List ℕ → ℕ → ℕ
 valueAt index at = (getD index at 0 + 65536 * getD index (at + 1) 0) + 4294967296 * (getD index (at + 2) 0 + 65536 * getD index (at + 3) 0)
 
 -- The row of node i: its kind, type, a, b and c, each in a column, and in four places the 8 bytes of the value that a delay or a constant has.
 pub record Row (p : Bytes) (index : List ℕ) (i : ℕ) : Type 0 where
-  pub kind-is : getD index (1008 + i) 0 ≡ kindAt p i
-  pub type-is : getD index (2016 + i) 0 ≡ typeAt p i
-  pub a-is : getD index (3024 + i) 0 ≡ aAt p i
-  pub b-is : getD index (4032 + i) 0 ≡ bAt p i
-  pub c-is : getD index (5040 + i) 0 ≡ cAt p i
-  pub value-is : valueAt index (6048 + 4 * i) ≡ packed (valueFrom (typeAt p i) (bAt p i) (wordAt p i))
+  pub kind-is : getD index (kindsFrom + i) 0 ≡ kindAt p i
+  pub type-is : getD index (typesFrom + i) 0 ≡ typeAt p i
+  pub a-is : getD index (aFrom + i) 0 ≡ aAt p i
+  pub b-is : getD index (bFrom + i) 0 ≡ bAt p i
+  pub c-is : getD index (cFrom + i) 0 ≡ cAt p i
+  pub value-is : valueAt index (valuesFrom + 4 * i) ≡ packed (valueFrom (typeAt p i) (bAt p i) (wordAt p i))
   pub small : (kindAt p i < 256) × (typeAt p i < 256)
 
 -- A number put at one place, and a value's 8 bytes at four.
@@ -69,7 +88,7 @@ pub record Spread (before : List ℕ) (at v : ℕ) (index : List ℕ) : Type 0 w
 -- A place that is none of row i's.
 pub record Outside (i q : ℕ) : Type 0 where
   pub columns : (k : ℕ) → 1 ≤ k → k ≤ 5 → q ≡ 1008 * k + i → ⊥
-  pub values : (k : ℕ) → k < 4 → q ≡ (6048 + 4 * i) + k → ⊥
+  pub values : (k : ℕ) → k < 4 → q ≡ (valuesFrom + 4 * i) + k → ⊥
 
 -- A change of row i alone.
 pub record Elsewhere (i : ℕ) (before index : List ℕ) : Type 0 where

@@ -15,6 +15,20 @@ use table::node_at;
 use table::u32_at;
 use values::pack_from;
 
+// Where the columns of the table begin, behind the numbers of 1,008 nodes: the kinds, the types, the fields a, b and c, and the values, four
+// places each.
+const KINDS: usize = 1008;
+
+const TYPES: usize = 2016;
+
+const FIELDS_A: usize = 3024;
+
+const FIELDS_B: usize = 4032;
+
+const FIELDS_C: usize = 5040;
+
+const VALUES: usize = 6048;
+
 // A 32-bit number as a 64-bit one.
 fn wide(x: u32) -> u64
     ensures { λ r. ⌜ (r ≡ x) × (r < 4294967296) ⌝ }
@@ -237,12 +251,12 @@ fn put_row(p: &[u8], index: &mut [u16], i: usize)
     let at = node_at(p, i);
     let b = short_at(p, at + 4);
     let v = pack_from(n.ty, b as usize, n.word);
-    store(index, 1008 + i, wide16(n.kind));
-    store(index, 2016 + i, wide16(n.ty));
-    store(index, 3024 + i, short_at(p, at + 2));
-    store(index, 4032 + i, b);
-    store(index, 5040 + i, short_at(p, at + 6));
-    store_value(index, 6048 + 4 * i, v);
+    store(index, KINDS + i, wide16(n.kind));
+    store(index, TYPES + i, wide16(n.ty));
+    store(index, FIELDS_A + i, short_at(p, at + 2));
+    store(index, FIELDS_B + i, b);
+    store(index, FIELDS_C + i, short_at(p, at + 6));
+    store_value(index, VALUES + 4 * i, v);
 }
 
 // The rows of all nodes, behind the numbers.
@@ -291,11 +305,11 @@ pub fn node_by(p: &[u8], index: &[u16; 10080], i: usize) -> Node
 {
     let at = node_at(p, i);
     Node {
-        kind: column(index, 1008 + i) as u8,
-        ty: column(index, 2016 + i) as u8,
-        a: column(index, 3024 + i),
-        b: column(index, 4032 + i),
-        c: column(index, 5040 + i),
+        kind: column(index, KINDS + i) as u8,
+        ty: column(index, TYPES + i) as u8,
+        a: column(index, FIELDS_A + i),
+        b: column(index, FIELDS_B + i),
+        c: column(index, FIELDS_C + i),
         word: u32_at(p, at + 8),
     }
 }
@@ -305,7 +319,7 @@ pub fn value_by(p: &[u8], index: &[u16; 10080], i: usize) -> u64
     requires { ⌜ Indexed (now p) (now index) × Shaped (now p) × (i < nodes (now p)) ⌝ }
     ensures { λ v. ⌜ v ≡ packed (valueFrom (typeAt (now (p .entry)) i) (bAt (now (p .entry)) i) (wordAt (now (p .entry)) i)) ⌝ }
 {
-    let at = 6048 + 4 * i;
+    let at = VALUES + 4 * i;
     let low = column(index, at) + 65536 * column(index, at + 1);
     let high = column(index, at + 2) + 65536 * column(index, at + 3);
     (low + 4294967296 * high) as u64
@@ -316,5 +330,5 @@ pub fn kind_by(p: &[u8], index: &[u16; 10080], i: usize) -> u8
     requires { ⌜ Indexed (now p) (now index) × Shaped (now p) × (i < nodes (now p)) ⌝ }
     ensures { λ k. ⌜ k ≡ kindAt (now (p .entry)) i ⌝ }
 {
-    column(index, 1008 + i) as u8
+    column(index, KINDS + i) as u8
 }

@@ -125,7 +125,7 @@ pub fn branch_in(m: u64) -> usize
     (m / 65536 % 65536) as usize
 }
 
-// Signal i, an input, time, ext or delay: it has no part that is evaluated, and nothing is noted.
+// Signal i, an input, time, ext or delay: no signal below it is evaluated, and nothing is noted.
 fn at_once(
     p: &&[u8],
     ix: &[u16; 10080],

@@ -8,7 +8,7 @@ use Rattle.outcomes.proofs.outcome.Reads as outcome-reads
 
 -- src/lib.rt:222:9
 outcome-requires : tie.Need-outcome-requires
-outcome-requires c κs = (proper-bool 1, c .before .pre .0, c .before .pre .1)
+outcome-requires c κs = (proper-bool _, c .before .pre .0, c .before .pre .1)
 
 -- src/lib.rt:222:9
 returns : tie.Need-returns
@@ -16,7 +16,7 @@ returns c = truth-said (c .before .if1 .taken) (c .outcome .ensures)
 
 -- src/lib.rt:224:5
 outcome-requires-2 : tie.Need-outcome-requires-2
-outcome-requires-2 c κs = (proper-bool 0, c .before .pre .0, c .before .pre .1)
+outcome-requires-2 c κs = (proper-bool _, c .before .pre .0, c .before .pre .1)
 
 -- src/lib.rt:217:1
 returns-2 : tie.Need-returns-2

@@ -2,7 +2,7 @@
  * step for each record, and says where a number wrapped in it. A record that is refused changes nothing, so the next one is tried from the
  * same state.
  *
- *   cc -std=c99 -Iinclude host/c/example.c target/staticlib/libcouplerfinch.a -o example && ./example FILE
+ *   cc -std=c99 -Iinclude host/c/example.c crates/couplerfinch/out/libcouplerfinch.a -o example && ./example FILE
  */
 #include "couplerfinch.h"
 

@@ -1,7 +1,7 @@
 //! Links the static library where there is one for the target, and then sets the cfg `linked`.
 //!
 //! The archive is the one that COUPLERFINCH_ARCHIVE names, or else, for x86-64 Linux, the one that
-//! `rt staticlib couplerfinch` wrote in this repository. Without one the crate is type-checked and
+//! `rt lib` in crates/couplerfinch wrote in this repository. Without one the crate is type-checked and
 //! tested against the header, but a program over it can't be linked; a warning says so, and how to
 //! make one.
 
@@ -29,7 +29,7 @@ fn named() -> Option<PathBuf> {
     }
     if !archive.is_file() {
         refuse(
-            "is no file: `rt staticlib couplerfinch` writes target/staticlib/libcouplerfinch.a",
+            "is no file: `tools/proved archive` makes crates/couplerfinch/out/libcouplerfinch.a, and prints its path",
             &archive,
         );
     }
@@ -50,14 +50,14 @@ fn ours() -> Option<PathBuf> {
     let is = |name: &str, value: &str| env::var(name).is_ok_and(|set| set == value);
     let fits = is("CARGO_CFG_TARGET_ARCH", "x86_64") && is("CARGO_CFG_TARGET_OS", "linux");
     let here = env::var_os("CARGO_MANIFEST_DIR")?;
-    let archive = Path::new(&here).join("../../target/staticlib/libcouplerfinch.a");
+    let archive = Path::new(&here).join("../../crates/couplerfinch/out/libcouplerfinch.a");
     if fits && archive.is_file() {
         return Some(archive);
     }
     println!("cargo:rerun-if-changed={}", archive.display());
     warn(if fits {
         "there is no archive yet, so that a program over this crate will not link (undefined symbol: couplerfinch_..): \
-         `rt staticlib couplerfinch` in the repository makes it, or COUPLERFINCH_ARCHIVE names it by an absolute path"
+         `tools/proved archive` in the repository makes it, or COUPLERFINCH_ARCHIVE names it by an absolute path"
     } else {
         "the archive is for x86-64 Linux, so that a program over this crate will not link for this target \
          (undefined symbol: couplerfinch_..); COUPLERFINCH_ARCHIVE may name another by an absolute path"

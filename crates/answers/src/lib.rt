@@ -1,4 +1,6 @@
 // Verdicts put together: a refusal if a test fails or at a place, and the first fault of two.
+#![tactic(auto)]
+
 ghost use Rattle.std.specs.Prelude.{◌≡◌};
 ghost use Rattle.rules.specs.Calls.{refuse_if, refuse_at, ◌otherwise◌};
 

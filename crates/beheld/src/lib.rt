@@ -1,5 +1,7 @@
 // What document 02 asks of the watched run, at the calls: each function calls crates peeking and watch as any caller does, and its contract is
 // the paragraph's sentence. None has a requires.
+#![tactic(auto)]
+
 ghost use Rattle.beheld.specs.Beheld.{SaysDemand, PlainDemand, LooseDemand};
 
 use rules::Ran;
@@ -20,7 +22,7 @@ pub fn watch(
 }
 
 // The answers of a watched run and of a plain one.
-#[derive(Drop)]
+#[derive(Clone, Copy)]
 pub struct Beside {
     pub watched: Watched,
     pub ran: Ran,
@@ -48,7 +50,7 @@ pub fn watch_and_run(
 }
 
 // The answers of two watched runs.
-#[derive(Drop)]
+#[derive(Clone, Copy)]
 pub struct Both {
     pub one: Watched,
     pub other: Watched,

@@ -1,12 +1,13 @@
 -- Outputs, state, work, marks and answers of a watched run are those of the plain run; a refusal of the list, or of the second room, writes nothing.
 -- Assumes nothing.
+use Rattle.std.specs.Prelude.{if◌then◌else◌}
 use mathlib.Core.Path.{◌≡◌, refl, sym, ap, ◌∙◌}
 use mathlib.Core.Bool.{Bool, true, false, not}
 use Prim.Native.Nat.{ℕ, ◌*◌, ◌/◌, ◌%◌}
 use lib.Dec.{eqb, leb}
 use lib.ListN.{length}
 use borrow.Author.Tests.{eq-eqb}
-use Rattle.rules.specs.Bytes.{Bytes, if◌then◌else◌, ◌and◌}
+use Rattle.rules.specs.Bytes.{Bytes, ◌and◌}
 use Rattle.rules.specs.Layout.{input_length}
 use Rattle.rules.specs.Calls.{◌otherwise◌, refuse_if, program_verdict, state_verdict, lent_verdict, RunOutcome, run_outcome, run_call}
 use Rattle.rules.specs.declared.Place.{Place}

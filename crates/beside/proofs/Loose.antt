@@ -1,5 +1,6 @@
 -- Channels that no input node names do not matter to a watched run either: h) covers the second room as well.
 -- Assumes nothing.
+use Rattle.std.specs.Prelude.{if◌then◌else◌}
 use mathlib.Core.Path.{◌≡◌, refl, sym, ap, ◌∙◌}
 use mathlib.Core.List.{[]}
 use mathlib.Core.Bool.{Bool, true, false, not}
@@ -8,7 +9,7 @@ use native.Mathlib.Omega.{arith}
 use lib.Dec.{eqb, leb}
 use lib.ListN.{length}
 use borrow.Author.Tests.{eqb-true}
-use Rattle.rules.specs.Bytes.{Bytes, write_at, if◌then◌else◌, ◌and◌}
+use Rattle.rules.specs.Bytes.{Bytes, write_at, ◌and◌}
 use Rattle.rules.specs.Layout.{nodes, input_length, input_at}
 use Rattle.rules.specs.Calls.{◌otherwise◌, refuse_if, program_verdict, lent_verdict, RunOutcome, no_step, run_from, run_outcome, run_call}
 use Rattle.rules.specs.declared.Place.{Place}

@@ -1,10 +1,11 @@
 -- Records with equal times that agree on the channels of a signal have every node of it give the same, from any state and environment.
 -- Assumes nothing.
+use Rattle.std.specs.Prelude.{if◌then◌else◌}
 use mathlib.Core.Path.{◌≡◌, refl, ap, ◌∙◌}
 use mathlib.Core.List.{[], ◌∷◌, ◌++◌}
 use Prim.Native.Nat.{ℕ}
 use lib.Dec.{eqb}
-use Rattle.rules.specs.Bytes.{Bytes, bytes_of, if◌then◌else◌}
+use Rattle.rules.specs.Bytes.{Bytes, bytes_of}
 use Rattle.rules.specs.Layout.{most_nodes, channel_value, time_in, held, is_clear, branch_in}
 use Rattle.rules.specs.Tree.{Signal, input, time, ext, delay, let_signal, switch, group, until, Branches, no_branch, branch, root}
 use Rattle.rules.specs.Evaluate.{Env, unbound, bind, eval_s}

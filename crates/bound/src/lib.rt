@@ -1,4 +1,6 @@
 // The bound on the work of a step: that of evaluation and that of update, in one recursion over children that visits each node once.
+#![tactic(auto)]
+
 ghost use Rattle.std.specs.Prelude.{◌≡◌, ◌+◌, ◌-◌, ◌≤◌, ◌<◌, max};
 ghost use Rattle.rules.specs.Layout.{nodes};
 ghost use Rattle.rules.specs.Kinds.{is_expression, is_signal, is_branch, is_case};

@@ -1,4 +1,6 @@
 // Whether a branch is one of a group's, by the table.
+#![tactic(auto)]
+
 ghost use Rattle.std.specs.Prelude.{◌≡◌, get_or};
 ghost use Rattle.rules.specs.Kinds.{is_branch};
 ghost use Rattle.rules.specs.Tree.{branches_at};

@@ -7,6 +7,7 @@ use wire::Request;
 
 // Makes a call that takes a table or a text and a room of bytes, and puts the answer to the output.
 fn room_call(
+    rt: &impl Print,
     request: Request,
     program: &[u8],
     room: &mut [u8],
@@ -16,15 +17,15 @@ fn room_call(
     match request {
         Request::Tidy(p, n) => {
             let of = feed::first(program, p as usize);
-            tidy_call(of, n as usize, room, full, out)
+            tidy_call(rt, of, n as usize, room, full, out)
         }
         Request::Read(t, n) => {
             let text = feed::first(program, t as usize);
-            read_call(text, n as usize, room, full, out)
+            read_call(rt, text, n as usize, room, full, out)
         }
         Request::Print(p, n) => {
             let of = feed::first(program, p as usize);
-            print_call(of, n as usize, room, full, out)
+            print_call(rt, of, n as usize, room, full, out)
         }
         _ => full,
     }
@@ -32,6 +33,7 @@ fn room_call(
 
 // Makes a call that takes a table alone, or two, or a text, and puts the answer to the output.
 fn table_call(
+    rt: &impl Print,
     request: Request,
     program: &[u8],
     records: &[u8],
@@ -41,22 +43,23 @@ fn table_call(
     out: &mut [u8],
 ) -> usize {
     match request {
-        Request::Check(p) => check_answer(feed::first(program, p as usize), full, out),
+        Request::Check(p) => check_answer(rt, feed::first(program, p as usize), full, out),
         Request::Chain(p, n) => {
             let of = feed::first(program, p as usize);
-            chain_call(of, n as usize, entries, room, full, out)
+            chain_call(rt, of, n as usize, entries, room, full, out)
         }
         Request::Pair(p, q, n) => {
             let old = feed::first(program, p as usize);
             let new = feed::first(records, q as usize);
-            pair_call(old, new, n as usize, entries, room, full, out)
+            pair_call(rt, old, new, n as usize, entries, room, full, out)
         }
-        other => room_call(other, program, room, full, out),
+        other => room_call(rt, other, program, room, full, out),
     }
 }
 
 // A start, with the lengths that its header says.
 fn start_request(
+    rt: &impl Print,
     p: u32,
     s: u32,
     program: &[u8],
@@ -65,11 +68,12 @@ fn start_request(
     out: &mut [u8],
 ) -> usize {
     let of = feed::first(program, p as usize);
-    start_call(of, s as usize, state, full, out)
+    start_call(rt, of, s as usize, state, full, out)
 }
 
 // A mend, with the lengths that its header says.
 fn mend_request(
+    rt: &impl Print,
     p: u32,
     s: u32,
     n: u16,
@@ -81,11 +85,14 @@ fn mend_request(
     out: &mut [u8],
 ) -> usize {
     let of = feed::first(program, p as usize);
-    mend_call(of, s as usize, state, n as usize, entries, room, full, out)
+    mend_call(
+        rt, of, s as usize, state, n as usize, entries, room, full, out,
+    )
 }
 
 // A run, with the lengths that its header says.
 fn run_request(
+    rt: &impl Print,
     p: u32,
     s: u32,
     r: u32,
@@ -99,11 +106,14 @@ fn run_request(
 ) -> usize {
     let of = feed::first(program, p as usize);
     let given = feed::first(records, r as usize);
-    run_call(of, s as usize, state, given, o as usize, room, full, out)
+    run_call(
+        rt, of, s as usize, state, given, o as usize, room, full, out,
+    )
 }
 
 // A watch, with the lengths that its header says; its list stands in the entries.
 fn watch_request(
+    rt: &impl Print,
     p: u32,
     s: u16,
     l: u16,
@@ -125,12 +135,13 @@ fn watch_request(
     let n = s as usize;
     let m = o as usize;
     watch_call(
-        of, n, state, given, list, m, room, w as usize, shown, full, out,
+        rt, of, n, state, given, list, m, room, w as usize, shown, full, out,
     )
 }
 
 // Makes a call that takes no records to run on.
 fn state_call(
+    rt: &impl Print,
     request: Request,
     program: &[u8],
     state: &mut [u8],
@@ -141,16 +152,17 @@ fn state_call(
     out: &mut [u8],
 ) -> usize {
     match request {
-        Request::Start(p, s) => start_request(p, s, program, state, full, out),
+        Request::Start(p, s) => start_request(rt, p, s, program, state, full, out),
         Request::Mend(p, s, n) => {
-            mend_request(p, s, n, program, state, room, entries, full, out)
+            mend_request(rt, p, s, n, program, state, room, entries, full, out)
         }
-        other => table_call(other, program, records, room, entries, full, out),
+        other => table_call(rt, other, program, records, room, entries, full, out),
     }
 }
 
 // Makes any call but a watch.
 fn other_call(
+    rt: &impl Print,
     request: Request,
     program: &[u8],
     state: &mut [u8],
@@ -162,14 +174,15 @@ fn other_call(
 ) -> usize {
     match request {
         Request::Run(p, s, r, o) => {
-            run_request(p, s, r, o, program, state, records, room, full, out)
+            run_request(rt, p, s, r, o, program, state, records, room, full, out)
         }
-        other => state_call(other, program, state, records, room, entries, full, out),
+        other => state_call(rt, other, program, state, records, room, entries, full, out),
     }
 }
 
 // Makes the call of a request whose memory is read, and puts the answer to the output.
 pub fn call(
+    rt: &impl Print,
     request: Request,
     program: &[u8],
     state: &mut [u8],
@@ -182,8 +195,8 @@ pub fn call(
 ) -> usize {
     match request {
         Request::Watch(p, s, l, r, o, w) => watch_request(
-            p, s, l, r, o, w, program, state, records, room, entries, shown, full, out,
+            rt, p, s, l, r, o, w, program, state, records, room, entries, shown, full, out,
         ),
-        other => other_call(other, program, state, records, room, entries, full, out),
+        other => other_call(rt, other, program, state, records, room, entries, full, out),
     }
 }

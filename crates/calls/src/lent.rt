@@ -4,7 +4,7 @@ use feed::{Filled, Place};
 use wire::Request;
 
 // How many bytes of each a request has.
-#[derive(Drop)]
+#[derive(Clone, Copy)]
 struct Sizes {
     program: usize,
     state: usize,
@@ -45,6 +45,7 @@ fn lengths(request: Request) -> Sizes {
 
 // Reads two pieces of memory, one after another.
 fn read_two(
+    rt: &impl Input,
     place: Place,
     a: usize,
     b: usize,
@@ -52,16 +53,17 @@ fn read_two(
     first: &mut [u8],
     second: &mut [u8],
 ) -> Filled {
-    let done = feed::fill(place, input, first, a);
+    let done = feed::fill(rt, place, input, first, a);
     if !done.whole {
         return done;
     }
     let after = done.place;
-    feed::fill(after, input, second, b)
+    feed::fill(rt, after, input, second, b)
 }
 
 // Reads three pieces of memory, one after another.
 fn read_three(
+    rt: &impl Input,
     place: Place,
     a: usize,
     b: usize,
@@ -71,16 +73,17 @@ fn read_three(
     second: &mut [u8],
     third: &mut [u8],
 ) -> Filled {
-    let done = read_two(place, a, b, input, first, second);
+    let done = read_two(rt, place, a, b, input, first, second);
     if !done.whole {
         return done;
     }
     let after = done.place;
-    feed::fill(after, input, third, c)
+    feed::fill(rt, after, input, third, c)
 }
 
 // Reads all memory of a request; the entries of a watch's list stand at the start of its room of entries.
 pub fn read(
+    rt: &impl Input,
     request: Request,
     place: Place,
     input: &mut [u8],
@@ -93,13 +96,15 @@ pub fn read(
 ) -> Filled {
     let n = lengths(request);
     let l = n.list;
-    let done = read_three(place, n.program, n.state, l, input, program, state, shown);
+    let done = read_three(
+        rt, place, n.program, n.state, l, input, program, state, shown,
+    );
     if !done.whole {
         return done;
     }
     feed::take_entries(feed::first(shown, l), entries);
     let after = done.place;
     read_three(
-        after, n.records, n.room, n.shown, input, records, room, shown,
+        rt, after, n.records, n.room, n.shown, input, records, room, shown,
     )
 }

@@ -1,5 +1,6 @@
 -- Who names a branch: the group whose first it is, or the branch whose next it is, and no other node.
 -- Assumes nothing.
+use Rattle.std.specs.Prelude.{if◌then◌else◌}
 use mathlib.Core.Path.{◌≡◌, refl, sym, ap, subst, ◌∙◌}
 use mathlib.Core.Bool.{Bool, true, false}
 use Prim.Native.Nat.{ℕ, zero, suc, ◌+◌, ◌-◌, ◌≤◌, ◌<◌}
@@ -7,7 +8,7 @@ use native.Mathlib.Nat.{not-suc-le-zero}
 use native.Mathlib.Omega.{arith}
 use lib.Dec.{eqb, leb}
 use borrow.Author.Tests.{eq-eqb, ne_eqb, eqb-true}
-use Rattle.rules.specs.Bytes.{Bytes, ◌and◌, if◌then◌else◌, first}
+use Rattle.rules.specs.Bytes.{Bytes, ◌and◌, first}
 use Rattle.rules.specs.Layout.{nodes, kind_at, a_at, b_at, c_at}
 use Rattle.rules.specs.Kinds.{row, fields_of, is_signal, is_expression, is_branch, is_case}
 use Rattle.rules.specs.Shape.{is_child, names, names_in, named_below, named, shape_wrong}

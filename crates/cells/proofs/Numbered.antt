@@ -1,5 +1,6 @@
 -- The table of the cells' numbers, filled up to a node.
 -- Assumes nothing.
+use Rattle.std.specs.Prelude.{if◌then◌else◌}
 use mathlib.Core.Path.{◌≡◌, refl, ◌∙◌}
 use mathlib.Core.Bool.{Bool, true, false}
 use mathlib.Core.List.{List}
@@ -10,7 +11,7 @@ use lib.Dec.{eqb}
 use lib.ListN.{length, get_or, set}
 use lib.Seq.{get_or-set_same, get_or-set_other}
 use borrow.Author.Tests.{eqb-true, eqb-false}
-use Rattle.rules.specs.Bytes.{Bytes, how_many, if◌then◌else◌}
+use Rattle.rules.specs.Bytes.{Bytes, how_many}
 use Rattle.rules.specs.Layout.{kind_at, has_cell, cells_before}
 
 -- A place counts at most one.

@@ -1,4 +1,6 @@
 // The cells of a state and its time, as bytes that are read and written in place; and the table of the cells' and branches' numbers.
+#![tactic(auto)]
+
 ghost use Rattle.std.specs.Prelude.{◌≡◌, ◌+◌, ◌*◌, ◌≤◌, ◌<◌, length, get_or};
 ghost use Rattle.rules.specs.Bytes.{u16_at, u64_at, bytes_of, write_at};
 ghost use Rattle.rules.specs.Layout.{nodes, records, kind_at, type_at, b_at, word_at, has_cell, cells_before, cell_at, cell as cellIn, set_cell, header_length, last_time, set_time};

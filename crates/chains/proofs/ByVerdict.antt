@@ -1,10 +1,11 @@
 -- The verdict that a let is not ready: codes 1-7 found nothing, and the let is one that has a chain.
 -- Assumes nothing.
+use Rattle.std.specs.Prelude.{if◌then◌else◌}
 use mathlib.Core.Path.{◌≡◌, refl, sym, ap, ◌∙◌}
 use mathlib.Core.Bool.{Bool, true, false}
 use Prim.Native.Nat.{ℕ, ◌-◌}
 use native.Mathlib.Omega.{arith}
-use Rattle.rules.specs.Bytes.{Bytes, first, if◌then◌else◌}
+use Rattle.rules.specs.Bytes.{Bytes, first}
 use Rattle.rules.specs.Layout.{blocks, records, nodes}
 use Rattle.rules.specs.Format.{length_wrong, sum_wrong, number_wrong, record_wrong}
 use Rattle.rules.specs.Shape.{shape_wrong}

@@ -1,8 +1,8 @@
 -- The chain (document 02, request d): "from the definition of the let down to the use of its own variable, each node a child of the one
 -- before", as a function of the table.
 -- Assumes nothing: these are definitions.
-use Rattle.std.specs.Prelude.{ℕ, zero, suc, List, [], ◌∷◌, Bool, true, false, not, eqb}
-use Rattle.rules.specs.Bytes.{Bytes, if◌then◌else◌, ◌and◌, ◌or◌}
+use Rattle.std.specs.Prelude.{ℕ, zero, suc, List, [], ◌∷◌, Bool, true, false, not, eqb, if◌then◌else◌}
+use Rattle.rules.specs.Bytes.{Bytes, ◌and◌, ◌or◌}
 use Rattle.rules.specs.Layout.{kind_at, a_at, b_at, c_at}
 use Rattle.rules.specs.Kinds.{fields_of}
 use Rattle.rules.specs.Shape.{is_child}

@@ -1,7 +1,7 @@
 -- The call: from the program and the lent room to the answer and the room after.
 -- Assumes nothing: these are definitions.
-use Rattle.std.specs.Prelude.{ℕ, ◌-◌, List, [], ◌∷◌, ◌++◌, eqb, length, replicate}
-use Rattle.rules.specs.Bytes.{Bytes, if◌then◌else◌}
+use Rattle.std.specs.Prelude.{ℕ, ◌-◌, List, [], ◌∷◌, ◌++◌, eqb, length, replicate, if◌then◌else◌}
+use Rattle.rules.specs.Bytes.{Bytes}
 use Rattle.rules.specs.Layout.{no_next, most_nodes}
 use Rattle.rules.specs.Answers.{code_of, place_of}
 use Rattle.rules.specs.Calls.{program_verdict}

@@ -1,5 +1,6 @@
 -- The bits are those of the channels that unplugged speaks of: so records that agree on the channels whose bits are 1 give equal runs.
 -- Assumes nothing.
+use Rattle.std.specs.Prelude.{if◌then◌else◌}
 use mathlib.Core.Path.{◌≡◌, refl, sym, ap, ◌∙◌}
 use mathlib.Core.Bool.{Bool, true, false}
 use Prim.Native.Nat.{ℕ, zero, suc, ◌+◌, ◌-◌, ◌*◌, ◌/◌, ◌%◌, ◌^◌, ◌<◌, ◌≤◌}
@@ -9,7 +10,7 @@ use lib.ListN.{length}
 use lib.Pow.{pow_pos, pow_mono}
 use native.Mathlib.Nat.{div-lt_iff_lt-mul}
 use borrow.Author.Tests.{eqb-true, eq-eqb, ne_eqb, ltb-true, ltb-false, le-ltb}
-use Rattle.rules.specs.Bytes.{Bytes, byte_at, if◌then◌else◌, ◌and◌, ◌or◌}
+use Rattle.rules.specs.Bytes.{Bytes, byte_at, ◌and◌, ◌or◌}
 use Rattle.rules.specs.Layout.{nodes, kind_at, a_at, flag_on, channel_value}
 use Rattle.rules.specs.Values.{int_t, maybe_of}
 use Rattle.rules.specs.declared.Value.TheVariants.{Absent}

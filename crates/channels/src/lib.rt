@@ -1,4 +1,6 @@
 // The channels that the input nodes of a program name, a bit a channel. For any bytes: nothing is asked of the program.
+#![tactic(auto)]
+
 ghost use Rattle.std.specs.Prelude.{◌≡◌, ◌≤◌, ◌<◌};
 ghost use Rattle.rules.specs.Layout.{records, kind_at, a_at, nodes};
 ghost use Rattle.channels.specs.Named.{input_of, some_below, bit_of, named_channels};

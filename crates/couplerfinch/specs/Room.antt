@@ -1,8 +1,8 @@
 -- The twelve numbers of the room that a caller lends for an answer: code, place, steps, work, nodes, cells, bound, type, wrapped, length,
 -- entries, node. Each call's are laid out from the paper's numbers of its answer (crates rules, chains, mends, rewritten, dropped, beside, texts),
 -- and those that an answer does not give are 0. Assumes nothing: these are definitions.
-use Rattle.std.specs.Prelude.{ℕ, List, [], ◌∷◌, eqb, get_or}
-use Rattle.rules.specs.Bytes.{if◌then◌else◌, ◌or◌}
+use Rattle.std.specs.Prelude.{ℕ, List, [], ◌∷◌, eqb, get_or, if◌then◌else◌}
+use Rattle.rules.specs.Bytes.{◌or◌}
 use Rattle.rules.specs.Answers.{checked_numbers, started_numbers, ran_numbers}
 use Rattle.rules.specs.declared.Checked.{Checked}
 use Rattle.rules.specs.declared.Started.{Started}

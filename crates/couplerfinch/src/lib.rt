@@ -1,4 +1,6 @@
 // The ten calls for C and Rust: slices and numbers only, the answer in a lent room of twelve numbers (include/couplerfinch.h).
+#![tactic(auto)]
+
 ghost use Rattle.std.specs.Prelude.{◌≡◌, [], ◌∷◌};
 ghost use Rattle.rules.specs.Calls.{check_call, start_call, run_call};
 ghost use Rattle.chains.specs.Explain.{explain_call};

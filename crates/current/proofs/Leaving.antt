@@ -1,12 +1,13 @@
 -- A switch that catches a value and a group that catches a jump: to put to start the part that is left is to put to start all parts, where the
 -- other parts rest.
 -- Assumes nothing.
+use Rattle.std.specs.Prelude.{if◌then◌else◌}
 use mathlib.Core.Path.{◌≡◌, refl, sym, ap, ◌∙◌}
 use mathlib.Core.Bool.{Bool, true, false}
 use Prim.Native.Nat.{ℕ, ◌+◌, ◌≤◌}
 use native.Mathlib.Omega.{arith}
 use lib.ListN.{length}
-use Rattle.rules.specs.Bytes.{Bytes, if◌then◌else◌, ◌and◌}
+use Rattle.rules.specs.Bytes.{Bytes, ◌and◌}
 use Rattle.rules.specs.Layout.{cell, cell_at, set_cell, hold, is_clear, hold_branch}
 use Rattle.rules.specs.Work.{Updated, Next, Jump}
 use Rattle.rules.specs.Tree.{Signal, switch, Branches}

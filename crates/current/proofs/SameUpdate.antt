@@ -1,6 +1,7 @@
 -- In a well-formed state the update that puts only the current part to start is the update of the rules, of a signal that sits in its table of
 -- at most 1,023 nodes, is in scope, typed and ready, with every variable in scope bound.
 -- Assumes nothing.
+use Rattle.std.specs.Prelude.{if◌then◌else◌}
 use mathlib.Core.Path.{◌≡◌, refl, ap, ◌∙◌}
 use mathlib.Core.List.{[], ◌∷◌}
 use mathlib.Core.Bool.{Bool, true}
@@ -9,7 +10,7 @@ use native.Mathlib.Omega.{arith}
 use lib.Dec.{eqb}
 use lib.ListN.{length}
 use borrow.Author.Tests.{eqb-true}
-use Rattle.rules.specs.Bytes.{Bytes, if◌then◌else◌, ◌and◌}
+use Rattle.rules.specs.Bytes.{Bytes, ◌and◌}
 use Rattle.rules.specs.Values.{type_of, middle_in}
 use Rattle.rules.specs.Layout.{edition, most_nodes, cells, type_at, cell, cell_at, state_length, held, hold, is_clear, branch_in}
 use Rattle.rules.specs.Work.{Updated, stays, leave, afterᵘ, ruleᵘ, ◌with◌, ◌thenᵘ◌}

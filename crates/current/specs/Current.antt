@@ -2,8 +2,8 @@
 -- the cells of the other parts hold their start content already. (proofs/SameUpdate: for an accepted program in a well-formed state both
 -- updates are the same.)
 -- Assumes nothing: these are definitions.
-use Rattle.std.specs.Prelude.{ℕ, eqb, ltb}
-use Rattle.rules.specs.Bytes.{Bytes, if◌then◌else◌}
+use Rattle.std.specs.Prelude.{ℕ, eqb, ltb, if◌then◌else◌}
+use Rattle.rules.specs.Bytes.{Bytes}
 use Rattle.rules.specs.Layout.{held, hold, is_clear, branch_in, hold_branch}
 use Rattle.rules.specs.Work.{nothing, Updated, Next, Jump, Halted, stays, leave, ruleᵘ, ◌with◌, ◌thenᵘ◌}
 use Rattle.rules.specs.Tree.{Signal, input, time, ext, delay, let_signal, switch, group, until, Branches, no_branch, branch, Cases, no_case, case}

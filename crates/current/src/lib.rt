@@ -1,5 +1,6 @@
 // An update that puts to start only the part that is left, and that it is the update of the rules: definitions in specs/, theorems in proofs/.
 // They know nothing of the code.
+#![tactic(auto)]
 
 // The one function of the crate, so that its theorems are checked with it.
 pub fn same(x: u32) -> u32 {

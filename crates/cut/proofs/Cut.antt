@@ -1,6 +1,7 @@
 -- j): cutting a list of records at any record and running the two parts one after the other gives the same outputs, final state and summed
 -- work, and the first wrapped step of both.
 -- Assumes nothing.
+use Rattle.std.specs.Prelude.{if◌then◌else◌}
 use mathlib.Core.Path.{◌≡◌, refl, sym, ap, ◌∙◌}
 use mathlib.Core.Bool.{Bool, true, false, not}
 use mathlib.Core.List.{[], ◌++◌, append_assoc, append-nil}
@@ -10,7 +11,7 @@ use native.Mathlib.Omega.{arith}
 use lib.Dec.{eqb, leb}
 use lib.ListN.{length, drop, length-append}
 use borrow.Author.Tests.{eqb-true, eq-eqb, leb-true, le-leb}
-use Rattle.rules.specs.Bytes.{Bytes, write_at, if◌then◌else◌, ◌and◌}
+use Rattle.rules.specs.Bytes.{Bytes, write_at, ◌and◌}
 use Rattle.rules.specs.Layout.{input_length, input_at}
 use Rattle.rules.specs.WellFormed.{well_formed}
 use Rattle.rules.specs.Accepted.{Accepted}

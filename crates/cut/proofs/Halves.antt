@@ -1,6 +1,7 @@
 -- A run of records is a run of the first of them and, from the state that it leaves, a run of the rest; and a run that counts from later on is
 -- the run that counts from the cut, with its steps, places and work summed.
 -- Assumes nothing.
+use Rattle.std.specs.Prelude.{if◌then◌else◌}
 use mathlib.Core.Path.{◌≡◌, refl, sym, ap, ◌∙◌}
 use mathlib.Core.Bool.{Bool, true, false}
 use mathlib.Core.List.{[], ◌++◌, append_assoc}
@@ -10,7 +11,7 @@ use native.Mathlib.Omega.{arith}
 use lib.Dec.{eqb}
 use lib.ListN.{length, length-append}
 use borrow.Author.Tests.{eq-eqb, ne_eqb}
-use Rattle.rules.specs.Bytes.{Bytes, if◌then◌else◌, ◌and◌}
+use Rattle.rules.specs.Bytes.{Bytes, ◌and◌}
 use Rattle.rules.specs.Values.{value_bytes}
 use Rattle.rules.specs.Layout.{input_at}
 use Rattle.rules.specs.Answers.{code_of, place_of}

@@ -1,5 +1,6 @@
 -- No fault of shape exactly when every node is as document 01 says.
 -- Assumes nothing.
+use Rattle.std.specs.Prelude.{if◌then◌else◌}
 use mathlib.Core.Path.{◌≡◌, refl}
 use mathlib.Core.Logic.{◌⊎◌, inl, inr}
 use mathlib.Core.Bool.{Bool, true, false, not}
@@ -7,7 +8,7 @@ use Prim.Native.Nat.{ℕ, suc, ◌≤◌, ◌<◌}
 use native.Mathlib.Omega.{arith}
 use lib.Dec.{eqb, leb, ltb}
 use borrow.Author.Tests.{leb-true, le-leb, ltb-true, lt-ltb, eqb-true, eqb-false, eq-eqb, ne_eqb}
-use Rattle.rules.specs.Bytes.{Bytes, ◌and◌, first, if◌then◌else◌}
+use Rattle.rules.specs.Bytes.{Bytes, ◌and◌, first}
 use Rattle.rules.specs.Layout.{nodes, kind_at, no_next}
 use Rattle.rules.specs.Kinds.{is_signal, is_expression, is_branch, is_case}
 use Rattle.rules.specs.Shape.{is_child, may_be, may_stop, child_wrong, children_wrong, named, shape_wrong}

@@ -1,6 +1,7 @@
 -- A node's type by document 01's sentences is its tree's type by the definition: it is that one, and a tree without fault below a bound, above its own number,
 -- has it.
 -- Assumes nothing.
+use Rattle.std.specs.Prelude.{if◌then◌else◌}
 use mathlib.Core.Path.{◌≡◌, refl, sym, ap, subst, ◌∙◌}
 use mathlib.Core.Bool.{Bool, true, false}
 use Prim.Native.Nat.{ℕ, zero, suc, ◌≤◌, ◌<◌}
@@ -8,7 +9,7 @@ use native.Mathlib.Nat.{not-suc-le-zero}
 use native.Mathlib.Omega.{arith}
 use lib.Dec.{eqb}
 use borrow.Author.Tests.{leb-true}
-use Rattle.rules.specs.Bytes.{Bytes, ◌and◌, if◌then◌else◌}
+use Rattle.rules.specs.Bytes.{Bytes, ◌and◌}
 use Rattle.rules.specs.Values.{is_plain, type_of, value_from}
 use Rattle.rules.specs.Layout.{kind_at, type_at, a_at, b_at, word_at}
 use Rattle.rules.specs.Kinds.{is_signal, is_expression}

@@ -1,5 +1,7 @@
 // The demands at the public calls: each function calls crate watch as any caller does, and its contract is what the mission asks of that call
 // (crates/mission/specs/Mission.antt), or what document 02 asks of two and of three of them (h and j). None has a requires.
+#![tactic(auto)]
+
 ghost use Rattle.mission.specs.Mission.{CheckDemands, StartDemands, RunDemands};
 ghost use Rattle.demands.specs.Third.{ThirdDemand};
 ghost use Rattle.demands.specs.Unplugged.{UnpluggedDemand};
@@ -33,7 +35,7 @@ pub fn run(program: &[u8], state: &mut [u8], records: &[u8], output: &mut [u8]) 
 }
 
 // The answers of check and run.
-#[derive(Drop)]
+#[derive(Clone, Copy)]
 pub struct Asked {
     pub checked: Checked,
     pub ran: Ran,
@@ -52,7 +54,7 @@ pub fn check_and_run(program: &[u8], state: &mut [u8], records: &[u8], output: &
 }
 
 // The answers of two runs.
-#[derive(Drop)]
+#[derive(Clone, Copy)]
 pub struct Two {
     pub one: Ran,
     pub other: Ran,
@@ -79,7 +81,7 @@ pub fn run_both(
 }
 
 // The answers of the runs of two parts, and of the whole.
-#[derive(Drop)]
+#[derive(Clone, Copy)]
 pub struct Three {
     pub first: Ran,
     pub second: Ran,

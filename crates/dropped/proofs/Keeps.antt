@@ -1,11 +1,12 @@
 -- An update changes no cells but the signal's own, whatever the environment, the record and the state.
 -- Assumes nothing.
+use Rattle.std.specs.Prelude.{if◌then◌else◌}
 use mathlib.Core.Path.{◌≡◌}
 use mathlib.Core.Bool.{Bool, true, false}
 use Prim.Native.Nat.{ℕ, ◌+◌}
 use native.Mathlib.Omega.{arith}
 use lib.Dec.{eqb}
-use Rattle.rules.specs.Bytes.{Bytes, if◌then◌else◌}
+use Rattle.rules.specs.Bytes.{Bytes}
 use Rattle.rules.specs.Layout.{set_cell, hold, clear, is_clear, hold_branch}
 use Rattle.rules.specs.Work.{Updated, Next, Jump, Halted, stays, leave, one_rule, afterᵘ, ruleᵘ, ◌with◌, ◌thenᵘ◌}
 use Rattle.rules.specs.Tree.{Signal, input, time, ext, delay, let_signal, switch, group, until, Branches, no_branch, branch, Cases, no_case, case}

@@ -1,5 +1,6 @@
 -- The definition keeps the promise, and nothing else does: two calls that keep it answer alike at every input.
 -- Assumes nothing.
+use Rattle.std.specs.Prelude.{if◌then◌else◌}
 use mathlib.Core.Path.{◌≡◌, refl, sym, ap, ◌∙◌}
 use mathlib.Core.Bool.{Bool, true, false, not}
 use Prim.Native.Nat.{ℕ, zero, suc, ◌+◌, ◌<◌, ◌≤◌}
@@ -7,7 +8,7 @@ use native.Mathlib.Omega.{arith}
 use lib.Dec.{eqb}
 use lib.ListN.{length}
 use borrow.Author.Tests.{eqb-true, eqb-false, eq-eqb, ne_eqb, not-true, not-false}
-use Rattle.rules.specs.Bytes.{Bytes, if◌then◌else◌, first_from, first}
+use Rattle.rules.specs.Bytes.{Bytes, first_from, first}
 use Rattle.rules.specs.Layout.{edition, nodes, place_or}
 use Rattle.rules.specs.Accepted.{Accepted}
 use Rattle.rules.specs.Calls.{program_verdict}

@@ -1,12 +1,13 @@
 -- One pass from below drops what any order of drops leaves, none is left after it, and every drop makes the tree smaller.
 -- Assumes nothing.
+use Rattle.std.specs.Prelude.{if◌then◌else◌}
 use mathlib.Core.Path.{◌≡◌, refl, sym, ap, ◌∙◌}
 use mathlib.Core.Logic.{◌⊎◌, inl, inr}
 use mathlib.Core.Bool.{Bool, true, false}
 use Prim.Native.Nat.{ℕ, ◌<◌, ◌≤◌}
 use native.Mathlib.Nat.{le_refl}
 use native.Mathlib.Omega.{arith}
-use Rattle.rules.specs.Bytes.{if◌then◌else◌, ◌or◌}
+use Rattle.rules.specs.Bytes.{◌or◌}
 use Rattle.rules.specs.Tree.{Signal, input, time, ext, delay, let_signal, switch, group, until, Branches, no_branch, branch, Cases, no_case, case}
 use Rattle.rules.specs.Size.{size_s, size_b, size_c}
 use Rattle.rules.proofs.Static.{or_left, or_right, not_both}

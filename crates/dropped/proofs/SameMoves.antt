@@ -1,12 +1,13 @@
 -- Updates of an old tree and of a new one with lets dropped, of all kinds.
 -- Assumes nothing.
+use Rattle.std.specs.Prelude.{if◌then◌else◌}
 use mathlib.Core.Path.{◌≡◌, refl, sym, ◌∙◌}
 use mathlib.Core.List.{[], ◌∷◌}
 use mathlib.Core.Bool.{true}
 use Prim.Native.Nat.{ℕ, ◌+◌, ◌≤◌}
 use native.Mathlib.Omega.{arith}
 use lib.ListN.{length}
-use Rattle.rules.specs.Bytes.{Bytes, if◌then◌else◌}
+use Rattle.rules.specs.Bytes.{Bytes}
 use Rattle.rules.specs.Values.{packed}
 use Rattle.rules.specs.Layout.{cell, cell_at, set_cell, held, hold, is_clear, branch_in}
 use Rattle.rules.specs.Work.{Updated}

@@ -1,5 +1,6 @@
 -- From start, an old program and a new one with lets dropped answer every list of records with equal outputs and refusals after 8.
 -- Assumes nothing.
+use Rattle.std.specs.Prelude.{if◌then◌else◌}
 use mathlib.Core.Path.{◌≡◌, refl, sym, ap, ◌∙◌}
 use mathlib.Core.List.{◌++◌}
 use mathlib.Core.Bool.{Bool, true, false, not}
@@ -9,7 +10,7 @@ use native.Mathlib.Omega.{arith}
 use lib.Dec.{eqb, leb, ltb}
 use lib.ListN.{length, replicate, length-replicate}
 use borrow.Author.Tests.{le-ltb, leb-true}
-use Rattle.rules.specs.Bytes.{Bytes, write_at, byte_at, u32_at, u16_at, bytes_of, if◌then◌else◌, ◌and◌}
+use Rattle.rules.specs.Bytes.{Bytes, write_at, byte_at, u32_at, u16_at, bytes_of, ◌and◌}
 use Rattle.rules.specs.Values.{value_bytes}
 use Rattle.rules.specs.Layout.{checks_of, most_nodes, cells, type_at, nodes, cell_at, state_length, last_time, no_time, start_header, input_length, input_at, time_in}
 use Rattle.rules.specs.Tree.{root}

@@ -1,6 +1,7 @@
 -- An update of the new tree goes as the old one's, wherever that goes on: alike states after it, or a jump to the paired branch with the same
 -- value. Each changes no cells but its own.
 -- Assumes nothing.
+use Rattle.std.specs.Prelude.{if◌then◌else◌}
 use mathlib.Core.Path.{◌≡◌, refl, sym, ap, ◌∙◌}
 use mathlib.Core.Logic.{◌⊎◌, inl, inr}
 use mathlib.Core.List.{◌∷◌}
@@ -10,7 +11,7 @@ use native.Mathlib.Omega.{arith}
 use lib.Dec.{eqb, leb}
 use lib.ListN.{length}
 use borrow.Author.Tests.{eqb-true, leb-true}
-use Rattle.rules.specs.Bytes.{Bytes, if◌then◌else◌, ◌or◌, ◌and◌}
+use Rattle.rules.specs.Bytes.{Bytes, ◌or◌, ◌and◌}
 use Rattle.rules.specs.Values.{packed, unpacked, middle_in, is_maybe}
 use Rattle.rules.specs.Layout.{cell, cell_at, set_cell, held, is_clear, branch_in, hold_branch}
 use Rattle.rules.specs.Work.{Updated, Next, Jump, Halted, stays, leave, one_rule, afterᵘ, ruleᵘ, ◌with◌, ◌thenᵘ◌}

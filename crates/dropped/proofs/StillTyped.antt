@@ -1,12 +1,13 @@
 -- A tree with lets dropped is typed and ready where the old one is.
 -- Assumes nothing.
+use Rattle.std.specs.Prelude.{if◌then◌else◌}
 use mathlib.Core.Path.{◌≡◌, refl, sym, ap, ◌∙◌}
 use mathlib.Core.Bool.{Bool, true, false}
 use Prim.Native.Nat.{ℕ}
 use lib.Dec.{eqb}
 use borrow.Author.Tests.{eqb-true, eq-eqb}
 use native.Mathlib.Omega.{arith}
-use Rattle.rules.specs.Bytes.{if◌then◌else◌, ◌and◌, ◌or◌}
+use Rattle.rules.specs.Bytes.{◌and◌, ◌or◌}
 use Rattle.rules.specs.Values.{bool_t, maybe_of, is_plain, type_of}
 use Rattle.rules.specs.Operations.{operand_type}
 use Rattle.rules.specs.Places.{sooner, wrong_if, wrong_unless}

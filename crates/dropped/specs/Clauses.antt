@@ -3,8 +3,8 @@
 -- field a, b, c, "is paired with a node reached from the old child of that field through the bodies of zero or more lets"; 7 "binder and target are
 -- paired with the old binder and target"; 8 "for the last entry, .. it is so reached from the old root".
 -- Assumes nothing: these are definitions.
-use Rattle.std.specs.Prelude.{ℕ, suc, ◌-◌, Bool, not, eqb, ltb}
-use Rattle.rules.specs.Bytes.{Bytes, if◌then◌else◌, ◌and◌, ◌or◌}
+use Rattle.std.specs.Prelude.{ℕ, suc, ◌-◌, Bool, not, eqb, ltb, if◌then◌else◌}
+use Rattle.rules.specs.Bytes.{Bytes, ◌and◌, ◌or◌}
 use Rattle.rules.specs.Layout.{nodes, kind_at, type_at, a_at, b_at, c_at, word_at, no_next}
 use Rattle.rules.specs.Kinds.{fields_of}
 use Rattle.rules.specs.Calls.{program_verdict}

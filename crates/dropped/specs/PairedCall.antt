@@ -1,7 +1,7 @@
 -- The call of request n: what it answers for every old table, new table and pairing.
 -- Assumes nothing: these are definitions.
-use Rattle.std.specs.Prelude.{ℕ, ◌+◌, Bool, not, List, [], ◌∷◌, length, eqb}
-use Rattle.rules.specs.Bytes.{Bytes, if◌then◌else◌}
+use Rattle.std.specs.Prelude.{ℕ, ◌+◌, Bool, not, List, [], ◌∷◌, length, eqb, if◌then◌else◌}
+use Rattle.rules.specs.Bytes.{Bytes}
 use Rattle.rules.specs.Layout.{edition, nodes}
 use Rattle.rules.specs.Answers.{code_of, place_of}
 use Rattle.rules.specs.Calls.{program_verdict}

@@ -1,7 +1,7 @@
 -- A pairing of a new program's nodes with an old one's, and which of its entries is wrong (request n).
 -- Assumes nothing: these are definitions.
-use Rattle.std.specs.Prelude.{ℕ, zero, suc, ◌-◌, List, Bool, false, not, get_or, eqb, ltb}
-use Rattle.rules.specs.Bytes.{Bytes, first, if◌then◌else◌, ◌and◌, ◌or◌}
+use Rattle.std.specs.Prelude.{ℕ, zero, suc, ◌-◌, List, Bool, false, not, get_or, eqb, ltb, if◌then◌else◌}
+use Rattle.rules.specs.Bytes.{Bytes, first, ◌and◌, ◌or◌}
 use Rattle.rules.specs.Layout.{nodes, kind_at, type_at, a_at, b_at, c_at, word_at, no_next}
 use Rattle.rules.specs.Kinds.{fields_of}
 use Rattle.rules.specs.declared.Place.{Place}

@@ -1,7 +1,6 @@
 -- Lets whose body does not name their variable, replaced by that body until none is left (request m): one pass from below.
 -- Assumes nothing: these are definitions.
-use Rattle.std.specs.Prelude.{ℕ}
-use Rattle.rules.specs.Bytes.{if◌then◌else◌}
+use Rattle.std.specs.Prelude.{ℕ, if◌then◌else◌}
 use Rattle.rules.specs.Tree.{Signal, input, time, ext, delay, let_signal, switch, group, until, Branches, no_branch, branch, Cases, no_case, case}
 use Rattle.dropped.specs.Uses.{uses_s}
 

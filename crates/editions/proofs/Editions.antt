@@ -1,5 +1,6 @@
 -- A table that edition one does not refuse by code 6 is answered in edition two as in edition one: verdict, outputs, work and next states.
 -- Assumes nothing.
+use Rattle.std.specs.Prelude.{if◌then◌else◌}
 use mathlib.Core.Path.{◌≡◌, refl, sym, ap, ◌∙◌}
 use mathlib.Core.Bool.{Bool, true, false, not}
 use mathlib.Core.List.{[], ◌++◌}
@@ -7,7 +8,7 @@ use Prim.Native.Nat.{ℕ, zero, suc, ◌+◌, ◌*◌, ◌/◌, ◌%◌, ◌<◌
 use native.Mathlib.Omega.{arith}
 use lib.Dec.{eqb, leb}
 use lib.ListN.{length, replicate}
-use Rattle.rules.specs.Bytes.{Bytes, first_from, first, write_at, bytes_of, if◌then◌else◌, ◌and◌, ◌or◌}
+use Rattle.rules.specs.Bytes.{Bytes, first_from, first, write_at, bytes_of, ◌and◌, ◌or◌}
 use Rattle.rules.specs.Values.{value_bytes}
 use Rattle.rules.specs.Layout.{blocks, records, nodes, cells, cell_at, state_length, start_header, edition, most_nodes, last_time, no_time, input_length, input_at}
 use Rattle.rules.specs.Format.{length_wrong, sum_wrong, number_wrong, record_wrong}

@@ -1,12 +1,13 @@
 -- Of two files of one length whose records are the same everywhere the rules of codes 1, 4 and 5 say the same.
 -- Assumes nothing.
+use Rattle.std.specs.Prelude.{if◌then◌else◌}
 use mathlib.Core.Path.{◌≡◌, refl, sym, ap, ◌∙◌}
 use mathlib.Core.Bool.{Bool, not}
 use Prim.Native.Nat.{ℕ, zero, suc, ◌+◌, ◌*◌, ◌/◌, ◌%◌}
 use native.Mathlib.Omega.{arith}
 use lib.Dec.{eqb, ltb}
 use lib.ListN.{length}
-use Rattle.rules.specs.Bytes.{Bytes, u16_at, u32_at, u64_at, first, if◌then◌else◌, ◌and◌, ◌or◌}
+use Rattle.rules.specs.Bytes.{Bytes, u16_at, u32_at, u64_at, first, ◌and◌, ◌or◌}
 use Rattle.rules.specs.Layout.{blocks, records, nodes, record_at, no_next, kind_at, type_at, a_at, b_at, c_at, word_at}
 use Rattle.rules.specs.Kinds.{is_kind, is_signal, fields_of}
 use Rattle.rules.specs.Format.{length_wrong, record_wrong, may_end, is_zero, after_end, node_wrong, field_wrong, type_field_wrong}

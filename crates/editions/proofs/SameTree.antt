@@ -1,10 +1,11 @@
 -- Two files of one length whose records are the same everywhere have one tree.
 -- Assumes nothing.
+use Rattle.std.specs.Prelude.{if◌then◌else◌}
 use mathlib.Core.Path.{◌≡◌, refl, ap, ◌∙◌}
 use Prim.Native.Nat.{ℕ, zero, suc, ◌-◌, ◌*◌, ◌/◌}
 use lib.Dec.{eqb}
 use lib.ListN.{length}
-use Rattle.rules.specs.Bytes.{Bytes, first, how_many, if◌then◌else◌}
+use Rattle.rules.specs.Bytes.{Bytes, first, how_many}
 use Rattle.rules.specs.Values.{value_from}
 use Rattle.rules.specs.Layout.{blocks, records, nodes, place_or, has_cell, cells_before, cells, kind_at, type_at, a_at, b_at, c_at, word_at}
 use Rattle.rules.specs.Tree.{Expr, variable, constant, operation, negation, choice, just, taking, Signal, input, time, ext, delay, let_signal, switch, group, until, Branches, no_branch, branch, Cases, no_case, case, value_at, expr_as, below, no_expr, expr_f, expr_at, signal_as, branches_as, cases_as, no_signal, signal_f, branches_f, cases_f, signal_at, root}

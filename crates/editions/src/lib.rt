@@ -1,4 +1,5 @@
 // One table in both editions (document 02, a): definitions in specs/, theorems in proofs/. They know nothing of the code.
+#![tactic(auto)]
 
 // The one function of the crate, so that its theorems are checked with it.
 pub fn same(x: u32) -> u32 {

@@ -1,5 +1,7 @@
 // Evaluation of expressions and of signals, with the values of variables in lent slots, set and put back. An outcome is one number.
 // The outcome of each let's definition is noted in the slot of the let's number: the update that follows takes it from there.
+#![tactic(auto)]
+
 ghost use Rattle.std.specs.Prelude.{◌≡◌, ◌≤◌, ◌<◌};
 ghost use Rattle.rules.specs.Bytes.{Bytes};
 ghost use Rattle.rules.specs.Layout.{kind_at};

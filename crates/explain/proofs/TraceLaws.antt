@@ -1,5 +1,6 @@
 -- What the code does at a node is what the chain's law says of it.
 -- Assumes nothing.
+use Rattle.std.specs.Prelude.{if◌then◌else◌}
 use mathlib.Core.Path.{◌≡◌, refl, sym, ap, subst, ◌∙◌}
 use mathlib.Core.List.{List, [], ◌∷◌}
 use mathlib.Core.Logic.{◌≢◌}
@@ -10,7 +11,7 @@ use native.Mathlib.Nat.{not-suc-le-zero}
 use lib.Dec.{eqb}
 use lib.ListN.{length, set, length-set}
 use lib.Seq.{set_comm}
-use Rattle.rules.specs.Bytes.{Bytes, write_at, if◌then◌else◌, ◌and◌}
+use Rattle.rules.specs.Bytes.{Bytes, write_at, ◌and◌}
 use Rattle.rules.specs.Layout.{nodes, kind_at, a_at, b_at, c_at}
 use Rattle.rules.specs.Kinds.{is_signal}
 use Rattle.rules.specs.Shaped.{Shaped}

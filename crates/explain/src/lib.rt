@@ -1,6 +1,8 @@
 // Why a program is not ready: the chain of the let that code 8 names, in a lent room of 1,008 node numbers.
-ghost use Rattle.std.specs.Prelude.{◌≡◌, Bool, [], ◌++◌, ◌+◌, ◌<◌, ◌≤◌, ◌-◌, length, take, replicate};
-ghost use Rattle.rules.specs.Bytes.{write_at, if◌then◌else◌};
+#![tactic(auto)]
+
+ghost use Rattle.std.specs.Prelude.{◌≡◌, Bool, [], ◌++◌, ◌+◌, ◌<◌, ◌≤◌, ◌-◌, length, take, replicate, if◌then◌else◌};
+ghost use Rattle.rules.specs.Bytes.{write_at};
 ghost use Rattle.rules.specs.Layout.{nodes, no_next};
 ghost use Rattle.rules.specs.Node.{IsNode};
 ghost use Rattle.rules.specs.Shaped.{Shaped};

@@ -1,44 +1,52 @@
 // Reading: the next piece where the last is used up, a line, a room of known length.
-ghost use Rattle.std.specs.Prelude.{◌+◌, ◌≤◌, ◌≡◌, length, take, pos};
-ghost use Rattle.std.specs.Int.Signed.{lt_z};
-ghost use Rattle.io.specs.Counts.{IsPrefixLen, clamp_len};
+ghost use Rattle.std.specs.Prelude.{◌+◌, ◌≤◌, ◌≡◌, length, take, min, is_err, IfOk, OnErr};
+ghost use Rattle.std.specs.Io.{ReadsAtMost};
+ghost use Rattle.io.specs.Counts.{IsPrefixLen};
 
 use crate::{Filled, Got, Line, Place};
+use std::io::{Error, ErrorKind, Read, Result};
 
 // The piece that a read answered: nothing of it is unread at the end of the input, or where the read failed, and only these two are told
 // apart by `failed`.
-fn piece(got: isize, buffer: &[u8]) -> Place
-    ensures at_value { (result.at ≡ 0) × (result.end ≡ clamp_len got (length buffer.now)) }
+fn piece(got: Result<usize>, buffer: &[u8]) -> Place
+    ensures at_value { result.at ≡ 0 }
+    ensures end_value { IfOk got (λ n. result.end ≡ min n (length buffer.now)) }
+    ensures end_of_failed { OnErr got (result.end ≡ 0) }
     ensures end_in_bounds { result.end ≤ length buffer.now }
-    ensures failed_value { result.failed ≡ lt_z got (pos 0) }
+    ensures failed_value { result.failed ≡ is_err got }
 {
-    let n = io::count(got, buffer);
+    let is_failed = got.is_err();
+    let end = match got {
+        Ok(n) => least(n, buffer.len()),
+        Err(_) => 0,
+    };
     Place {
         at: 0,
-        end: n,
-        failed: got < 0,
+        end: end,
+        failed: is_failed,
     }
 }
 
 // One read of standard input. A read that a signal interrupts before it has a byte answers nothing, and is tried again; no number of tries is
-// known to be enough, so they count down from one that no run uses up.
-fn taken(buffer: &mut [u8]) -> isize {
-    let mut tries = u64::MAX;
-    while tries > 0 {
-        let got = libc::read(libc::STDIN_FILENO, buffer);
-        if got >= 0 {
-            return got;
+// known to be enough, so they are counted up to one that no run uses up.
+fn taken(rt: &impl Input, buffer: &mut [u8]) -> Result<usize>
+    ensures { ReadsAtMost result buffer.new }
+{
+    for _ in 0..u64::MAX {
+        match rt.reader().read(buffer) {
+            Ok(n) => return Ok(n),
+            Err(e) => {
+                if e.kind() != ErrorKind::Interrupted {
+                    return Err(e);
+                }
+            }
         }
-        if os::errno() != libc::EINTR {
-            return got;
-        }
-        tries -= 1;
     }
-    -1
+    Err(Error::from(ErrorKind::Interrupted))
 }
 
 // What is unread, after one more read where nothing was. Nothing is unread at the end of the input, or where a read failed.
-fn refilled(place: Place, buffer: &mut [u8]) -> Place
+fn refilled(rt: &impl Input, place: Place, buffer: &mut [u8]) -> Place
     ensures { (result.at ≤ result.end) × (result.end ≤ length buffer.new) }
 {
     if place.at < place.end {
@@ -46,13 +54,14 @@ fn refilled(place: Place, buffer: &mut [u8]) -> Place
             return place;
         }
     }
-    let got = taken(buffer);
+    let got = taken(rt, buffer);
     piece(got, buffer)
 }
 
 // The smaller of two.
 fn least(a: usize, b: usize) -> usize
-    ensures { (result ≤ a) × (result ≤ b) }
+    ensures bounds { (result ≤ a) × (result ≤ b) }
+    ensures value { result ≡ min a b }
 {
     if a < b { a } else { b }
 }
@@ -65,12 +74,13 @@ fn moved(at: usize, end: usize, buffer: &[u8], room: &mut [u8], done: usize) -> 
 {
     let n = least(end - at, room.len() - done);
     let stop = at + n;
-    bytes::copy(&buffer[at..stop], &mut room[done..]);
+    let to = done + n;
+    room[done..to].copy_from_slice(&buffer[at..stop]);
     n
 }
 
 // Fills room with the next bytes of the input: less of it where the input ends.
-fn fill_all(place: Place, buffer: &mut [u8], room: &mut [u8]) -> Got
+fn fill_all(rt: &impl Input, place: Place, buffer: &mut [u8], room: &mut [u8]) -> Got
     ensures { result.count ≤ length room.new }
 {
     let mut at = place.at;
@@ -78,6 +88,7 @@ fn fill_all(place: Place, buffer: &mut [u8], room: &mut [u8]) -> Got
     let mut done = 0;
     while done < room.len() {
         let here = refilled(
+            rt,
             Place {
                 at: at,
                 end: end,
@@ -107,14 +118,14 @@ fn fill_all(place: Place, buffer: &mut [u8], room: &mut [u8]) -> Got
 }
 
 // Fills the first n bytes of room with the next bytes of the input; not where n is more than room has.
-pub fn fill(place: Place, buffer: &mut [u8], room: &mut [u8], n: usize) -> Filled {
+pub fn fill(rt: &impl Input, place: Place, buffer: &mut [u8], room: &mut [u8], n: usize) -> Filled {
     if n > room.len() {
         return Filled {
             place: place,
             whole: false,
         };
     }
-    let got = fill_all(place, buffer, &mut room[..n]);
+    let got = fill_all(rt, place, buffer, &mut room[..n]);
     let after = got.place;
     Filled {
         place: after,
@@ -123,7 +134,14 @@ pub fn fill(place: Place, buffer: &mut [u8], room: &mut [u8], n: usize) -> Fille
 }
 
 // Reads up to n bytes of the input into room from index `from` on; none where room has too little.
-pub fn gather(place: Place, buffer: &mut [u8], room: &mut [u8], from: usize, n: usize) -> Got
+pub fn gather(
+    rt: &impl Input,
+    place: Place,
+    buffer: &mut [u8],
+    room: &mut [u8],
+    from: usize,
+    n: usize,
+) -> Got
     ensures { result.count ≤ n }
 {
     if from > room.len() {
@@ -139,7 +157,7 @@ pub fn gather(place: Place, buffer: &mut [u8], room: &mut [u8], from: usize, n: 
         };
     }
     let to = from + n;
-    fill_all(place, buffer, &mut room[from..to])
+    fill_all(rt, place, buffer, &mut room[from..to])
 }
 
 // The first n elements of s, or all where it has no more.
@@ -153,7 +171,7 @@ pub fn first(s: &[u8], n: usize) -> &[u8]
 }
 
 // Reads a line with its line end into text: less where the input ends or text is full.
-pub fn header(place: Place, buffer: &mut [u8], text: &mut [u8]) -> Line
+pub fn header(rt: &impl Input, place: Place, buffer: &mut [u8], text: &mut [u8]) -> Line
     ensures { IsPrefixLen result.length text.new }
 {
     let mut at = place.at;
@@ -161,6 +179,7 @@ pub fn header(place: Place, buffer: &mut [u8], text: &mut [u8]) -> Line
     let mut n = 0;
     while n < text.len() {
         let here = refilled(
+            rt,
             Place {
                 at: at,
                 end: end,

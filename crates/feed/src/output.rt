@@ -2,31 +2,31 @@
 ghost use Rattle.std.specs.Prelude.{◌≤◌, length};
 
 use crate::Place;
+use std::io::{ErrorKind, Print};
 
 // One write to standard output: how many bytes of text it took, none where it failed. A write that a signal interrupts before it took a byte
 // is tried again, as often as such a read is.
-fn taken(text: &[u8]) -> usize
+fn taken(rt: &impl Print, text: &[u8]) -> usize
     ensures { result ≤ length text.now }
 {
-    let mut tries = u64::MAX;
-    while tries > 0 {
-        let got = libc::write(libc::STDOUT_FILENO, text);
-        if got >= 0 {
-            return io::count(got, text);
+    for _ in 0..u64::MAX {
+        match rt.write_some(text) {
+            Ok(n) => return n,
+            Err(e) => {
+                if e.kind() != ErrorKind::Interrupted {
+                    return 0;
+                }
+            }
         }
-        if os::errno() != libc::EINTR {
-            return 0;
-        }
-        tries -= 1;
     }
     0
 }
 
 // Writes all of text, and answers whether that was done: it ends at the first write that fails or takes nothing.
-pub fn write(text: &[u8]) -> bool {
+pub fn write(rt: &impl Print, text: &[u8]) -> bool {
     let mut done = 0;
     while done < text.len() {
-        let n = taken(&text[done..]);
+        let n = taken(rt, &text[done..]);
         if n == 0 {
             return false;
         }
@@ -36,35 +36,38 @@ pub fn write(text: &[u8]) -> bool {
 }
 
 // Writes the first `full` bytes of out.
-pub fn flush(out: &[u8], full: usize) {
+pub fn flush(rt: &impl Print, out: &[u8], full: usize) {
     if full <= out.len() {
-        write(&out[..full]);
+        write(rt, &out[..full]);
     }
 }
 
 // Puts text behind the first `full` bytes of out, which are written first where there is too little room. Answers how many bytes wait in out.
-pub fn append(text: &[u8], out: &mut [u8], full: usize) -> usize
+pub fn append(rt: &impl Print, text: &[u8], out: &mut [u8], full: usize) -> usize
     ensures { result ≤ length out.new }
 {
     if full <= out.len() {
         if text.len() <= out.len() - full {
-            let n = bytes::copy(text, &mut out[full..]);
-            return full + n;
+            let end = full + text.len();
+            out[full..end].copy_from_slice(text);
+            return end;
         }
     }
-    flush(out, full);
+    flush(rt, out, full);
     if text.len() <= out.len() {
-        return bytes::copy(text, out);
+        let end = text.len();
+        out[..end].copy_from_slice(text);
+        return end;
     }
-    write(text);
+    write(rt, text);
     0
 }
 
 // Writes what waits in out where nothing is unread, since the next read may wait too. Answers how many bytes still wait in out.
-pub fn rested(place: Place, out: &[u8], full: usize) -> usize {
+pub fn rested(rt: &impl Print, place: Place, out: &[u8], full: usize) -> usize {
     if place.at < place.end {
         return full;
     }
-    flush(out, full);
+    flush(rt, out, full);
     0
 }

@@ -1,4 +1,6 @@
 // The fields of a kind that are for a child, by ranges of kinds, and those by which a chain is continued.
+#![tactic(auto)]
+
 ghost use Rattle.std.specs.Prelude.{◌≡◌, Bool};
 ghost use Rattle.rules.specs.Kinds.{fields_of};
 ghost use Rattle.rules.specs.Shape.{is_child};

@@ -1,4 +1,6 @@
 // Codes 1-4: the program's length, each block's check, number and count, each record.
+#![tactic(auto)]
+
 ghost use Rattle.std.specs.Prelude.{◌≡◌, Bool, false, suc, ◌+◌, ◌*◌, ◌≤◌, ◌<◌, length, take, drop};
 ghost use Rattle.rules.specs.Bytes.{◌or◌, u64_at, first};
 ghost use Rattle.rules.specs.Values.{is_type};

@@ -1,14 +1,15 @@
 -- The parts of a form, and the fields of a node that is none.
 -- Assumes nothing.
+use Rattle.std.specs.Prelude.{if◌then◌else◌}
 use mathlib.Core.Path.{◌≡◌, refl, sym, ap, ◌∙◌}
 use mathlib.Core.Bool.{Bool, true, false, not}
 use mathlib.Core.List.{[], ◌∷◌, ◌++◌, append_assoc}
-use Prim.Native.Nat.{ℕ, zero, ◌+◌, ◌-◌, ◌*◌, ◌/◌, ◌%◌, ◌≤◌, min}
+use Prim.Native.Nat.{ℕ, ◌+◌, ◌*◌, ◌/◌, ◌%◌, ◌≤◌, min}
 use native.Mathlib.Omega.{arith}
 use lib.Dec.{eqb, ltb}
 use lib.ListN.{length, replicate, get_or-eq_default}
 use borrow.Author.Tests.{eq-eqb, ne_eqb}
-use Rattle.rules.specs.Bytes.{Bytes, byte_at, u16_at, u32_at, if◌then◌else◌, ◌and◌, ◌or◌}
+use Rattle.rules.specs.Bytes.{Bytes, byte_at, u16_at, u32_at, ◌and◌, ◌or◌}
 use Rattle.rules.specs.Layout.{record_at, block_at, kind_at, type_at, a_at, b_at, c_at, word_at, no_next}
 use Rattle.rules.specs.Node.{IsNode}
 use Rattle.rules.specs.Shape.{may_be, may_stop}

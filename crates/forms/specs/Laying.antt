@@ -1,7 +1,7 @@
 -- The pieces of a node in the parts in which the code puts them.
 -- Assumes nothing: these are definitions.
-use Rattle.std.specs.Prelude.{ℕ, ◌%◌, ◌≤◌, ◌≡◌, length, List, [], ◌∷◌, ◌++◌, Bool, true, false, not, eqb}
-use Rattle.rules.specs.Bytes.{Bytes, ◌and◌, if◌then◌else◌}
+use Rattle.std.specs.Prelude.{ℕ, ◌%◌, ◌≤◌, ◌≡◌, length, List, [], ◌∷◌, ◌++◌, Bool, true, false, not, eqb, if◌then◌else◌}
+use Rattle.rules.specs.Bytes.{Bytes, ◌and◌}
 use Rattle.rules.specs.Layout.{no_next}
 use Rattle.rules.specs.Kinds.{fields_of}
 use Rattle.rules.specs.Shape.{is_child, may_stop}

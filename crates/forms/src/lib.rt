@@ -1,4 +1,6 @@
 // The forms of a table: each node's text, put into a room from a place on, and the table's whole text.
+#![tactic(auto)]
+
 ghost use Rattle.std.specs.Prelude.{◌≡◌, [], ◌∷◌, false, ◌+◌, ◌≤◌, length};
 ghost use Rattle.rules.specs.Node.{IsNode};
 ghost use Rattle.rules.specs.Layout.{nodes};

@@ -1,7 +1,7 @@
 -- The walk that numbers nodes: children first in field order, each node's number its place.
 -- Assumes nothing: these are definitions.
-use Rattle.std.specs.Prelude.{ℕ, suc, ◌+◌, ◌≡◌, List, [], ◌∷◌, ◌++◌, Bool, length, set}
-use Rattle.rules.specs.Bytes.{Bytes, write_at, if◌then◌else◌}
+use Rattle.std.specs.Prelude.{ℕ, suc, ◌+◌, ◌≡◌, List, [], ◌∷◌, ◌++◌, Bool, length, set, if◌then◌else◌}
+use Rattle.rules.specs.Bytes.{Bytes, write_at}
 use Rattle.rules.specs.Tree.{below}
 use Rattle.tidy.specs.Twig.{Twig, twig, Limb, holds, child, twig_at}
 

@@ -1,4 +1,6 @@
 // An accepted program numbered anew, children first in field order, and written as blocks.
+#![tactic(auto)]
+
 ghost use Rattle.std.specs.Prelude.{◌≡◌, ◌+◌, ◌<◌, ◌≤◌, length};
 ghost use Rattle.rules.specs.Bytes.{write_at};
 ghost use Rattle.rules.specs.Layout.{nodes};

@@ -1,4 +1,6 @@
 // The values that a record gives: its time and its channels. Past the record's end every byte reads as 0, so nothing is required.
+#![tactic(auto)]
+
 ghost use Rattle.std.specs.Prelude.{◌≡◌, ◌+◌, ◌≤◌, ◌<◌, eqb, length};
 ghost use Rattle.rules.specs.Bytes.{byte_at, u16_at, u32_at};
 ghost use Rattle.rules.specs.Layout.{channel_value, flag_on, time_in};

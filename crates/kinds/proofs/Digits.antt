@@ -1,12 +1,13 @@
 -- The digits of a kind's row are what the table says of it.
 -- Assumes nothing.
+use Rattle.std.specs.Prelude.{if◌then◌else◌}
 use mathlib.Core.Path.{◌≡◌, refl, sym, ap, ◌∙◌}
 use mathlib.Core.Bool.{Bool, true, false, not, true≢false}
 use Prim.Native.Nat.{ℕ, ◌+◌, ◌*◌, ◌/◌, ◌%◌, ◌≤◌, ◌<◌}
 use native.Mathlib.Omega.{arith}
 use lib.Dec.{eqb, leb}
 use borrow.Author.Tests.{leb-true, le-leb, ne_eqb}
-use Rattle.rules.specs.Bytes.{if◌then◌else◌, ◌and◌, ◌or◌}
+use Rattle.rules.specs.Bytes.{◌and◌, ◌or◌}
 use Rattle.rules.specs.Kinds.{row, is_signal, is_branch, is_case, is_expression, is_kind, fields_of}
 use Rattle.rules.specs.Shape.{is_child}
 use Rattle.rules.specs.declared.Field.{Field}

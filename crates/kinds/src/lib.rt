@@ -1,4 +1,6 @@
 // The kinds: which are signals and expressions, what a field asks of the number in it, and the paper's table as one decision over the kind.
+#![tactic(auto)]
+
 ghost use Rattle.std.specs.Prelude.{◌≡◌, Bool, ◌+◌, ◌*◌, ◌≤◌, ◌<◌};
 ghost use Rattle.rules.specs.Bytes.{◌and◌, ◌or◌};
 ghost use Rattle.rules.specs.Kinds.{is_expression, is_signal};

@@ -1,5 +1,6 @@
 -- Names noted, and branch names ahead.
 -- Assumes nothing.
+use Rattle.std.specs.Prelude.{if◌then◌else◌}
 use mathlib.Core.Path.{◌≡◌, refl, sym, ap, ap₂, subst, ◌∙◌}
 use mathlib.Core.Bool.{Bool, true, false}
 use mathlib.Core.List.{List, [], ◌∷◌}
@@ -8,9 +9,9 @@ use native.Mathlib.Omega.{arith}
 use lib.Dec.{eqb, ltb}
 use lib.ListN.{length, get_or, set, drop, length-set}
 use lib.Seq.{get_or-set_same, get_or-set_other}
-use borrow.Author.Tests.{eq-eqb, ne_eqb, eqb-true, eqb-false, ltb-true, lt-ltb, le-ltb, le-leb, lt-leb}
-use Rattle.rules.specs.Bytes.{Bytes, if◌then◌else◌, ◌and◌, ◌or◌}
-use Rattle.texts.specs.Tokens.{Token, token, between, from, part, tokens}
+use borrow.Author.Tests.{ne_eqb, eqb-true, eqb-false, ltb-true, lt-ltb, le-ltb, le-leb, lt-leb}
+use Rattle.rules.specs.Bytes.{Bytes, ◌and◌, ◌or◌}
+use Rattle.texts.specs.Tokens.{Token, token, from, part, tokens}
 use Rattle.texts.specs.Spelled.{same, is_among}
 use Rattle.texts.specs.Spelling.{open₀, kind_word}
 use Rattle.texts.specs.Reader.{branch_names, opened, named}

@@ -1,7 +1,7 @@
 -- The branch names that stand anywhere in a text, word by word: what is awaited behind the words read so far.
 -- Assumes nothing: these are definitions.
-use Rattle.std.specs.Prelude.{ℕ, List, [], ◌∷◌, Bool, true, false, eqb}
-use Rattle.rules.specs.Bytes.{Bytes, if◌then◌else◌, ◌and◌}
+use Rattle.std.specs.Prelude.{ℕ, List, eqb, if◌then◌else◌}
+use Rattle.rules.specs.Bytes.{Bytes, ◌and◌}
 use Rattle.texts.specs.Tokens.{Token}
 use Rattle.texts.specs.Spelled.{same}
 use Rattle.texts.specs.Spelling.{open₀, kind_word}

@@ -1,4 +1,6 @@
 // Names in a text: those noted so far, by where they begin and end, and those of branches, which may stand anywhere.
+#![tactic(auto)]
+
 ghost use Rattle.std.specs.Prelude.{◌≡◌, ◌≤◌, ◌<◌, ◌+◌, length, get_or};
 ghost use Rattle.texts.specs.Tokens.{part, tokens};
 ghost use Rattle.texts.specs.Spelled.{same, is_among};

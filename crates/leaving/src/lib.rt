@@ -1,4 +1,6 @@
 // The part that is left goes to start: what a switch that catches a value and a group that takes a branch do with their cells.
+#![tactic(auto)]
+
 ghost use Rattle.std.specs.Prelude.{◌≡◌, length};
 ghost use Rattle.rules.specs.Values.{unpacked};
 ghost use Rattle.rules.specs.Kinds.{is_signal, is_branch};

@@ -1,7 +1,7 @@
 -- Writing a text into a room from a place on, and where it ends. What does not fit the room is counted and not written.
 -- Assumes nothing: these are definitions.
-use Rattle.std.specs.Prelude.{ℕ, ◌+◌, ◌≤◌, ◌≡◌, List, [], ◌∷◌, ◌++◌, Bool, length}
-use Rattle.rules.specs.Bytes.{Bytes, write_at, if◌then◌else◌}
+use Rattle.std.specs.Prelude.{ℕ, ◌+◌, ◌≤◌, ◌≡◌, List, [], ◌∷◌, ◌++◌, Bool, length, if◌then◌else◌}
+use Rattle.rules.specs.Bytes.{Bytes, write_at}
 use Rattle.texts.specs.Printer.{Piece, plain_word, longest_text}
 use Rattle.texts.specs.Spelling.{type_word, some_word, none_word}
 

@@ -1,5 +1,7 @@
 // The letters of a printed text: bytes, words, names, numbers and values, put into a room from a place on. What does not fit the room is counted
 // and not written.
+#![tactic(auto)]
+
 ghost use Rattle.std.specs.Prelude.{◌≡◌, [], ◌∷◌, ◌<◌, ◌+◌, ◌-◌, ◌*◌, min, replicate};
 ghost use Rattle.texts.specs.Spelling.{type_word};
 ghost use Rattle.texts.specs.Numerals.{digits_f, decimal, signed_decimal};

@@ -4,7 +4,7 @@ use mathlib.Core.Path.{◌≡◌, refl, sym, ap, ◌∙◌, subst}
 use mathlib.Core.List.{List, [], ◌∷◌, ◌++◌, append-nil, append_assoc}
 use native.Mathlib.Nat.{add-zero}
 use native.Mathlib.Numerals.{unary_clauses}
-use lib.ListN.{length, take}
+use lib.ListN.{take}
 use Rattle.rules.specs.Bytes.{Bytes, u64_at}
 use Rattle.rules.specs.declared.Value.{Value}
 use Rattle.wire.specs.Text.{Put, decimal, field}

@@ -1,6 +1,5 @@
 -- What watchrun prints: types, values and lines, as document 01 has them. Assumes nothing: these are definitions.
-use Rattle.std.specs.Prelude.{ℕ, suc, ◌-◌, List, [], ◌∷◌, ◌++◌, eqb, ltb, ℤ, pos, negsuc}
-use Rattle.rules.specs.Bytes.{if◌then◌else◌}
+use Rattle.std.specs.Prelude.{ℕ, suc, ◌-◌, List, [], ◌∷◌, ◌++◌, eqb, ltb, ℤ, pos, negsuc, if◌then◌else◌}
 use Rattle.rules.specs.Words.{signed}
 use Rattle.rules.specs.Answers.{code_of, place_of}
 use Rattle.rules.specs.declared.Value.{Value}

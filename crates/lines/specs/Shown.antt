@@ -1,7 +1,7 @@
 -- The line of a watched step (document 02, l): the step's own line, and behind it what the listed nodes gave.
 -- Assumes nothing: these are definitions.
-use Rattle.std.specs.Prelude.{ℕ, zero, suc, ◌*◌, List, [], ◌∷◌, ◌++◌, eqb}
-use Rattle.rules.specs.Bytes.{Bytes, u64_at, if◌then◌else◌}
+use Rattle.std.specs.Prelude.{ℕ, zero, suc, ◌*◌, List, [], ◌∷◌, ◌++◌, eqb, if◌then◌else◌}
+use Rattle.rules.specs.Bytes.{Bytes, u64_at}
 use Rattle.rules.specs.Values.{unpacked}
 use Rattle.rules.specs.declared.Value.{Value}
 use Rattle.wire.specs.Text.{decimal, field}

@@ -1,4 +1,6 @@
 // The lines that watchrun prints, as bytes, and those of tables' own.
+#![tactic(auto)]
+
 mod line;
 mod named;
 mod shown;

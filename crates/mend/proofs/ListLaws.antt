@@ -1,5 +1,6 @@
 -- The list of what changed, written entry by entry; and a state that is kept beside its mending.
 -- Assumes nothing.
+use Rattle.std.specs.Prelude.{if◌then◌else◌}
 use mathlib.Core.Path.{◌≡◌, refl, sym, ap, ◌∙◌}
 use mathlib.Core.Bool.{Bool, true, false, not}
 use mathlib.Core.List.{List, [], ◌∷◌, ◌++◌}
@@ -7,7 +8,7 @@ use Prim.Native.Nat.{ℕ, zero, suc, ◌+◌, ◌-◌, ◌≤◌, ◌<◌}
 use native.Mathlib.Omega.{arith}
 use lib.Dec.{eqb}
 use lib.ListN.{length, set, length-append}
-use Rattle.rules.specs.Bytes.{Bytes, byte_at, u16_at, u32_at, write_at, if◌then◌else◌}
+use Rattle.rules.specs.Bytes.{Bytes, byte_at, u16_at, u32_at, write_at}
 use Rattle.rules.specs.Layout.{no_next, cell, cell_at, last_time}
 use Rattle.rules.proofs.Cells.{u64_same}
 use Rattle.mends.specs.Changes.{changed_from, changed_time, changed_below}

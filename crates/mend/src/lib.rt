@@ -1,4 +1,6 @@
 // The call that brings a state back, and the list of what changed.
+#![tactic(auto)]
+
 ghost use Rattle.std.specs.Prelude.{◌≡◌, ◌+◌, ◌-◌, ◌≤◌, ◌<◌, length};
 ghost use Rattle.rules.specs.Bytes.{write_at};
 ghost use Rattle.rules.specs.Layout.{nodes, cells as cells_of, checks_of, state_length, cell_at};

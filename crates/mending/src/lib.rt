@@ -1,6 +1,7 @@
 // Bringing a state back, in place: from the root downward.
-ghost use Rattle.std.specs.Prelude.{◌≡◌, ◌+◌, ◌-◌, ◌≤◌, ◌<◌, length, get_or};
-ghost use Rattle.rules.specs.Bytes.{if◌then◌else◌};
+#![tactic(auto)]
+
+ghost use Rattle.std.specs.Prelude.{◌≡◌, ◌+◌, ◌-◌, ◌≤◌, ◌<◌, length, get_or, if◌then◌else◌};
 ghost use Rattle.rules.specs.Node.{IsNode};
 ghost use Rattle.rules.specs.Values.{packed, value_from};
 ghost use Rattle.rules.specs.Layout.{nodes, kind_at, state_length, cell_at, cell as cellIn, header_length, set_cell};

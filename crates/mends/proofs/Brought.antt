@@ -1,5 +1,6 @@
 -- A state of an accepted program, of the right length and sum, is brought back.
 -- Assumes nothing.
+use Rattle.std.specs.Prelude.{if◌then◌else◌}
 use mathlib.Core.Path.{◌≡◌, refl, sym, ap, subst, ◌∙◌}
 use mathlib.Core.Bool.{Bool, true, false}
 use mathlib.Core.List.{List, [], ◌∷◌}
@@ -8,7 +9,7 @@ use native.Mathlib.Omega.{arith}
 use lib.Dec.{eqb, leb, ltb}
 use lib.ListN.{length}
 use borrow.Author.Tests.{eq-eqb, ne_eqb, lt-ltb}
-use Rattle.rules.specs.Bytes.{Bytes, write_at, if◌then◌else◌, ◌or◌}
+use Rattle.rules.specs.Bytes.{Bytes, write_at, ◌or◌}
 use Rattle.rules.specs.Layout.{most_nodes, no_next, cells, type_at, cell, cell_at, state_length, checks_of, sum_in, last_time, no_time, set_time}
 use Rattle.rules.specs.Tree.{Signal, root}
 use Rattle.rules.specs.WellFormed.{well_formed, well_s, last_moment}

@@ -1,5 +1,6 @@
 -- What is brought back is well-formed, and nothing but a part's own cells is changed.
 -- Assumes nothing.
+use Rattle.std.specs.Prelude.{if◌then◌else◌}
 use mathlib.Core.Path.{◌≡◌, refl, sym, ap, subst, ◌∙◌}
 use mathlib.Core.Bool.{Bool, true, false}
 use Prim.Native.Nat.{ℕ, ◌+◌, ◌<◌, ◌≤◌}
@@ -7,7 +8,7 @@ use native.Mathlib.Omega.{arith}
 use lib.Dec.{eqb}
 use lib.ListN.{length}
 use borrow.Author.Tests.{eq-eqb, eqb-true, ne_eqb}
-use Rattle.rules.specs.Bytes.{Bytes, if◌then◌else◌, ◌and◌}
+use Rattle.rules.specs.Bytes.{Bytes, ◌and◌}
 use Rattle.rules.specs.Values.{type_of, type_in, middle_in}
 use Rattle.rules.specs.Layout.{cell, cell_at, hold, clear, is_clear}
 use Rattle.rules.specs.Tree.{Signal, input, time, ext, delay, let_signal, switch, group, until, Branches, no_branch, branch, Cases, no_case, case}

@@ -1,7 +1,7 @@
 -- Bringing a state back (document 02, request k), as a function from the root downward.
 -- Assumes nothing: these are definitions.
-use Rattle.std.specs.Prelude.{ℕ, Bool, true, false, eqb, leb}
-use Rattle.rules.specs.Bytes.{Bytes, if◌then◌else◌, ◌or◌}
+use Rattle.std.specs.Prelude.{ℕ, Bool, true, false, eqb, leb, if◌then◌else◌}
+use Rattle.rules.specs.Bytes.{Bytes, ◌or◌}
 use Rattle.rules.specs.Values.{type_of, middle_in}
 use Rattle.rules.specs.Layout.{last_time, no_time, set_time, cell, hold, clear}
 use Rattle.rules.specs.Tree.{Signal, input, time, ext, delay, let_signal, switch, group, until, Branches, no_branch, branch, Cases, no_case, case, root}

@@ -1,7 +1,7 @@
 -- The call: from the program, the state and the lent list's room to the answer and both after.
 -- Assumes nothing: these are definitions.
-use Rattle.std.specs.Prelude.{ℕ, suc, not, List, [], ◌∷◌, eqb, length}
-use Rattle.rules.specs.Bytes.{Bytes, write_at, if◌then◌else◌}
+use Rattle.std.specs.Prelude.{ℕ, suc, not, List, [], ◌∷◌, eqb, length, if◌then◌else◌}
+use Rattle.rules.specs.Bytes.{Bytes, write_at}
 use Rattle.rules.specs.Layout.{cells}
 use Rattle.rules.specs.WellFormed.{long_as_cells, knows_program}
 use Rattle.rules.specs.Answers.{code_of, place_of}

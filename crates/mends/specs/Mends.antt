@@ -1,7 +1,7 @@
 -- The theorems' statements, by the sentences of request k: what mending leaves of a state, what it lists, and that the state runs on.
 -- Assumes nothing: these are definitions.
-use Rattle.std.specs.Prelude.{◌≡◌, true, false, List, [], ◌∷◌, ◌⊎◌, ℕ, suc, ◌*◌, ◌≤◌, ◌<◌, length}
-use Rattle.rules.specs.Bytes.{Bytes, write_at, if◌then◌else◌}
+use Rattle.std.specs.Prelude.{◌≡◌, true, false, List, [], ◌∷◌, ◌⊎◌, ℕ, suc, ◌*◌, ◌≤◌, ◌<◌, length, if◌then◌else◌}
+use Rattle.rules.specs.Bytes.{Bytes, write_at}
 use Rattle.rules.specs.Layout.{no_next, no_time, cells, cell, last_time, sum_in, checks_of, state_length, input_length, input_at, time_in}
 use Rattle.rules.specs.Tree.{Signal, root}
 use Rattle.rules.specs.WellFormed.{well_formed}

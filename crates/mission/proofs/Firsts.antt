@@ -1,5 +1,6 @@
 -- Demand 1 of check and start: a refusal has the first code that the rules give.
 -- Assumes nothing.
+use Rattle.std.specs.Prelude.{if◌then◌else◌}
 use mathlib.Core.Path.{◌≡◌, refl, sym, ap, subst, ◌∙◌}
 use mathlib.Core.Bool.{Bool, true, false, not}
 use mathlib.Core.List.{List, [], ◌∷◌}
@@ -8,7 +9,7 @@ use native.Mathlib.Omega.{arith}
 use lib.Dec.{eqb}
 use lib.ListN.{length}
 use borrow.Author.Tests.{eq-eqb, eqb-true}
-use Rattle.rules.specs.Bytes.{Bytes, first, if◌then◌else◌}
+use Rattle.rules.specs.Bytes.{Bytes, first}
 use Rattle.rules.specs.Layout.{blocks, records, nodes, state_length}
 use Rattle.rules.specs.Answers.{code_of}
 use Rattle.rules.specs.Format.{length_wrong, sum_wrong, number_wrong, record_wrong}
@@ -43,6 +44,7 @@ Coded c (v ∷ vs) = ((r : Refusal) → v ≡ Refuse r → code_of r ≡ c) × C
 least_code : (c : ℕ) (vs : List Verdict) (q : Refusal) → Coded c vs → Among vs q → c ≤ code_of q
 least_code c (v ∷ vs) q k (here e) = omega (arith, k.0 q e)
 least_code c (v ∷ vs) q k (there a) = omega (arith, least_code (suc c) vs q k.1 a)
+least_code c [] q k x'' = elim x'' [ ]
 
 -- The first that refuses has the lowest code; and where the chain is fine none refuses.
 chain_first : (c : ℕ) (vs : List Verdict) (r : Refusal) → Coded c vs → chain vs ≡ Refuse r → FirstOf (Among vs) r
@@ -63,6 +65,7 @@ unfolding chain ◌otherwise◌
 chain_none (Fine ∷ vs) r e (here z) = not_fine (sym z)
 chain_none (Fine ∷ vs) r e (there a) = chain_none vs r e a
 chain_none (Refuse s ∷ vs) r e a = not_fine e
+chain_none [] r e a = elim a [ ]
 
 -- Two that refuse with one code are one.
 among_same : (c : ℕ) (vs : List Verdict) (r q : Refusal) → Coded c vs → code_of r ≡ code_of q → Among vs r → Among vs q → r ≡ q
@@ -73,6 +76,7 @@ among_same c (v ∷ vs) r q k h (here e) (here f) = refuse_same (sym e ∙ f)
 among_same c (v ∷ vs) r q k h (here e) (there b) = absurd (omega (arith, k.0 r e, least_code (suc c) vs q k.1 b))
 among_same c (v ∷ vs) r q k h (there a) (here f) = absurd (omega (arith, k.0 q f, least_code (suc c) vs r k.1 a))
 among_same c (v ∷ vs) r q k h (there a) (there b) = among_same (suc c) vs r q k.1 h a b
+among_same c [] r q k h x4 _ = elim x4 [ ]
 
 -- Codes 1-8.
 unfoldable verdicts : Bytes → List Verdict
@@ -173,6 +177,7 @@ among_fault p r (there (there (there (there (here e))))) = as_fault p ShapeFault
 among_fault p r (there (there (there (there (there (here e)))))) = as_fault p ScopeFault _ r of_scope e
 among_fault p r (there (there (there (there (there (there (here e))))))) = as_fault p TypeFault _ r of_type e
 among_fault p r (there (there (there (there (there (there (there (here e)))))))) = as_fault p NotReady _ r of_ready e
+among_fault p r (there (there (there (there (there (there (there (there x32)))))))) = elim x32 [ ]
 
 -- Check.
 pub first_fault : (p : Bytes) (r : Refusal) → program_verdict p ≡ Refuse r → FirstOf (Fault p) r

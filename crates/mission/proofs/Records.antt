@@ -71,11 +71,16 @@ unfolding time_in
 step_time {p = p} {rec = rec} hr w (step {st₁ = s} d u) =
     time_same s (time_in rec) (omega (arith, header_there p (set_time s (time_in rec)) w, length_set_time s (time_in rec))) (u32_small rec 0 hr)
 
+-- No step shows nothing and leaves the state and the mark.
+pub ended : {p recs : Bytes} {most type k : ℕ} {st shown st₁ : Bytes} {total m m₁ : ℕ} → Through p recs most type zero k st shown total m m₁ st₁
+    → (shown ≡ []) × (total ≡ 0) × (m₁ ≡ m) × (st₁ ≡ st)
+ended at_end = (refl, refl, refl, refl)
+
 -- And after so many steps it is the last record's.
 pub last_time_lem : (n : ℕ) {p recs : Bytes} {most type k : ℕ} {st shown st₁ : Bytes} {total m m₁ : ℕ} → Small recs
     → Through p recs most type (suc n) k st shown total m m₁ st₁ → last_time st₁ ≡ time_in (input_at recs (k + n))
-last_time_lem zero {recs = recs} {k = k} hr (one_step e b at_end) =
-    step_time (small_input recs k hr) b.well b.derived ∙ ap (λ (j : ℕ). time_in (input_at recs j)) (let z : k ≡ k + 0 = omega arith in z)
+last_time_lem zero {recs = recs} {k = k} hr (one_step e b rest) =
+    ap last_time (ended rest).3 ∙ step_time (small_input recs k hr) b.well b.derived ∙ ap (λ (j : ℕ). time_in (input_at recs j)) (let z : k ≡ k + 0 = omega arith in z)
 last_time_lem (suc n) {recs = recs} {k = k} hr (one_step e b more) =
     last_time_lem n hr more ∙ ap (λ (j : ℕ). time_in (input_at recs j)) (let z : suc k + n ≡ k + suc n = omega arith in z)
 

@@ -26,7 +26,7 @@ use Rattle.mission.specs.Lent.{StepLent, RunLent}
 use Rattle.mission.specs.Through.{ByRules, mark_after, Through, at_end, one_step}
 use Rattle.mission.specs.Mission.{Finishes, Answers}
 use Rattle.mission.proofs.Traces.{Ends, all_of, stopped, Traced, through_long, through_within, through_left}
-use Rattle.mission.proofs.Records.{not_refused, next_not_back, one_record}
+use Rattle.mission.proofs.Records.{not_refused, ended, next_not_back, one_record}
 use Rattle.mission.proofs.Outcomes.{Outcome, lent_refused, went, lent_well}
 
 module _ (p st recs out : Bytes) (o : RunOutcome) (hp : Small p) (hr : Small recs) (count cells most type : ℕ)
@@ -97,9 +97,16 @@ record OneLeft (p rec st : Bytes) (most type k : ℕ) (shown : Bytes) (total m m
 
 one_left : {p recs : Bytes} {most type k : ℕ} {st shown st₁ : Bytes} {total m m₁ : ℕ} → Through p recs most type (suc zero) k st shown total m m₁ st₁
     → OneLeft p (input_at recs k) st most type k shown total m m₁ st₁
-one_left (one_step {value = v} {work = w} {left = left} e b at_end) =
+one_left (one_step {value = v} {work = w} {left = left} e b rest) =
+    let none = ended rest in
     let z : w + 0 ≡ w = omega arith in
-    record { value = v; left = left; shows = append-nil (value_bytes v); by_rules = rw z b; after = refl }
+    record {
+      value = v;
+      left = left;
+      shows = ap (λ (s : Bytes). value_bytes v ++ s) none.0 ∙ append-nil (value_bytes v);
+      by_rules = rw (none.3, none.1, z) b;
+      after = none.2;
+    }
 
 -- One record.
 one_answered : (p st rec : Bytes) (answer : Ran) (st₁ out₁ : Bytes) (count most type : ℕ) → input_at rec 0 ≡ rec

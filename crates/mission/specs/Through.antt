@@ -1,7 +1,7 @@
 -- Steps by the published rules, one after the other.
 -- Assumes nothing: these are definitions.
-use Rattle.std.specs.Prelude.{◌≡◌, Bool, true, [], ◌++◌, ℕ, zero, suc, ◌+◌, ◌≤◌, eqb, length}
-use Rattle.rules.specs.Bytes.{Bytes, if◌then◌else◌, ◌and◌}
+use Rattle.std.specs.Prelude.{◌≡◌, Bool, true, [], ◌++◌, ℕ, zero, suc, ◌+◌, ◌≤◌, eqb, length, if◌then◌else◌}
+use Rattle.rules.specs.Bytes.{Bytes, ◌and◌}
 use Rattle.rules.specs.Values.{type_of, value_bytes}
 use Rattle.rules.specs.Layout.{input_at}
 use Rattle.rules.specs.WellFormed.{well_formed}

@@ -1,4 +1,5 @@
 // The three demands, about the definitions: stated in specs/ (all of them in Mission), theorems in proofs/. They know nothing of the code.
+#![tactic(auto)]
 
 // The one function of the crate, so that its theorems are checked with it.
 pub fn same(x: u32) -> u32 {

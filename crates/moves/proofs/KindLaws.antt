@@ -1,5 +1,6 @@
 -- An update of each kind, by what its parts did.
 -- Assumes nothing.
+use Rattle.std.specs.Prelude.{if◌then◌else◌}
 use mathlib.Core.Path.{◌≡◌, refl, sym, ap, ◌∙◌}
 use mathlib.Core.Bool.{Bool, true, false}
 use Prim.Native.Nat.{ℕ, ◌≤◌}
@@ -7,7 +8,7 @@ use native.Mathlib.Omega.{arith}
 use lib.Dec.{eqb}
 use Rattle.rules.proofs.Static.{and_both}
 use borrow.Author.Tests.{leb-true, eqb-true, eqb-false, eq-eqb, ne_eqb}
-use Rattle.rules.specs.Bytes.{Bytes, if◌then◌else◌, ◌or◌}
+use Rattle.rules.specs.Bytes.{Bytes, ◌or◌}
 use Rattle.rules.specs.Layout.{kind_at, b_at, cells_before, cell, held, hold, is_clear, branch_in}
 use Rattle.rules.specs.Values.{unpacked, middle_in}
 use Rattle.rules.specs.Kinds.{is_signal}

@@ -1,12 +1,13 @@
 -- The number of an update's outcome: the outcome by its size, its value's 8 bytes, and so much more counted.
 -- Assumes nothing.
+use Rattle.std.specs.Prelude.{if◌then◌else◌}
 use mathlib.Core.Path.{◌≡◌, refl, sym, ap, ◌∙◌}
 use mathlib.Core.Bool.{Bool, true, false, true≢false, ◌||◌}
 use Prim.Native.Nat.{ℕ, ◌+◌, ◌*◌, ◌/◌, ◌%◌, ◌<◌, ◌≤◌}
 use native.Mathlib.Omega.{arith}
 use lib.Dec.{eqb, ltb, leb}
 use borrow.Author.Tests.{leb-true, le-leb, lt-leb, eqb-true, eqb-false, ne_eqb, ltb-true, ltb-false, lt-ltb, le-ltb}
-use Rattle.rules.specs.Bytes.{Bytes, if◌then◌else◌, ◌or◌}
+use Rattle.rules.specs.Bytes.{Bytes, ◌or◌}
 use Rattle.rules.specs.Values.{is_plain, packed, unpacked, type_in, present_in, word_in}
 use Rattle.rules.specs.Work.{Updated, Next, Jump, Halted, moved, stays, leave, nothing, noted, one_rule, afterᵘ, ruleᵘ, ◌plus◌}
 use Rattle.rules.specs.declared.Value.{Value}

@@ -1,6 +1,7 @@
 -- The work of the update by the memory is at most the bound, whatever the environment, the record and the state, where no let's slot counts more
 -- than its definition's bound; and so it is afterwards.
 -- Assumes nothing.
+use Rattle.std.specs.Prelude.{if◌then◌else◌}
 use mathlib.Core.Path.{◌≡◌, refl, sym, subst}
 use mathlib.Core.Bool.{Bool, true, false}
 use mathlib.Core.List.{List}
@@ -9,7 +10,7 @@ use native.Mathlib.Nat.{not-suc-le-zero}
 use native.Mathlib.Omega.{arith}
 use lib.Dec.{eqb}
 use borrow.Author.Tests.{eqb-true}
-use Rattle.rules.specs.Bytes.{Bytes, if◌then◌else◌}
+use Rattle.rules.specs.Bytes.{Bytes}
 use Rattle.rules.specs.Layout.{kind_at, a_at, b_at, is_clear}
 use Rattle.rules.specs.Kinds.{is_signal, is_branch, is_case}
 use Rattle.rules.specs.Shaped.{NodeOf}

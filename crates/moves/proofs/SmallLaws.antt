@@ -1,12 +1,13 @@
 -- No count is too large: each part's is at most its bound, and the sum of the parts' is below what a number's count may be, since the bound of
 -- the whole is.
 -- Assumes nothing.
+use Rattle.std.specs.Prelude.{if◌then◌else◌}
 use mathlib.Core.Path.{◌≡◌, refl, sym, ap, ◌∙◌}
 use mathlib.Core.Bool.{Bool, true, false}
 use mathlib.Core.List.{List}
 use Prim.Native.Nat.{ℕ, ◌+◌, ◌≤◌, ◌<◌, max}
 use native.Mathlib.Omega.{arith}
-use Rattle.rules.specs.Bytes.{Bytes, if◌then◌else◌}
+use Rattle.rules.specs.Bytes.{Bytes}
 use Rattle.rules.specs.Layout.{kind_at, a_at, b_at, c_at, cells_before, held, is_clear, hold_branch}
 use Rattle.rules.specs.Kinds.{is_signal}
 use Rattle.rules.specs.Node.{IsNode}

@@ -1,7 +1,7 @@
 -- Outcomes of updates in place: what they have counted, whether they stay, and what a walk over cases leaves.
 -- Assumes nothing: these are definitions.
-use Rattle.std.specs.Prelude.{List, ℕ, ◌+◌, ◌*◌, ◌/◌, ◌%◌, eqb, ltb, leb}
-use Rattle.rules.specs.Bytes.{Bytes, if◌then◌else◌}
+use Rattle.std.specs.Prelude.{List, ℕ, ◌+◌, ◌*◌, ◌/◌, ◌%◌, eqb, ltb, leb, if◌then◌else◌}
+use Rattle.rules.specs.Bytes.{Bytes}
 use Rattle.rules.specs.Values.{unpacked}
 use Rattle.rules.specs.Work.{Updated, Next, Jump, Halted, moved, afterᵘ}
 use Rattle.rules.specs.Layout.{b_at}

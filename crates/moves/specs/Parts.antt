@@ -1,7 +1,7 @@
 -- The current part of a switch, and what a switch and a group do with their cells when they are entered anew.
 -- Assumes nothing: these are definitions.
-use Rattle.std.specs.Prelude.{ℕ}
-use Rattle.rules.specs.Bytes.{Bytes, if◌then◌else◌}
+use Rattle.std.specs.Prelude.{ℕ, if◌then◌else◌}
+use Rattle.rules.specs.Bytes.{Bytes}
 use Rattle.rules.specs.Layout.{a_at, b_at, c_at, cells_before, held, is_clear, branch_in, hold_branch}
 use Rattle.rules.specs.Tree.{signal_at, branches_at}
 use Rattle.rules.specs.Evaluate.{Env, bind}

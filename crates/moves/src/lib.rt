@@ -1,4 +1,6 @@
 // The outcome of an update in place, as one number: each of the rules' small functions once; and the cell of a node, stored.
+#![tactic(auto)]
+
 ghost use Rattle.std.specs.Prelude.{◌≡◌, true, ◌+◌, ◌≤◌, ◌<◌, length, get_or};
 ghost use Rattle.rules.specs.Bytes.{Bytes};
 ghost use Rattle.rules.specs.Values.{is_plain, type_in, unpacked};
@@ -15,7 +17,7 @@ use rules::{Tally, Value};
 use values::{pack, unpack, wide, wide_word};
 
 // Whether an update stays, with what it has counted; a jump that leaves it breaks it as being stuck does.
-#[derive(Drop)]
+#[derive(Clone, Copy)]
 pub enum Calm {
     Still(Tally),
     Broken,

@@ -1,5 +1,6 @@
 -- What the evaluation with a second room leaves at a node of each kind, by what its parts leave.
 -- Assumes nothing.
+use Rattle.std.specs.Prelude.{if◌then◌else◌}
 use mathlib.Core.Path.{◌≡◌, refl, sym, ap, ◌∙◌, subst}
 use mathlib.Core.Bool.{Bool, true, false}
 use mathlib.Core.List.{List, [], ◌∷◌}
@@ -9,7 +10,7 @@ use native.Mathlib.Nat.{not-suc-le-zero}
 use lib.Dec.{eqb}
 use lib.ListN.{length, get_or}
 use borrow.Author.Tests.{eq-eqb, ne_eqb, eqb-true, eqb-false}
-use Rattle.rules.specs.Bytes.{Bytes, write_at, bytes_of, if◌then◌else◌, ◌or◌}
+use Rattle.rules.specs.Bytes.{Bytes, write_at, bytes_of, ◌or◌}
 use Rattle.rules.specs.Values.{packed, unpacked, value_bytes, middle_in}
 use Rattle.rules.specs.Layout.{kind_at, a_at, b_at, c_at, cells_before, cell, held, is_clear, branch_in}
 use Rattle.rules.specs.Kinds.{is_signal, is_branch}

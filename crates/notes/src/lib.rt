@@ -1,7 +1,8 @@
 // The evaluation of a signal with a second room: what each listed node gives is written down as it becomes known. It is the evaluation itself, and
 // no second one: a let's definition is evaluated once, and below a leaf it is crate evaluate's.
-ghost use Rattle.std.specs.Prelude.{◌≡◌, ◌+◌, ◌*◌, ◌≤◌, ◌<◌, eqb, length};
-ghost use Rattle.rules.specs.Bytes.{if◌then◌else◌};
+#![tactic(auto)]
+
+ghost use Rattle.std.specs.Prelude.{◌≡◌, ◌+◌, ◌*◌, ◌≤◌, ◌<◌, eqb, length, if◌then◌else◌};
 ghost use Rattle.rules.specs.Values.{unpacked};
 ghost use Rattle.rules.specs.Tree.{signal_at};
 ghost use Rattle.rules.specs.Evaluate.{bind, eval_s};

@@ -1,12 +1,13 @@
 -- Each combinator by the parts of the numbers that it is given.
 -- Assumes nothing.
+use Rattle.std.specs.Prelude.{if◌then◌else◌}
 use mathlib.Core.Path.{◌≡◌, refl, ap, sym, ◌∙◌}
 use mathlib.Core.Bool.{Bool, true, false}
 use Prim.Native.Nat.{ℕ, ◌+◌, ◌-◌, ◌%◌, ◌<◌, ◌≤◌}
 use native.Mathlib.Omega.{arith}
 use lib.Dec.{eqb, leb}
 use borrow.Author.Tests.{leb-true, leb-false, le-leb, lt-leb, eqb-true, eq-eqb, ne_eqb}
-use Rattle.rules.specs.Bytes.{if◌then◌else◌, ◌and◌, ◌or◌}
+use Rattle.rules.specs.Bytes.{◌and◌, ◌or◌}
 use Rattle.rules.specs.Values.{bool_t, maybe_of, is_plain, is_maybe, value_from, packed, unpacked, type_in, present_in, middle_in, word_in}
 use Rattle.rules.specs.Words.{quotient_of}
 use Rattle.rules.specs.Operations.{truth, is_true, operand_type, number_of, truth_of, meaning, leaves_range}

@@ -1,5 +1,6 @@
 -- The number of an outcome: a value's bytes with what was counted, and so much more counted.
 -- Assumes nothing.
+use Rattle.std.specs.Prelude.{if◌then◌else◌}
 use mathlib.Core.Path.{◌≡◌, refl, ap, sym, ◌∙◌}
 use mathlib.Core.Bool.{Bool, true, false}
 use Prim.Native.Nat.{ℕ, ◌+◌, ◌*◌, ◌%◌, ◌<◌, ◌≤◌}
@@ -7,7 +8,7 @@ use native.Mathlib.Omega.{arith}
 use lib.Dec.{eqb}
 use lib.ListN.{get_or}
 use borrow.Author.Tests.{eqb-true, eq-eqb, ne_eqb}
-use Rattle.rules.specs.Bytes.{if◌then◌else◌, ◌or◌}
+use Rattle.rules.specs.Bytes.{◌or◌}
 use Rattle.rules.specs.Values.{value_from, packed, unpacked, type_in, present_in, middle_in, word_in}
 use Rattle.rules.specs.Work.{nothing, noted, one_rule, ◌plus◌, give, after, rule}
 use Rattle.rules.specs.Evaluate.{Env, look}

@@ -1,12 +1,13 @@
 -- The 8 bytes of a value: their parts, the value in them, and the values that are read back from theirs.
 -- Assumes nothing.
+use Rattle.std.specs.Prelude.{if◌then◌else◌}
 use mathlib.Core.Path.{◌≡◌, refl, ap, sym, ◌∙◌}
 use mathlib.Core.Bool.{Bool, true, false}
 use Prim.Native.Nat.{ℕ, ◌+◌, ◌*◌, ◌<◌, ◌-◌}
 use native.Mathlib.Omega.{arith}
 use lib.Dec.{eqb, ltb}
 use borrow.Author.Tests.{eq-eqb, ne_eqb}
-use Rattle.rules.specs.Bytes.{Bytes, if◌then◌else◌}
+use Rattle.rules.specs.Bytes.{Bytes}
 use Rattle.rules.specs.Values.{int_t, bool_t, maybe_of, is_plain, value_from, packed, unpacked, type_in, present_in, middle_in, word_in}
 use Rattle.rules.specs.Words.{quotient_of}
 use Rattle.rules.specs.Layout.{channel_value, word_on, flag_on, event_on}

@@ -1,13 +1,13 @@
 -- Laws for those who call, with those of the other files that they cite: the arm of an if, the parts of a maybe, an outcome taken apart,
 -- and that no count is too large.
 -- Assumes nothing.
+use Rattle.std.specs.Prelude.{if◌then◌else◌}
 use mathlib.Core.Path.{◌≡◌, refl, ap, subst, sym, ◌∙◌}
 use mathlib.Core.Bool.{Bool, true, false}
 use Prim.Native.Nat.{ℕ, ◌≤◌, ◌-◌, ◌+◌, ◌*◌}
 use native.Mathlib.Omega.{arith}
 use lib.Dec.{eqb}
 use borrow.Author.Tests.{leb-true, eqb-false}
-use Rattle.rules.specs.Bytes.{if◌then◌else◌}
 use Rattle.rules.specs.Values.{bool_t, is_maybe, packed, unpacked, value_from, type_in, present_in, middle_in, word_in}
 use Rattle.rules.specs.Operations.{is_true}
 use Rattle.rules.specs.Work.{after}

@@ -1,12 +1,13 @@
 -- What was counted, as a number of 16 bits: read back, with more counted, together with another, and marked.
 -- Assumes nothing.
+use Rattle.std.specs.Prelude.{if◌then◌else◌}
 use mathlib.Core.Path.{◌≡◌, refl, sym, ap, ◌∙◌}
 use mathlib.Core.Bool.{Bool, true, false, ◌||◌, true≢false}
 use Prim.Native.Nat.{ℕ, ◌+◌, ◌-◌, ◌*◌, ◌%◌, ◌<◌, ◌≤◌}
 use native.Mathlib.Omega.{arith}
 use lib.Dec.{leb, ltb}
 use borrow.Author.Tests.{leb-true, leb-false, le-leb, lt-leb, ltb-true, ltb-false}
-use Rattle.rules.specs.Bytes.{if◌then◌else◌, ◌or◌}
+use Rattle.rules.specs.Bytes.{◌or◌}
 use Rattle.rules.specs.Work.{nothing, noted, one_rule, ◌plus◌}
 use Rattle.rules.specs.declared.Tally.{Tally}
 use Rattle.outcomes.specs.Outcome.{tally_in, tally_of}

@@ -1,7 +1,6 @@
 -- What a combinator of evaluation hands on: the word of a plain outcome, the arm of an if, the parts of a maybe, and the count of an outcome.
 -- Assumes nothing: these are definitions.
-use Rattle.std.specs.Prelude.{ℕ}
-use Rattle.rules.specs.Bytes.{if◌then◌else◌}
+use Rattle.std.specs.Prelude.{ℕ, if◌then◌else◌}
 use Rattle.rules.specs.Values.{bool_t, packed}
 use Rattle.rules.specs.Operations.{is_true}
 use Rattle.rules.specs.Work.{nothing}

@@ -1,8 +1,7 @@
 -- An outcome as one number: 0 is stuck; else the 8 bytes of the value, with what was counted in bytes 2-3, which a value leaves zero. Their lower 15 bits
 -- are the work (no evaluation of 1,008 nodes works more than 1,008), and the highest is the mark.
 -- Assumes nothing: these are definitions.
-use Rattle.std.specs.Prelude.{◌≡◌, ℕ, ◌+◌, ◌*◌, ◌/◌, ◌%◌, eqb, leb, get_or}
-use Rattle.rules.specs.Bytes.{if◌then◌else◌}
+use Rattle.std.specs.Prelude.{◌≡◌, ℕ, ◌+◌, ◌*◌, ◌/◌, ◌%◌, eqb, leb, get_or, if◌then◌else◌}
 use Rattle.rules.specs.Values.{packed, unpacked, middle_in}
 use Rattle.rules.specs.Evaluate.{Env}
 use Rattle.rules.specs.declared.Value.{Value}

@@ -1,4 +1,6 @@
 // The combinators of evaluation on outcomes that are one number each: the rules' small functions once, none of them recursive.
+#![tactic(auto)]
+
 ghost use Rattle.std.specs.Prelude.{◌≡◌, true, ◌+◌, ◌*◌, ◌≤◌, ◌<◌};
 ghost use Rattle.rules.specs.Values.{packed, unpacked, middle_in};
 ghost use Rattle.rules.specs.Operations.{operand_type, truth as truthIs};
@@ -14,28 +16,28 @@ use values::{is_maybe, pack, pack_from, present_in, type_in, unpack, word_in};
 use words::{divide, number, quotient_left, test};
 
 // The arm that an if evaluates, with what its test counted.
-#[derive(Drop)]
+#[derive(Clone, Copy)]
 pub enum Arm {
     Go(usize, Tally),
     Neither,
 }
 
 // What a maybe holds: the 8 bytes of a plain value.
-#[derive(Drop)]
+#[derive(Clone, Copy)]
 pub enum Event {
     Occurs(u64),
     Quiet,
 }
 
 // An evaluated maybe, with what its evaluation counted.
-#[derive(Drop)]
+#[derive(Clone, Copy)]
 pub enum Parts {
     Maybe(Event, Tally),
     Wrong,
 }
 
 // An outcome taken apart: the 8 bytes of its value, with what was counted.
-#[derive(Drop)]
+#[derive(Clone, Copy)]
 pub enum Shown {
     Value(u64, Tally),
     Stuck,

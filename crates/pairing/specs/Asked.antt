@@ -1,8 +1,7 @@
 -- What the fields of a node hold, by the row of its kind. A row has the children alone; beside them a variable's binder, in a, and a case's target,
 -- in c, are looked at.
 -- Assumes nothing: these are definitions.
-use Rattle.std.specs.Prelude.{ℕ, eqb}
-use Rattle.rules.specs.Bytes.{if◌then◌else◌}
+use Rattle.std.specs.Prelude.{ℕ, eqb, if◌then◌else◌}
 use Rattle.rules.specs.declared.Field.{Field}
 use Rattle.rules.specs.declared.Field.TheVariants.{Binder, Target}
 use Rattle.kinds.specs.Rows.{a_in, c_in}

@@ -1,4 +1,6 @@
 // Whether a new table is an old one with unused lets dropped, by a pairing of its nodes with the old ones (document 02, n).
+#![tactic(auto)]
+
 ghost use Rattle.std.specs.Prelude.{◌≡◌, Bool, not, suc, ◌+◌, ◌-◌, ◌≤◌, ◌<◌, eqb, ltb, length};
 ghost use Rattle.rules.specs.Bytes.{◌and◌, ◌or◌};
 ghost use Rattle.rules.specs.Layout.{nodes};

@@ -1,4 +1,6 @@
 // The steps of a watched run: the plain run's, but that the root is evaluated with a second room, in which the values of listed nodes are noted.
+#![tactic(auto)]
+
 ghost use Rattle.std.specs.Prelude.{◌≡◌, ◌+◌, ◌*◌, ◌≤◌, ◌<◌, ◌/◌, length};
 ghost use Rattle.rules.specs.Bytes.{write_at};
 ghost use Rattle.rules.specs.Layout.{input_length, most_nodes};

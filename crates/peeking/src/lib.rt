@@ -1,5 +1,7 @@
 // The watched run: the plain run, with the values that listed nodes give in a second room. It answers for every byte string and list that it is
 // handed: no requires.
+#![tactic(auto)]
+
 ghost use Rattle.std.specs.Prelude.{◌≡◌, ◌-◌, ◌≤◌, ◌<◌, length};
 ghost use Rattle.rules.specs.Layout.{nodes, cells as cells_of, checks_of};
 ghost use Rattle.rules.specs.Kinds.{is_signal};

@@ -1,14 +1,15 @@
 -- The steps one behind the other: what a step that stopped, or gave something, makes of what follows it.
 -- Assumes nothing.
+use Rattle.std.specs.Prelude.{if◌then◌else◌}
 use mathlib.Core.Path.{◌≡◌, refl, sym, ap, ap₂, subst, ◌∙◌}
 use mathlib.Core.Bool.{Bool, true, false}
 use mathlib.Core.List.{List, [], ◌∷◌}
 use Prim.Native.Nat.{ℕ, zero, suc, ◌+◌, ◌≤◌, ◌<◌}
 use native.Mathlib.Omega.{arith}
-use lib.Dec.{eqb, ltb}
+use lib.Dec.{ltb}
 use lib.ListN.{length, get_or}
 use borrow.Author.Tests.{lt-ltb, le-ltb, eq-eqb, ne_eqb}
-use Rattle.rules.specs.Bytes.{Bytes, if◌then◌else◌, ◌and◌, ◌or◌, first, first_from}
+use Rattle.rules.specs.Bytes.{Bytes, ◌and◌, ◌or◌, first, first_from}
 use Rattle.rules.specs.declared.Place.{Place}
 use Rattle.texts.specs.Tokens.{Token, token, from, part}
 use Rattle.texts.specs.Spelled.{same, is_among}
@@ -31,9 +32,8 @@ use Rattle.labels.proofs.NoteLaws.{named_part, noted_names_lem, noted_after, not
 use Rattle.phrases.specs.declared.Step.{Step}
 use Rattle.phrases.specs.declared.Constant.{Constant}
 use Rattle.phrases.specs.declared.Valued.{Valued}
-use Rattle.phrases.specs.declared.Head.{Head}
 use Rattle.phrases.specs.declared.Headed.{Headed}
-use Rattle.phrases.specs.Gave.{Past, with_names, Tables, gave, number, nothing, NamePart, Below, written, gave_value, PlainTyped, head_of, gave_head, some_value, none_value}
+use Rattle.phrases.specs.Gave.{Past, with_names, Tables, gave, NamePart, Below, written, gave_value, PlainTyped, head_of, gave_head, some_value, none_value}
 
 -- The next word.
 module _ (text : Bytes) (at : ℕ) (r : Next) (a : Ahead text at r) where

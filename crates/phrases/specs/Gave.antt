@@ -2,7 +2,7 @@
 -- Assumes nothing: these are definitions.
 use Rattle.std.specs.Prelude.{ℕ, ◌≤◌, ◌<◌, ◌≡◌, List, length, get_or}
 use Rattle.rules.specs.Bytes.{Bytes}
-use Rattle.texts.specs.Tokens.{Token, token, from, part}
+use Rattle.texts.specs.Tokens.{Token, from}
 use Rattle.texts.specs.Rows.{Row, Sofar, Got, got, stopped, ◌onward◌}
 use Rattle.rules.specs.Values.{maybe_of, is_plain}
 use Rattle.texts.specs.Spelling.{close₀}

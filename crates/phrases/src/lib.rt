@@ -1,5 +1,7 @@
 // The steps of reading a text: a word that must stand there, a name bound or used, a type, a number, a value, and what stands between a kind's
 // word and its children. Each begins at a position and gives the position behind what it read, or why the text is not read.
+#![tactic(auto)]
+
 ghost use Rattle.std.specs.Prelude.{◌≡◌, true, false, ◌≤◌, ◌<◌, ◌+◌, length, get_or};
 ghost use Rattle.rules.specs.Bytes.{Bytes};
 ghost use Rattle.rules.specs.Kinds.{fields_of};
@@ -22,21 +24,21 @@ use texts::Unread;
 use tokens::{Next, word_from};
 
 // A number and the position behind what was read; or why the text is not read. (Of a name: where it begins, and where it ends.)
-#[derive(Drop)]
+#[derive(Clone, Copy)]
 pub enum Step {
     Read(usize, usize),
     Stop(Unread),
 }
 
 // A value: type, present byte and word.
-#[derive(Drop)]
+#[derive(Clone, Copy)]
 pub struct Constant {
     pub ty: u8,
     pub present: u8,
     pub word: u32,
 }
 
-#[derive(Drop)]
+#[derive(Clone, Copy)]
 pub enum Valued {
     Read(Constant, usize),
     Stop(Unread),
@@ -44,7 +46,7 @@ pub enum Valued {
 
 // What stands between a kind's word and its children: a branch's own name, the variable that is bound, by where each begins and ends; type,
 // present byte and word.
-#[derive(Drop)]
+#[derive(Clone, Copy)]
 pub struct Head {
     pub label: usize,
     pub labelend: usize,
@@ -55,7 +57,7 @@ pub struct Head {
     pub word: u32,
 }
 
-#[derive(Drop)]
+#[derive(Clone, Copy)]
 pub enum Headed {
     Read(Head, usize),
     Stop(Unread),

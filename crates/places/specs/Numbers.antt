@@ -1,7 +1,6 @@
 -- A place where something is wrong, as a number.
 -- Assumes nothing: these are definitions.
-use Rattle.std.specs.Prelude.{ℕ, ltb}
-use Rattle.rules.specs.Bytes.{if◌then◌else◌}
+use Rattle.std.specs.Prelude.{ℕ, ltb, if◌then◌else◌}
 use Rattle.rules.specs.declared.Place.{Place}
 use Rattle.rules.specs.declared.Place.TheVariants.{At, Nowhere}
 

@@ -1,5 +1,7 @@
 // Places where something is wrong, as numbers, so that a recursion answers one in a register: the smaller of two, a place unless it is right or
 // if it is wrong, and the place itself.
+#![tactic(auto)]
+
 ghost use Rattle.std.specs.Prelude.{◌≡◌, ◌<◌};
 ghost use Rattle.rules.specs.Places.{sooner as soonerOf, wrong_unless, wrong_if};
 ghost use Rattle.places.specs.Numbers.{place_in};

@@ -1,15 +1,16 @@
 -- The parts make up what watchrun prints, for every input.
 -- Assumes nothing.
+use Rattle.std.specs.Prelude.{if◌then◌else◌}
 use mathlib.Core.Path.{◌≡◌, refl, sym, ap, ◌∙◌}
 use mathlib.Core.Bool.{Bool, true, false}
 use mathlib.Core.List.{[], ◌∷◌, ◌++◌, append-nil}
 use Prim.Native.Nat.{ℕ, zero, suc, ◌+◌, ◌-◌, ◌*◌, ◌≤◌, ◌<◌}
 use native.Mathlib.Omega.{arith}
-use lib.Dec.{eqb, leb, ltb}
+use lib.Dec.{leb, ltb}
 use lib.ListN.{length, take, drop, drop_of_length-le}
 use lib.Seq.{length-take-le, take_all, get_or-take, drop-drop, take-add}
 use borrow.Author.Tests.{lt-ltb, le-ltb, le-leb, lt-leb, ltb-true, ltb-false, leb-true, ne_eqb}
-use Rattle.rules.specs.Bytes.{Bytes, byte_at, if◌then◌else◌, ◌and◌}
+use Rattle.rules.specs.Bytes.{Bytes, byte_at, ◌and◌}
 use Rattle.rules.specs.Layout.{edition, edition_in, block_at, count_in, input_length, time_in}
 use Rattle.rules.specs.Update.{Stepped, Made, NotMade, step_of}
 use Rattle.rules.specs.Calls.{check_call, record_verdict}

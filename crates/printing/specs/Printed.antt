@@ -1,7 +1,7 @@
 -- What watchrun prints for a whole input: document 01, 'What watchrun prints', as one definition.
 -- Assumes nothing: these are definitions.
-use Rattle.std.specs.Prelude.{ℕ, zero, suc, ◌+◌, ◌*◌, ◌++◌, length, take, drop, eqb, ltb}
-use Rattle.rules.specs.Bytes.{Bytes, if◌then◌else◌}
+use Rattle.std.specs.Prelude.{ℕ, zero, suc, ◌+◌, ◌*◌, ◌++◌, length, take, drop, eqb, ltb, if◌then◌else◌}
+use Rattle.rules.specs.Bytes.{Bytes}
 use Rattle.rules.specs.Layout.{input_length, time_in}
 use Rattle.rules.specs.Reset.{start_state}
 use Rattle.rules.specs.Update.{Made, NotMade, step_of}

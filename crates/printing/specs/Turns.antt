@@ -1,9 +1,9 @@
 -- The parts of which watchrun makes what it prints: what it reads of the blocks, its opening line, and its turns, one for each record and the last.
 -- Each is what a function of this crate or of crate turns answers; `played` puts them together as the program does.
 -- Assumes nothing: these are definitions.
-use Rattle.std.specs.Prelude.{◌≡◌, Bool, true, false, List, [], ◌++◌, ℕ, zero, suc, ◌+◌, ◌*◌, ◌≤◌, length, take, drop}
-use Rattle.rules.specs.Bytes.{Bytes, if◌then◌else◌}
-use Rattle.rules.specs.Layout.{input_length, time_in}
+use Rattle.std.specs.Prelude.{◌≡◌, Bool, true, false, List, [], ◌++◌, ℕ, zero, suc, ◌+◌, ◌*◌, ◌≤◌, length, take, drop, if◌then◌else◌}
+use Rattle.rules.specs.Bytes.{Bytes}
+use Rattle.rules.specs.Layout.{time_in}
 use Rattle.rules.specs.Evaluate.{Env}
 use Rattle.rules.specs.Reset.{start_state}
 use Rattle.rules.specs.Update.{Stepped, Made, NotMade, step_of}

@@ -1,4 +1,6 @@
 // What watchrun prints, part by part: how much is read, the opening line, and a line for each turn. The program reads, writes and calls these.
+#![tactic(auto)]
+
 ghost use Rattle.std.specs.Prelude.{◌≡◌, true, false, suc, ◌+◌, ◌*◌, ◌≤◌, ◌<◌, length, take};
 ghost use Rattle.io.specs.Counts.{IsPrefixLen};
 ghost use Rattle.rules.specs.Bytes.{u64_at};
@@ -15,7 +17,7 @@ use steps::run_records;
 use turns::{in_all, is_record, placed};
 
 // After a turn: the length of its line, whether there is more to come, and the steps done and their work.
-#[derive(Drop)]
+#[derive(Clone, Copy)]
 pub struct After {
     pub length: usize,
     pub more: bool,

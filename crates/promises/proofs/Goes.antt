@@ -1,10 +1,11 @@
 -- An update that goes on: to a next state that passes a test, or by a jump to a branch that is offered; never stuck.
 -- Assumes nothing.
+use Rattle.std.specs.Prelude.{if◌then◌else◌}
 use mathlib.Core.Path.{◌≡◌, refl, ◌∙◌}
 use mathlib.Core.List.{[]}
 use mathlib.Core.Bool.{Bool, true, false}
 use Prim.Native.Nat.{ℕ}
-use Rattle.rules.specs.Bytes.{Bytes, if◌then◌else◌}
+use Rattle.rules.specs.Bytes.{Bytes}
 use Rattle.rules.specs.Values.{maybe_of, type_of}
 use Rattle.rules.specs.Work.{Updated, Next, Jump, stays, leave, one_rule, afterᵘ, ruleᵘ, ◌with◌, ◌thenᵘ◌}
 use Rattle.rules.specs.Scope.{Offers, is_offered}

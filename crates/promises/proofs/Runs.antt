@@ -1,12 +1,13 @@
 -- Every run of an accepted program from a well-formed state goes on step by step; it is refused only for its records.
 -- Assumes nothing.
+use Rattle.std.specs.Prelude.{if◌then◌else◌}
 use mathlib.Core.Path.{◌≡◌, refl, sym}
 use mathlib.Core.Bool.{Bool, true, false}
 use Prim.Native.Nat.{ℕ, zero, suc, ◌+◌, ◌*◌, ◌≤◌}
 use native.Mathlib.Nat.{mul-le-mul}
 use native.Mathlib.Omega.{arith}
 use borrow.Author.Tests.{ltb-false}
-use Rattle.rules.specs.Bytes.{Bytes, write_at, if◌then◌else◌}
+use Rattle.rules.specs.Bytes.{Bytes, write_at}
 use Rattle.rules.specs.Values.{value_bytes}
 use Rattle.rules.specs.Layout.{input_at, time_in}
 use Rattle.rules.specs.Answers.{code_of, place_of}

@@ -1,6 +1,7 @@
 -- An expression that is in scope and typed is never stuck, and gives a value of its type, where every variable in scope that it needs at once
 -- is bound to a value of its declared type.
 -- Assumes nothing.
+use Rattle.std.specs.Prelude.{if◌then◌else◌}
 use mathlib.Core.Path.{◌≡◌, refl, sym, ap, ◌∙◌}
 use mathlib.Core.Logic.{◌≢◌}
 use mathlib.Core.Bool.{Bool, true, false}
@@ -12,7 +13,6 @@ use lib.IntN.{ℤ, pos, negsuc}
 use lib.ListN.{length, length-set}
 use lib.Seq.{get_or-set_other}
 use borrow.Author.Tests.{eq-eqb, eqb-true, leb-true}
-use Rattle.rules.specs.Bytes.{if◌then◌else◌}
 use Rattle.rules.specs.Values.{bool_t, maybe_of, is_plain, type_of, packed}
 use Rattle.rules.specs.Words.{signed, word_of, sum_of, difference_of, product_of, floor_z, quotient_of}
 use Rattle.rules.specs.Operations.{truth, is_true, operand_type, result_type, number_of, meaning}

@@ -1,5 +1,6 @@
 -- A signal that is in scope, typed and ready is never stuck when it is evaluated in a well-formed state, and gives a value of its type.
 -- Assumes nothing.
+use Rattle.std.specs.Prelude.{if◌then◌else◌}
 use mathlib.Core.Path.{◌≡◌, sym, ap, ◌∙◌}
 use mathlib.Core.List.{[], ◌∷◌}
 use mathlib.Core.Bool.{Bool, true, false}
@@ -8,7 +9,7 @@ use native.Mathlib.Decide.{ℕ_discrete}
 use lib.Dec.{eqb, ltb}
 use lib.ListN.{length}
 use borrow.Author.Tests.{eqb-true}
-use Rattle.rules.specs.Bytes.{Bytes, u32_at, if◌then◌else◌}
+use Rattle.rules.specs.Bytes.{Bytes, u32_at}
 use Rattle.rules.specs.Values.{int_t, maybe_of, type_of, middle_in}
 use Rattle.rules.specs.Layout.{cell, held, is_clear, branch_in, channel_value, channel_type, word_on, flag_on, event_on, time_in}
 use Rattle.rules.specs.Work.{give, ◌then◌}

@@ -1,6 +1,7 @@
 -- An update of a signal that sits in its table, is in scope, typed and ready, in a well-formed state and with every variable in scope bound, is
 -- never stuck: it ends in a well-formed state, or in a jump to a branch that is offered. It changes no cell but the signal's own.
 -- Assumes nothing.
+use Rattle.std.specs.Prelude.{if◌then◌else◌}
 use mathlib.Core.Path.{◌≡◌, refl, sym, ap, ◌∙◌}
 use mathlib.Core.List.{[], ◌∷◌}
 use mathlib.Core.Bool.{Bool, true, false}
@@ -9,7 +10,7 @@ use native.Mathlib.Omega.{arith}
 use lib.Dec.{eqb}
 use lib.ListN.{length}
 use borrow.Author.Tests.{eqb-true}
-use Rattle.rules.specs.Bytes.{Bytes, if◌then◌else◌, ◌and◌}
+use Rattle.rules.specs.Bytes.{Bytes, ◌and◌}
 use Rattle.rules.specs.Values.{type_of, packed, middle_in}
 use Rattle.rules.specs.Layout.{cell, cell_at, held, hold, is_clear, branch_in}
 use Rattle.rules.specs.Tree.{Signal, input, time, ext, delay, let_signal, switch, group, until, Branches, no_branch, branch, Cases, no_case, case}

@@ -1,6 +1,7 @@
 -- Valid values: they fit their bytes; a cell that holds one has a fitting content; and what a fitting content or a table's fields stand for
 -- is valid.
 -- Assumes nothing.
+use Rattle.std.specs.Prelude.{if◌then◌else◌}
 use mathlib.Core.Path.{◌≡◌, refl, ap, ◌∙◌}
 use mathlib.Core.Logic.{◌⊎◌, inl, inr}
 use mathlib.Core.Bool.{Bool, true, false, not}
@@ -8,7 +9,7 @@ use Prim.Native.Nat.{ℕ, ◌+◌, ◌-◌, ◌*◌, ◌<◌, ◌≤◌}
 use native.Mathlib.Omega.{arith}
 use lib.Dec.{eqb, leb}
 use borrow.Author.Tests.{eq-eqb, eqb-true, le-leb, leb-true}
-use Rattle.rules.specs.Bytes.{if◌then◌else◌, ◌and◌, ◌or◌}
+use Rattle.rules.specs.Bytes.{◌and◌, ◌or◌}
 use Rattle.rules.specs.Values.{maybe_of, is_plain, is_maybe, is_type, type_of, value_from, value_fits, packed, unpacked, type_in, present_in, middle_in, word_in}
 use Rattle.rules.specs.Operations.{truth}
 use Rattle.rules.specs.WellFormed.{content_fits}

@@ -1,12 +1,12 @@
 -- An expression that the definition does not leave stuck has a derivation, of the definition's value and work.
 -- Assumes nothing.
+use Rattle.std.specs.Prelude.{if◌then◌else◌}
 use mathlib.Core.Path.{◌≡◌, refl}
 use mathlib.Core.Bool.{Bool, true, false}
 use Prim.Native.Nat.{ℕ}
 use lib.Dec.{eqb}
 use lib.ListN.{get_or}
 use borrow.Author.Tests.{eq-eqb}
-use Rattle.rules.specs.Bytes.{if◌then◌else◌}
 use Rattle.rules.specs.Values.{bool_t, maybe_of, is_plain, unpacked}
 use Rattle.rules.specs.Operations.{is_true, operand_type}
 use Rattle.rules.specs.Work.{◌plus◌, give, after, rule}

@@ -1,12 +1,13 @@
 -- A derivation of an expression gives the definition's outcome.
 -- Assumes nothing.
+use Rattle.std.specs.Prelude.{if◌then◌else◌}
 use mathlib.Core.Path.{◌≡◌, refl, ap₂}
 use mathlib.Core.Bool.{Bool, true, false}
 use Prim.Native.Nat.{ℕ, ◌+◌}
 use native.Mathlib.Omega.{arith}
 use lib.Dec.{eqb}
 use borrow.Author.Tests.{eqb-true}
-use Rattle.rules.specs.Bytes.{if◌then◌else◌, ◌or◌}
+use Rattle.rules.specs.Bytes.{◌or◌}
 use Rattle.rules.specs.Values.{bool_t, maybe_of, is_plain}
 use Rattle.rules.specs.Operations.{truth, is_true, operand_type, meaning, leaves_range}
 use Rattle.rules.specs.Work.{nothing, noted, one_rule, ◌plus◌, give, after, rule}

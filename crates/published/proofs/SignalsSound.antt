@@ -1,10 +1,11 @@
 -- A derivation of a signal's evaluation gives the definition's outcome.
 -- Assumes nothing.
+use Rattle.std.specs.Prelude.{if◌then◌else◌}
 use mathlib.Core.Path.{◌≡◌, refl, ap, ◌∙◌}
 use Prim.Native.Nat.{ℕ, ◌+◌}
 use borrow.Author.Tests.{eqb-true}
 use mathlib.Core.Bool.{Bool}
-use Rattle.rules.specs.Bytes.{Bytes, if◌then◌else◌, ◌or◌}
+use Rattle.rules.specs.Bytes.{Bytes, ◌or◌}
 use Rattle.rules.specs.Layout.{held, is_clear, branch_in}
 use Rattle.rules.specs.Work.{one_rule, ◌plus◌, after, rule, ◌then◌}
 use Rattle.rules.specs.Tree.{Signal, Branches}
@@ -27,12 +28,12 @@ unfolding rule after one_rule ◌plus◌ ◌or◌ ◌then◌
 then_done f e h = rw (e, h)
 
 -- a definition by the state's cell goes to the current part
-pub switch_part : {A : Type 0} (f : Env → Signal → A) {st : Bytes} {env E : Env} {i k : ℕ} {x y s : Signal} → CurrentOfSwitch st env i k x y E s
+pub switch_part : {A : Type 0} (f : Env → Signal → A) {st : Bytes} {env : Env} {i k : ℕ} {E : Env} {x y s : Signal} → CurrentOfSwitch st env i k x y E s
     → (if is_clear st k then f env x else f (bind env i (held st k)) y) ≡ f E s
 switch_part f (first e) = rw e
 switch_part f (second e) = rw e
 
-pub group_part : {A : Type 0} (f : Env → Signal → A) (b : A) {st : Bytes} {env E : Env} {k : ℕ} {body s : Signal} {brs : Branches}
+pub group_part : {A : Type 0} (f : Env → Signal → A) (b : A) {st : Bytes} {env : Env} {k : ℕ} {E : Env} {body s : Signal} {brs : Branches}
     → ((t : Signal) → BodyOf (branch_in st k) brs t → b ≡ f (bind env (branch_in st k) (held st k)) t) → CurrentOfGroup st env k body brs E s
     → (if is_clear st k then f env body else b) ≡ f E s
 group_part f b h (in_body e) = rw e

@@ -1,11 +1,12 @@
 -- A signal whose update the definition does not leave halted has a derivation, of the definition's outcome and work.
 -- Assumes nothing.
+use Rattle.std.specs.Prelude.{if◌then◌else◌}
 use mathlib.Core.Path.{◌≡◌, refl, sym, subst}
 use mathlib.Core.Bool.{Bool, true, false}
 use Prim.Native.Nat.{ℕ}
 use lib.Dec.{eqb}
 use borrow.Author.Tests.{eqb-true}
-use Rattle.rules.specs.Bytes.{Bytes, if◌then◌else◌}
+use Rattle.rules.specs.Bytes.{Bytes}
 use Rattle.rules.specs.Layout.{held, hold, hold_branch, is_clear, branch_in}
 use Rattle.rules.specs.Work.{nothing, one_rule, ◌plus◌, Updated, Next, Jump, stays, leave, afterᵘ, ruleᵘ, ◌with◌, ◌thenᵘ◌}
 use Rattle.rules.specs.Tree.{Signal, input, time, ext, delay, let_signal, switch, group, until, Branches, no_branch, branch, Cases, no_case, case}

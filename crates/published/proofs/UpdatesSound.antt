@@ -1,11 +1,12 @@
 -- A derivation of a signal's update gives the definition's outcome.
 -- Assumes nothing.
+use Rattle.std.specs.Prelude.{if◌then◌else◌}
 use mathlib.Core.Path.{◌≡◌, refl, ap, ◌∙◌}
 use mathlib.Core.Bool.{Bool, true, false}
 use Prim.Native.Nat.{ℕ, ◌+◌}
 use native.Mathlib.Omega.{arith}
 use borrow.Author.Tests.{eqb-true}
-use Rattle.rules.specs.Bytes.{Bytes, if◌then◌else◌, ◌or◌}
+use Rattle.rules.specs.Bytes.{Bytes, ◌or◌}
 use Rattle.rules.specs.Layout.{held, hold, hold_branch, is_clear, branch_in}
 use Rattle.rules.specs.Work.{nothing, one_rule, ◌plus◌, Updated, stays, leave, afterᵘ, ruleᵘ, ◌with◌, ◌thenᵘ◌}
 use Rattle.rules.specs.Tree.{Signal, Branches, Cases}

@@ -1,4 +1,5 @@
 // The published rules as inference rules, in specs/, and that they are the definitions of crate rules, in proofs/. They know nothing of the code.
+#![tactic(auto)]
 
 // The one function of the crate, so that its theorems are checked with it.
 pub fn same(x: u32) -> u32 {

@@ -1,4 +1,6 @@
 // A field of a new node beside the same field of its old one: which clause of request n's sentence it breaks.
+#![tactic(auto)]
+
 ghost use Rattle.std.specs.Prelude.{◌≡◌, Bool, ◌≤◌, ◌<◌, eqb, ltb, length};
 ghost use Rattle.rules.specs.Bytes.{◌and◌};
 ghost use Rattle.rules.specs.Layout.{nodes};

@@ -3,37 +3,30 @@
 use mathlib.Core.Path.{◌≡◌, refl, sym, ap, subst, ◌∙◌}
 use mathlib.Core.Bool.{Bool, true, false}
 use mathlib.Core.List.{List, [], ◌∷◌}
-use Prim.Native.Nat.{ℕ, zero, suc, ◌+◌, ◌*◌, ◌-◌, ◌≤◌, ◌<◌}
+use Prim.Native.Nat.{ℕ, ◌+◌, ◌*◌, ◌≤◌, ◌<◌}
 use native.Mathlib.Omega.{arith}
-use lib.Dec.{eqb, ltb, leb}
-use lib.ListN.{length, get_or, set, length-set}
+use lib.Dec.{eqb}
+use lib.ListN.{length, get_or, set}
 use lib.Seq.{get_or-set_same, get_or-set_other}
-use borrow.Author.Tests.{eq-eqb, ne_eqb, eqb-true, eqb-false}
-use Rattle.rules.specs.Bytes.{Bytes, if◌then◌else◌, write_at, ◌and◌ as ◌also◌}
+use borrow.Author.Tests.{eqb-true, eqb-false}
+use Rattle.rules.specs.Bytes.{Bytes, write_at}
 use Rattle.rules.specs.Kinds.{fields_of}
-use Rattle.rules.specs.Layout.{no_next, most_nodes}
 use Rattle.rules.specs.declared.Field.{Field}
-use Rattle.rules.specs.declared.Field.TheVariants.{Unused, Channel, PresentByte, Signal, Expression, FirstBranch, NextBranch, FirstCase, NextCase, Binder, Target}
-use Rattle.texts.specs.Tokens.{Token, from, part}
-use Rattle.texts.specs.Spelled.{same}
+use Rattle.texts.specs.Tokens.{Token, from}
 use Rattle.texts.specs.Spelling.{close₀}
-use Rattle.texts.specs.Rows.{Row, Sofar, Got, got, stopped, ◌onward◌}
+use Rattle.texts.specs.Rows.{Sofar, Got, stopped, ◌onward◌}
 use Rattle.texts.specs.Steps as S
 use Rattle.texts.specs.Reader as R
 use Rattle.texts.specs.Reader.{Held, Heading, Nodes, plainly, ends}
-use Rattle.texts.specs.declared.Unread.{Unread}
 use Rattle.labels.specs.Noted.{named_by}
-use Rattle.phrases.specs.Gave.{number, nothing, gave, with_names}
-use Rattle.phrases.specs.declared.Step.{Step}
+use Rattle.phrases.specs.Gave.{number, nothing}
 use Rattle.phrases.proofs.StepLaws.{no_name}
-use Rattle.reader.specs.Held.{Ready, Grew, Same, why_in, gave_in, gave_head_in, heading_in, held_as, sofar_in, past_in, names_put, numbers_in, appended, rest_put, is_inside, is_behind, ends_list, stop_put, step_put, flag, begun_in, entry₀, entered_as}
-use Rattle.reader.specs.declared.Entered.{Entered}
-use Rattle.reader.proofs.RowLaws.{names_count, why_word}
+use Rattle.reader.specs.Held.{Ready, Grew, Same, why_in, gave_in, gave_head_in, heading_in, held_as, sofar_in, names_put, rest_put}
 use Rattle.reader.proofs.SofarLaws.{note_sofar, note_same}
 use Rattle.reader.proofs.RestLaws.{rest_case, rest_other}
 use Rattle.reader.proofs.GrewLaws.{grew_row, grew_on, grew_same, grew_out, room_row, room_kept}
 use Rattle.reader.proofs.PutLaws.{row_of, laid_ends, laid_long, laid_count, laid_below, put_laid}
-use Rattle.reader.proofs.FlowLaws.{onward_stop, onward_on, headed_stop, headed_on, held_a, held_b, held_c, held_target, present_c, plain}
+use Rattle.reader.proofs.FlowLaws.{onward_stop, onward_on, headed_stop, headed_on, held_c, held_target, present_c, plain}
 
 -- What comes behind each part of a form.
 module _ (node : Nodes) (bs : List Bytes) (finish at k : ℕ) where

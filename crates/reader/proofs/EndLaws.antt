@@ -4,19 +4,19 @@ use mathlib.Core.Path.{◌≡◌, refl, sym, ap, ap₂, subst, ◌∙◌}
 use mathlib.Core.List.{List, [], ◌∷◌, ◌++◌}
 use Prim.Native.Nat.{ℕ, suc, ◌+◌, ◌*◌, ◌%◌, ◌≤◌, ◌<◌}
 use native.Mathlib.Omega.{arith}
-use lib.ListN.{length, get_or, set, length-set}
+use lib.ListN.{length, get_or, length-set}
 use lib.Seq.{get_or-set_same, get_or-set_other}
 use Rattle.rules.specs.Bytes.{Bytes, byte_at, write_at}
 use Rattle.rules.proofs.Cells.{length_write_at, before_write_at, in_write_at}
 use Rattle.texts.specs.Tokens.{Token, from, part}
-use Rattle.texts.specs.Rows.{Row, Sofar, Got, got, stopped}
+use Rattle.texts.specs.Rows.{Row, got}
 use Rattle.texts.specs.Reader as R
-use Rattle.labels.specs.Noted.{named_by, names_in}
+use Rattle.labels.specs.Noted.{named_by}
 use Rattle.labels.proofs.NoteLaws.{named_part}
 use Rattle.phrases.proofs.StepLaws.{no_name}
 use Rattle.phrases.specs.declared.Constant.{Constant}
 use Rattle.phrases.specs.declared.Step.{Step}
-use Rattle.phrases.specs.Gave.{Past, with_names, gave, number, written}
+use Rattle.phrases.specs.Gave.{with_names, gave, number, written}
 use Rattle.reader.specs.Held.{entry, row_at, rows_in, places_in, past_in, sofar_in, row_put, Ended}
 use Rattle.reader.proofs.SofarLaws.{rows_same, places_same, rows_many}
 

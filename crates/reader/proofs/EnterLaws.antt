@@ -2,28 +2,26 @@
 -- Assumes nothing.
 use mathlib.Core.Path.{◌≡◌, refl, sym, ap, ap₂, subst, ◌∙◌}
 use mathlib.Core.Bool.{Bool, true, false}
-use mathlib.Core.List.{List, []}
-use Prim.Native.Nat.{ℕ, ◌+◌, ◌≤◌, ◌<◌}
+use mathlib.Core.List.{List}
+use Prim.Native.Nat.{ℕ, ◌<◌}
 use native.Mathlib.Omega.{arith}
 use lib.ListN.{length, get_or, set, length-set}
 use lib.Seq.{get_or-set_same, get_or-set_other}
-use Rattle.rules.specs.Bytes.{Bytes, first, ◌and◌}
-use Rattle.rules.specs.Shape.{may_be}
+use Rattle.rules.specs.Bytes.{Bytes, first}
 use Rattle.rules.specs.declared.Place.{Place}
 use Rattle.rules.specs.declared.Field.{Field}
 use Rattle.texts.specs.Tokens.{Token, token, from}
 use Rattle.texts.specs.Spelled.{same}
 use Rattle.texts.specs.Spelling.{open₀, kind_named}
-use Rattle.texts.specs.Rows.{Sofar, Got, got, stopped, ◌onward◌}
+use Rattle.texts.specs.Rows.{Sofar, Got, stopped, ◌onward◌}
 use Rattle.texts.specs.Steps as S
 use Rattle.texts.specs.Reader as R
 use Rattle.texts.specs.declared.Unread.{Unread}
-use Rattle.texts.specs.declared.Unread.TheVariants.{Word}
 use Rattle.phrases.specs.declared.Step.{Step}
 use Rattle.phrases.specs.Gave.{gave, number}
 use Rattle.phrases.proofs.StepLaws.{from_below}
 use Rattle.reader.specs.declared.Entered.{Entered}
-use Rattle.reader.specs.Held.{sofar_in, gave_in, why_in, stop_put, step_put, flag, Same, Ended, entered_as, other_as, bare_as, entry₀}
+use Rattle.reader.specs.Held.{sofar_in, gave_in, stop_put, step_put, flag, Same, Ended, entered_as, other_as, bare_as}
 use Rattle.reader.proofs.SofarLaws.{note_sofar}
 use Rattle.reader.proofs.StepIn.{stop_why, stop_same, stepped_in, stepped_same, two_same}
 

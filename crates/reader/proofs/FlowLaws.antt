@@ -1,28 +1,25 @@
 -- A form, part by part: where a part stops so does the form; else the form goes on behind it.
 -- Assumes nothing.
-use mathlib.Core.Path.{◌≡◌, refl, sym, ap, subst, ◌∙◌}
+use Rattle.std.specs.Prelude.{if◌then◌else◌}
+use mathlib.Core.Path.{◌≡◌, refl, sym, ap, subst}
 use mathlib.Core.Bool.{Bool, true, false}
-use mathlib.Core.List.{List, [], ◌∷◌}
-use Prim.Native.Nat.{ℕ, zero, suc, ◌+◌, ◌≤◌, ◌<◌}
+use mathlib.Core.List.{List, []}
+use Prim.Native.Nat.{ℕ, zero, suc}
 use native.Mathlib.Omega.{arith}
-use lib.Dec.{eqb, ltb, leb}
-use lib.ListN.{length, get_or, set}
-use lib.Seq.{get_or-set_same, get_or-set_other}
-use borrow.Author.Tests.{eq-eqb, ne_eqb, eqb-true}
-use Rattle.rules.specs.Bytes.{Bytes, if◌then◌else◌, ◌and◌ as ◌also◌}
+use lib.Dec.{eqb, leb}
+use lib.ListN.{get_or}
+use borrow.Author.Tests.{eqb-true}
+use Rattle.rules.specs.Bytes.{Bytes, ◌and◌ as ◌also◌}
 use Rattle.rules.specs.Kinds.{fields_of, row}
 use Rattle.rules.specs.declared.Field.{Field}
 use Rattle.rules.specs.declared.Field.TheVariants.{Unused, Channel, PresentByte, Signal, Expression, FirstBranch, NextBranch, FirstCase, NextCase, Binder, Target}
 use Rattle.rules.specs.declared.TypeField.TheVariants.{NoType, AnyType, PlainType, ValueType}
 use Rattle.rules.specs.declared.Fields.{Fields}
-use Rattle.texts.specs.Tokens.{Token, from, part}
-use Rattle.texts.specs.Spelling.{close₀}
-use Rattle.texts.specs.Rows.{Row, Sofar, Got, got, stopped, ◌onward◌}
-use Rattle.texts.specs.Steps as S
+use Rattle.texts.specs.Tokens.{Token, from}
+use Rattle.texts.specs.Rows.{Sofar, Got, stopped, ◌onward◌}
 use Rattle.texts.specs.Reader as R
 use Rattle.texts.specs.Reader.{Held, Heading, Nodes, plainly}
 use Rattle.labels.specs.Noted.{named_by}
-use Rattle.phrases.specs.Gave.{number, nothing}
 use Rattle.reader.specs.Held.{why_in, gave_in, gave_head_in, heading_in, held_as, sofar_in}
 
 -- What a part gave, and what then comes.

@@ -1,21 +1,21 @@
 -- A heading in the scratch says what the heading says.
 -- Assumes nothing.
-use mathlib.Core.Path.{◌≡◌, refl, sym, ap, ap₂, subst, ◌∙◌}
-use mathlib.Core.List.{List, []}
-use Prim.Native.Nat.{ℕ, ◌+◌, ◌≤◌, ◌<◌}
+use mathlib.Core.Path.{◌≡◌, sym, ap, ap₂, subst, ◌∙◌}
+use mathlib.Core.List.{List}
+use Prim.Native.Nat.{ℕ, ◌<◌}
 use native.Mathlib.Omega.{arith}
 use lib.ListN.{length, get_or, set, length-set}
 use lib.Seq.{get_or-set_same, get_or-set_other}
 use Rattle.rules.specs.Bytes.{Bytes}
 use Rattle.texts.specs.Tokens.{from}
-use Rattle.texts.specs.Rows.{Sofar, Got, got, stopped}
+use Rattle.texts.specs.Rows.{Got, got, stopped}
 use Rattle.texts.specs.Reader.{Heading}
 use Rattle.texts.specs.declared.Unread.{Unread}
 use Rattle.labels.specs.Noted.{named_by}
 use Rattle.phrases.specs.declared.Head.{Head}
 use Rattle.phrases.specs.declared.Headed.{Headed}
 use Rattle.phrases.specs.Gave.{head_of, gave_head}
-use Rattle.reader.specs.Held.{sofar_in, why_in, heading_in, gave_head_in, stop_put, Same}
+use Rattle.reader.specs.Held.{sofar_in, heading_in, gave_head_in, stop_put, Same}
 use Rattle.reader.proofs.SofarLaws.{note_sofar}
 use Rattle.reader.proofs.StepIn.{stop_why, stop_same}
 

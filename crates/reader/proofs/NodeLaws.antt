@@ -1,29 +1,26 @@
 -- A field, what stands behind a form, and a node, as the scratch holds them.
 -- Assumes nothing.
 use mathlib.Core.Path.{◌≡◌, refl, sym, ap, subst, ◌∙◌}
-use mathlib.Core.Bool.{Bool, true, false}
+use mathlib.Core.Bool.{true, false}
 use mathlib.Core.List.{List, [], ◌∷◌}
-use Prim.Native.Nat.{ℕ, zero, suc, ◌+◌, ◌-◌, ◌≤◌, ◌<◌}
+use Prim.Native.Nat.{ℕ, zero, suc, ◌+◌, ◌-◌, ◌<◌}
 use native.Mathlib.Omega.{arith}
-use lib.Dec.{T, eqb, ltb}
-use lib.ListN.{length, get_or, set, length-set}
+use lib.Dec.{T, ltb}
+use lib.ListN.{length, get_or, set}
 use lib.Seq.{get_or-set_same, get_or-set_other}
 use borrow.Author.Tests.{lt-ltb}
-use Rattle.rules.specs.Bytes.{Bytes, if◌then◌else◌}
-use Rattle.rules.specs.Layout.{no_next, most_nodes}
+use Rattle.rules.specs.Bytes.{Bytes}
 use Rattle.rules.specs.declared.Field.{Field}
 use Rattle.rules.specs.declared.Field.TheVariants.{Unused, Channel, PresentByte, Signal, Expression, FirstBranch, NextBranch, FirstCase, NextCase, Binder, Target}
 use Rattle.texts.specs.Tokens.{Token, from}
-use Rattle.texts.specs.Spelled.{same}
-use Rattle.texts.specs.Spelling.{close₀}
 use Rattle.texts.specs.Rows.{Sofar, Got, got, stopped, ◌onward◌}
 use Rattle.texts.specs.Steps as S
 use Rattle.texts.specs.Reader as R
 use Rattle.texts.specs.Reader.{Held, Nodes, plainly}
 use Rattle.texts.specs.declared.Unread.{Unread}
-use Rattle.phrases.specs.Gave.{Past, number, gave, with_names}
+use Rattle.phrases.specs.Gave.{number, gave, with_names}
 use Rattle.phrases.specs.declared.Step.{Step}
-use Rattle.reader.specs.Held.{Ready, Grew, Same, Ended, BelowKinds, why_in, gave_in, held_as, sofar_in, past_in, rows_in, places_in, is_inside, is_behind, ends_list, stop_put, step_put, flag, begun_in, entry₀, entered_as}
+use Rattle.reader.specs.Held.{Ready, Grew, BelowKinds, gave_in, held_as, sofar_in, past_in, rows_in, places_in, is_inside, is_behind, ends_list, stop_put, step_put, flag, begun_in, entry₀, entered_as}
 use Rattle.reader.specs.declared.Entered.{Entered}
 use Rattle.reader.proofs.SofarLaws.{rows_same, places_same, note_sofar}
 use Rattle.reader.proofs.StepIn.{stop_why, stop_same, stepped_in, stepped_same}

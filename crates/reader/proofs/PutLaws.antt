@@ -1,23 +1,20 @@
 -- A form's row is put behind the others: what is so far then has it.
 -- Assumes nothing.
-use mathlib.Core.Path.{◌≡◌, refl, sym, ap, subst, ◌∙◌}
-use mathlib.Core.Bool.{Bool, true, false}
+use mathlib.Core.Path.{◌≡◌, refl, sym, ap, ◌∙◌}
 use mathlib.Core.List.{List, [], ◌∷◌, ◌++◌}
-use Prim.Native.Nat.{ℕ, zero, suc, ◌+◌, ◌*◌, ◌%◌, ◌≤◌, ◌<◌}
+use Prim.Native.Nat.{ℕ, suc, ◌+◌, ◌*◌, ◌%◌, ◌≤◌, ◌<◌}
 use native.Mathlib.Omega.{arith}
-use lib.Dec.{eqb}
 use lib.ListN.{length, get_or, set, length-set}
 use lib.Seq.{get_or-set_same, get_or-set_other}
-use borrow.Author.Tests.{eq-eqb, ne_eqb}
-use Rattle.rules.specs.Bytes.{Bytes, if◌then◌else◌, byte_at, write_at}
+use Rattle.rules.specs.Bytes.{Bytes, byte_at, write_at}
 use Rattle.rules.proofs.Cells.{length_write_at, before_write_at, beyond_write_at, in_write_at}
 use Rattle.texts.specs.Tokens.{from}
-use Rattle.texts.specs.Rows.{Row, Sofar, Got, got}
+use Rattle.texts.specs.Rows.{Row, got}
 use Rattle.texts.specs.Reader.{ends}
 use Rattle.labels.specs.Noted.{named_by}
-use Rattle.phrases.specs.Gave.{Past, with_names, number}
-use Rattle.reader.specs.Held.{entry, row_at, rows_in, places_in, past_in, sofar_in, gave_in, numbers_in, names_put, appended, rest_put}
-use Rattle.reader.proofs.RowLaws.{numbers_count, names_count, numbers_length, names_length}
+use Rattle.phrases.specs.Gave.{with_names, number}
+use Rattle.reader.specs.Held.{entry, row_at, rows_in, places_in, past_in, sofar_in, gave_in, numbers_in, names_put, appended}
+use Rattle.reader.proofs.RowLaws.{numbers_count, names_count}
 use Rattle.reader.proofs.SofarLaws.{rows_same, places_same, rows_many}
 
 -- The row of thirteen numbers.

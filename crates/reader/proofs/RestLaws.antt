@@ -1,14 +1,11 @@
 -- The rest of a form's row, as it is put.
 -- Assumes nothing.
-use mathlib.Core.Path.{◌≡◌, refl, sym, ap, ◌∙◌}
-use mathlib.Core.Bool.{Bool, true, false}
+use mathlib.Core.Path.{◌≡◌, refl, ap, ◌∙◌}
 use mathlib.Core.List.{List}
 use Prim.Native.Nat.{ℕ, ◌<◌}
 use native.Mathlib.Omega.{arith}
-use lib.Dec.{eqb}
 use lib.ListN.{length, get_or, set}
 use borrow.Author.Tests.{eq-eqb, ne_eqb}
-use Rattle.rules.specs.Bytes.{if◌then◌else◌}
 use Rattle.reader.specs.Held.{numbers_in, appended, rest_put}
 use Rattle.reader.proofs.RowLaws.{numbers_count, numbers_length}
 

@@ -1,14 +1,13 @@
 -- Rows written into the scratch, and the tests on fields.
 -- Assumes nothing.
 use mathlib.Core.Path.{◌≡◌, refl, sym, ap, subst, ◌∙◌}
-use mathlib.Core.Bool.{Bool, true, false}
+use mathlib.Core.Bool.{false}
 use mathlib.Core.List.{List, [], ◌∷◌}
-use Prim.Native.Nat.{ℕ, zero, suc, ◌+◌, ◌*◌, ◌≤◌, ◌<◌}
+use Prim.Native.Nat.{ℕ, suc, ◌+◌, ◌*◌, ◌≤◌, ◌<◌}
 use native.Mathlib.Omega.{arith}
-use lib.Dec.{eqb, ltb}
-use lib.ListN.{length, get_or, set, length-set}
+use lib.ListN.{length, get_or, set}
 use borrow.Author.Tests.{lt-ltb, le-ltb, eq-eqb, ne_eqb}
-use Rattle.rules.specs.Bytes.{Bytes, if◌then◌else◌, byte_at, write_at}
+use Rattle.rules.specs.Bytes.{Bytes, byte_at, write_at}
 use Rattle.rules.proofs.Cells.{length_write_at, before_write_at}
 use Rattle.texts.specs.Tokens.{token, from, part}
 use Rattle.texts.specs.Spelled.{same}
@@ -16,7 +15,6 @@ use Rattle.texts.specs.Spelling.{close₀}
 use Rattle.tokens.specs.Ahead.{Ahead}
 use Rattle.tokens.specs.declared.Next.{Next}
 use Rattle.phrases.proofs.StepLaws.{at_end, at_word}
-use Rattle.phrases.specs.declared.Step.{Step}
 use Rattle.texts.specs.declared.Unread.{Unread}
 use Rattle.reader.specs.Held.{begun_in, numbers_in, names_put, appended, row_put, why_in, ends_list}
 

@@ -1,17 +1,16 @@
 -- A field that is for no node, each as the step that was taken says.
 -- Assumes nothing.
 use mathlib.Core.Path.{◌≡◌, refl, sym, ap, subst, ◌∙◌}
-use mathlib.Core.Bool.{Bool, true, false}
-use mathlib.Core.List.{List, []}
-use Prim.Native.Nat.{ℕ, ◌≤◌, ◌<◌}
+use mathlib.Core.Bool.{true, false}
+use mathlib.Core.List.{List}
+use Prim.Native.Nat.{ℕ}
 use native.Mathlib.Omega.{arith}
 use lib.Dec.{T}
-use lib.ListN.{length}
 use Rattle.rules.specs.Bytes.{Bytes}
 use Rattle.rules.specs.declared.Field.{Field}
-use Rattle.rules.specs.declared.Field.TheVariants.{Unused, Channel, PresentByte, Signal, Expression, FirstBranch, NextBranch, FirstCase, NextCase, Binder, Target}
-use Rattle.texts.specs.Tokens.{Token, from, part}
-use Rattle.texts.specs.Rows.{Sofar, Got, got, stopped, ◌onward◌}
+use Rattle.rules.specs.declared.Field.TheVariants.{Unused, Channel, PresentByte, NextBranch, NextCase, Binder, Target}
+use Rattle.texts.specs.Tokens.{from, part}
+use Rattle.texts.specs.Rows.{Sofar, Got, got, ◌onward◌}
 use Rattle.texts.specs.Steps as S
 use Rattle.texts.specs.Reader as R
 use Rattle.texts.specs.Reader.{Held, Nodes, plainly}

@@ -1,19 +1,16 @@
 -- What is so far, as the scratch holds it, after a note is written or a row is put behind the others.
 -- Assumes nothing.
-use mathlib.Core.Path.{◌≡◌, refl, sym, ap, subst, ◌∙◌}
-use mathlib.Core.Bool.{Bool, true, false}
+use mathlib.Core.Path.{◌≡◌, refl, ap, ◌∙◌}
 use mathlib.Core.List.{List, [], ◌∷◌, ◌++◌}
 use Prim.Native.Nat.{ℕ, zero, suc, ◌+◌, ◌*◌, ◌%◌, ◌≤◌, ◌<◌}
 use native.Mathlib.Omega.{arith}
-use lib.Dec.{eqb, ltb}
 use lib.ListN.{length, get_or, set, length-set}
-use lib.Seq.{get_or-set_same, get_or-set_other}
-use Rattle.rules.specs.Bytes.{Bytes, byte_at, write_at}
-use Rattle.rules.proofs.Cells.{length_write_at, before_write_at, beyond_write_at, in_write_at}
-use Rattle.texts.specs.Rows.{Row, Sofar}
-use Rattle.labels.specs.Noted.{named_by, names_in}
-use Rattle.phrases.specs.Gave.{Past, with_names, Tables}
-use Rattle.reader.specs.Held.{Ready, Grew, Same, entry, row_at, rows_in, places_in, past_in, sofar_in}
+use lib.Seq.{get_or-set_other}
+use Rattle.rules.specs.Bytes.{Bytes}
+use Rattle.texts.specs.Rows.{Row}
+use Rattle.labels.specs.Noted.{named_by}
+use Rattle.phrases.specs.Gave.{Past, with_names}
+use Rattle.reader.specs.Held.{Same, entry, row_at, rows_in, places_in, past_in, sofar_in}
 
 -- Rows of the same entries are the same rows.
 row_same : (text : Bytes) (xs ys : List ℕ) (j : ℕ) → ((c : ℕ) → c < 13 → entry xs j c ≡ entry ys j c) → row_at text xs j ≡ row_at text ys j

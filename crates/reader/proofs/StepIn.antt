@@ -2,16 +2,14 @@
 -- Assumes nothing.
 use mathlib.Core.Path.{◌≡◌, refl, sym, ap, ap₂, subst, ◌∙◌}
 use mathlib.Core.Bool.{Bool, true, false}
-use mathlib.Core.List.{List, []}
-use Prim.Native.Nat.{ℕ, ◌+◌, ◌≤◌, ◌<◌}
+use mathlib.Core.List.{List}
+use Prim.Native.Nat.{ℕ, ◌≤◌}
 use native.Mathlib.Omega.{arith}
-use lib.Dec.{eqb}
 use lib.ListN.{length, get_or, set, length-set}
 use lib.Seq.{get_or-set_same, get_or-set_other}
-use borrow.Author.Tests.{eq-eqb, ne_eqb}
-use Rattle.rules.specs.Bytes.{Bytes, if◌then◌else◌}
-use Rattle.texts.specs.Tokens.{Token, token, from}
-use Rattle.texts.specs.Rows.{Sofar, Got, got, stopped, ◌onward◌}
+use Rattle.rules.specs.Bytes.{Bytes}
+use Rattle.texts.specs.Tokens.{Token, token}
+use Rattle.texts.specs.Rows.{Sofar, Got, stopped, ◌onward◌}
 use Rattle.texts.specs.Steps as S
 use Rattle.texts.specs.Reader as R
 use Rattle.texts.specs.declared.Unread.{Unread}

@@ -2,12 +2,12 @@
 -- Entry 0 is how many nodes have begun, entry 1 how many rows there are; 2 the position behind what was read, 3 the number that it gave, 4 and 5
 -- why the text is not read, 6 where a node begins; 7-13 a heading. Rows are from entry 14 on, 13 entries each.
 -- Assumes nothing: these are definitions.
-use Rattle.std.specs.Prelude.{ℕ, zero, suc, ◌+◌, ◌*◌, ◌%◌, ◌≤◌, ◌<◌, ◌≡◌, List, [], ◌∷◌, ◌++◌, Bool, true, false, length, get_or, set, eqb, ltb}
-use Rattle.rules.specs.Bytes.{Bytes, if◌then◌else◌, write_at}
+use Rattle.std.specs.Prelude.{ℕ, zero, suc, ◌+◌, ◌*◌, ◌%◌, ◌≤◌, ◌<◌, ◌≡◌, List, [], ◌∷◌, ◌++◌, Bool, true, false, length, get_or, set, eqb, ltb, if◌then◌else◌}
+use Rattle.rules.specs.Bytes.{Bytes, write_at}
 use Rattle.rules.specs.Shape.{may_be}
 use Rattle.rules.specs.declared.Field.{Field}
 use Rattle.rules.specs.declared.Field.TheVariants.{Unused, Channel, PresentByte, Signal, Expression, FirstBranch, NextBranch, FirstCase, NextCase, Binder, Target}
-use Rattle.texts.specs.Tokens.{Token, token, from, part}
+use Rattle.texts.specs.Tokens.{Token, token, from}
 use Rattle.texts.specs.Rows.{Row, Sofar, Got, got, stopped, ◌onward◌}
 use Rattle.texts.specs.Spelled.{same, is_among}
 use Rattle.texts.specs.Spelling.{open₀, close₀, is_name}
@@ -16,7 +16,7 @@ use Rattle.texts.specs.Reader.{Held, Heading, Nodes, form, wordly, bare, ends, c
 use Rattle.texts.specs.declared.Unread.{Unread}
 use Rattle.texts.specs.declared.Unread.TheVariants.{Word}
 use Rattle.reader.specs.declared.Entered.{Entered}
-use Rattle.labels.specs.Noted.{named_by, names_in}
+use Rattle.labels.specs.Noted.{named_by}
 use Rattle.phrases.specs.Gave.{Past, with_names, Tables}
 use Rattle.phrases.specs.declared.Step.{Step}
 

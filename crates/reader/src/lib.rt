@@ -1,4 +1,6 @@
 // The reader: from words to rows, one for each node, children first in field order.
+#![tactic(auto)]
+
 ghost use Rattle.std.specs.Prelude.{◌≡◌, Bool, true, false, List, [], ◌∷◌, ℕ, ◌≤◌, ◌<◌, ◌+◌, ltb, length, get_or, set};
 ghost use Rattle.rules.specs.Bytes.{Bytes};
 ghost use Rattle.rules.specs.Kinds.{fields_of};
@@ -355,7 +357,9 @@ fn put_step(rows: &mut [usize; 13118], s: Step) -> usize
     }
 }
 
-// What stands between a kind's word and its children, in the note.
+// What stands between a kind's word and its children, in the note. (Not inlined: what it is answered through memory would stand in the frame of
+// each level of the recursion.)
+#[inline(never)]
 fn put_heading(text: &&[u8], rows: &mut [usize; 13118], names: &mut [usize; 4034], k: u8) -> usize
     requires rows_len { length rows.old ≡ 13118 }
     requires k_bound { k < 30 }
@@ -513,7 +517,7 @@ fn put_rest(
 }
 
 // What stands where a node begins: a form of a kind, or a node that is read already, or a word that does not fit.
-#[derive(Drop)]
+#[derive(Clone, Copy)]
 pub enum Entered {
     Form(u8),
     Done(usize),

@@ -1,9 +1,9 @@
 -- The answer and the room of the calls.
 -- Assumes nothing.
 use mathlib.Core.Path.{◌≡◌, refl, sym, ap, subst, ◌∙◌}
-use mathlib.Core.Bool.{Bool, true, false}
+use mathlib.Core.Bool.{true, false}
 use mathlib.Core.List.{List, [], ◌∷◌}
-use Prim.Native.Nat.{ℕ, zero, suc, ◌+◌, ◌*◌, ◌-◌, ◌/◌, ◌≤◌, ◌<◌, min}
+use Prim.Native.Nat.{ℕ, zero, suc, ◌+◌, ◌*◌, ◌≤◌, ◌<◌, min}
 use native.Mathlib.Omega.{arith}
 use native.Mathlib.Nat.{min-eq_left, min-eq_right}
 use lib.Dec.{ltb}
@@ -17,8 +17,7 @@ use Rattle.rules.specs.declared.Place.{Place}
 use Rattle.rules.specs.declared.Refusal.{Refusal}
 use Rattle.rules.specs.declared.Verdict.{Verdict}
 use Rattle.rules.specs.declared.Verdict.TheVariants.{Fine, Refuse}
-use Rattle.texts.specs.Tokens.{Token}
-use Rattle.texts.specs.Rows.{Sofar, Got, got, stopped}
+use Rattle.texts.specs.Rows.{Got, stopped}
 use Rattle.texts.specs.Reader.{read_text, places_in, node_place}
 use Rattle.texts.specs.Resolved.{blocks_of}
 use Rattle.texts.specs.Calls.{ReadOutcome, last_position, unread_answer, read_checked, read_fitted, read_outcome, read_call}

@@ -1,11 +1,10 @@
 -- A text's edition, its node and its end, put together.
 -- Assumes nothing.
-use mathlib.Core.Path.{◌≡◌, refl, sym, ap, ap₂, subst, ◌∙◌}
-use mathlib.Core.Bool.{Bool, true, false}
+use mathlib.Core.Path.{◌≡◌, refl, sym, ap, subst, ◌∙◌}
 use mathlib.Core.List.{List, [], ◌∷◌}
-use Prim.Native.Nat.{ℕ, zero, suc, ◌+◌, ◌*◌, ◌-◌, ◌≤◌, ◌<◌}
+use Prim.Native.Nat.{ℕ, zero, suc, ◌-◌, ◌<◌}
 use native.Mathlib.Omega.{arith}
-use lib.ListN.{length, get_or, set, replicate, drop, length-set, length-replicate}
+use lib.ListN.{length, get_or, set, replicate, length-set, length-replicate}
 use lib.Seq.{get_or-set_same, get_or-set_other}
 use Rattle.rules.specs.Bytes.{Bytes}
 use Rattle.rules.specs.declared.Field.TheVariants.{Signal}
@@ -20,11 +19,10 @@ use Rattle.texts.proofs.Yields.{first_passes}
 use Rattle.texts.specs.declared.Unread.{Unread}
 use Rattle.texts.specs.declared.Unread.TheVariants.{Word}
 use Rattle.phrases.specs.declared.Step.{Step}
-use Rattle.phrases.specs.Gave.{gave, number, Below, Tables, with_names}
+use Rattle.phrases.specs.Gave.{gave, number, Below, with_names}
 use Rattle.labels.specs.Noted.{noted_names, names_in}
-use Rattle.reader.specs.Held.{past_in, sofar_in, why_in, gave_in, Ready, Grew}
+use Rattle.reader.specs.Held.{past_in, sofar_in, why_in, gave_in, Ready}
 use Rattle.reader.specs.Held.{rows_in as rowsHeld, places_in as placesHeld}
-use Rattle.sealing.specs.Scratch.{count_in, rows_in, starts_in}
 use Rattle.reading.specs.Given.{Fresh, Rowed, RowsOf}
 use Rattle.reading.proofs.RowsLaws.{rows_held, starts_held}
 

@@ -3,7 +3,7 @@
 use Rattle.std.specs.Prelude.{ℕ, ◌≤◌, ◌<◌, ◌≡◌, List, length, get_or}
 use Rattle.rules.specs.Bytes.{Bytes, write_at}
 use Rattle.texts.specs.Tokens.{Token}
-use Rattle.texts.specs.Rows.{Sofar, Got, got, stopped}
+use Rattle.texts.specs.Rows.{Sofar, got, stopped}
 use Rattle.texts.specs.Reader.{read_text}
 use Rattle.texts.specs.Resolved.{blocks_of}
 use Rattle.phrases.specs.declared.Step.{Step}

@@ -1,6 +1,8 @@
 // Code 8: a let's definition never needs the let's own variable at once. One pass, which visits each node once: while it is in a
 // let's definition, the let is marked with the number of the region that the definition is in, in lent marks set and put back.
 // A region is what is needed at once with its top node; a delay's signal and an event are regions of their own.
+#![tactic(auto)]
+
 ghost use Rattle.std.specs.Prelude.{◌≡◌, ◌+◌, ◌-◌, ◌<◌, length};
 ghost use Rattle.rules.specs.Layout.{nodes};
 ghost use Rattle.rules.specs.Kinds.{is_expression, is_signal, is_branch, is_case};

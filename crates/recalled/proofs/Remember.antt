@@ -1,5 +1,6 @@
 -- What a memory holds after an evaluation, and that it holds it still where neither the state's cells nor the memory's slots of the signal changed.
 -- Assumes nothing.
+use Rattle.std.specs.Prelude.{if◌then◌else◌}
 use mathlib.Core.Path.{◌≡◌, refl, sym, ap, ◌∙◌, subst}
 use mathlib.Core.Logic.{◌≢◌}
 use mathlib.Core.Bool.{Bool, true, false}
@@ -7,7 +8,7 @@ use Prim.Native.Nat.{ℕ, zero, suc, ◌+◌, ◌≤◌}
 use native.Mathlib.Omega.{arith}
 use lib.Dec.{eqb}
 use borrow.Author.Tests.{eq-eqb}
-use Rattle.rules.specs.Bytes.{Bytes, if◌then◌else◌}
+use Rattle.rules.specs.Bytes.{Bytes}
 use Rattle.rules.specs.Values.{packed, unpacked, middle_in}
 use Rattle.rules.specs.Layout.{cell, held, is_clear, branch_in}
 use Rattle.rules.specs.Work.{after, rule, one_rule, ◌then◌}
@@ -53,6 +54,7 @@ then_second r f v u e d = after_done u (f v) (subst (λ q. IsDone (q then f)) e 
 -- Where the first is a value, both are the same.
 pub more_same : {r q : Evaluated} → More r q → IsDone r → q ≡ r
 more_same same d = refl
+more_same {q = q} stuck d = elim d [ ]
 
 pub more_done : {r q : Evaluated} → More r q → IsDone r → IsDone q
 more_done m d = subst IsDone (sym (more_same m d)) d

@@ -1,6 +1,7 @@
 -- After an evaluation that gave a value, the update that takes definitions from the memory is the update of crate current: the same outcome, state
 -- and count. The state need only be one of bytes: no typing, scope or readiness is asked for but through that value.
 -- Assumes nothing.
+use Rattle.std.specs.Prelude.{if◌then◌else◌}
 use mathlib.Core.Path.{◌≡◌, refl, sym, ap, ◌∙◌, subst}
 use mathlib.Core.Logic.{◌≢◌}
 use mathlib.Core.Bool.{Bool, true, false}
@@ -10,7 +11,7 @@ use lib.Dec.{eqb}
 use lib.ListN.{get_or}
 use lib.Seq.{get_or-set_other}
 use borrow.Author.Tests.{eq-eqb}
-use Rattle.rules.specs.Bytes.{Bytes, if◌then◌else◌}
+use Rattle.rules.specs.Bytes.{Bytes}
 use Rattle.rules.specs.Values.{packed, unpacked}
 use Rattle.rules.specs.Layout.{cell, held, hold, is_clear, branch_in}
 use Rattle.rules.specs.Work.{Updated, Next, Jump, Halted, stays, leave, afterᵘ, ruleᵘ, ◌with◌, ◌thenᵘ◌}
@@ -173,10 +174,14 @@ occurrence_same Occurrence.Stuck st m r q e = refl
 later_quiet : (u : Tally) (o : Occurrence) → IsQuiet (laterᵒ u o) → IsQuiet o
 unfolding laterᵒ
 later_quiet u (Quiet w) q = quiet
+later_quiet u (Took _ _ _) q = elim q [ ]
+later_quiet u Occurrence.Stuck q = elim q [ ]
 
 is_gone : (o : Opened) (u : Tally) (target : ℕ) (rest : Occurrence) → IsQuiet (occurs_if o u target rest) → (o ≡ Gone) × IsQuiet rest
 unfolding occurs_if
 is_gone Gone u target rest h = (refl, later_quiet u rest h)
+is_gone (Here _) u target rest h = elim h [ ]
+is_gone Amiss u target rest h = elim h [ ]
 
 -- The first event is absent, and so the memory goes on.
 record Passes (r : Evaluated) (rest : Occurrence) : Type 0 where
@@ -189,6 +194,7 @@ unfolding occurs past past_if
 passes (Done v u) target rest h =
     let g = is_gone (opened v) u target rest h in
     record { gave = done; others = g.1; on = λ m q. ap (λ o. past_if o m q) g.0 }
+passes Stuck target rest h = elim h [ ]
 
 fill_c_remembers : (rec st : Bytes) (cs : Cases) → ((j : ℕ) → binds_c j cs ≤ 1) → (env : Env) (m : Memory) → IsQuiet (soonest rec st env cs)
     → RemembersC (fill_c rec st env cs m) rec st env cs

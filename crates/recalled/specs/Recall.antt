@@ -3,8 +3,8 @@
 -- the events of switch and until) it evaluates once, noting, before it updates it. So no definition is evaluated twice in a step.
 -- (proofs/SameRecall: after an evaluation that gave a value both updates are the same.)
 -- Assumes nothing: these are definitions.
-use Rattle.std.specs.Prelude.{ℕ, ◌+◌, eqb}
-use Rattle.rules.specs.Bytes.{Bytes, if◌then◌else◌}
+use Rattle.std.specs.Prelude.{ℕ, ◌+◌, eqb, if◌then◌else◌}
+use Rattle.rules.specs.Bytes.{Bytes}
 use Rattle.rules.specs.Layout.{held, hold, is_clear, branch_in}
 use Rattle.rules.specs.Work.{Updated, Next, Jump, Halted, stays, leave, afterᵘ, ruleᵘ}
 use Rattle.rules.specs.Tree.{Signal, input, time, ext, delay, let_signal, switch, group, until, Branches, no_branch, branch, Cases, no_case, case}

@@ -1,8 +1,8 @@
 -- The rules that a step by the memory uses in earnest, whatever it counts: as the update of Recall goes, one for each update rule, and what its own
 -- evaluations count; and a bound of them.
 -- Assumes nothing: these are definitions.
-use Rattle.std.specs.Prelude.{ℕ, ◌+◌, max, eqb}
-use Rattle.rules.specs.Bytes.{Bytes, if◌then◌else◌}
+use Rattle.std.specs.Prelude.{ℕ, ◌+◌, max, eqb, if◌then◌else◌}
+use Rattle.rules.specs.Bytes.{Bytes}
 use Rattle.rules.specs.Layout.{held, is_clear, branch_in}
 use Rattle.rules.specs.Work.{Updated, Next, Jump, Halted}
 use Rattle.rules.specs.Tree.{Signal, input, time, ext, delay, let_signal, switch, group, until, Branches, no_branch, branch, Cases, no_case, case}

@@ -1,11 +1,12 @@
 -- The first wrapped step after one more.
 -- Assumes nothing.
+use Rattle.std.specs.Prelude.{if◌then◌else◌}
 use mathlib.Core.Path.{◌≡◌, refl}
 use mathlib.Core.Bool.{Bool, true, false}
 use Prim.Native.Nat.{ℕ}
 use lib.Dec.{eqb}
 use borrow.Author.Tests.{eq-eqb, ne_eqb}
-use Rattle.rules.specs.Bytes.{if◌then◌else◌, ◌and◌}
+use Rattle.rules.specs.Bytes.{◌and◌}
 use Rattle.rules.specs.Calls.{no_step, first_wrapped}
 use Rattle.rules.specs.declared.Tally.{Tally}
 

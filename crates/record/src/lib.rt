@@ -1,4 +1,6 @@
 // Records of input: codes 12 and 13, the verdict on one, and the first record in whose step a number wrapped.
+#![tactic(auto)]
+
 ghost use Rattle.std.specs.Prelude.{◌≡◌, ◌<◌, ◌≤◌, ◌^◌, eqb, length};
 ghost use Rattle.rules.specs.Bytes.{u64_at, ◌and◌, ◌or◌};
 ghost use Rattle.rules.specs.Layout.{header_length, input_length, time_in};

@@ -14,7 +14,6 @@ use Rattle.rules.specs.declared.Verdict.{Verdict}
 use Rattle.rules.specs.declared.Verdict.TheVariants.{Fine, Refuse}
 use Rattle.rules.proofs.Verdicts.{accepted}
 use Rattle.promises.specs.Small.{Small}
-use Rattle.rewritten.specs.Rewritten as R
 use Rattle.texts.specs.Numbering.{renumbered}
 use Rattle.texts.specs.Printer.{print_text}
 use Rattle.texts.specs.Calls.{ReadOutcome, PrintOutcome, read_fitted, read_call, print_fitted, print_outcome, print_call}

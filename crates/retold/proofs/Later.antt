@@ -7,7 +7,7 @@ use native.Mathlib.Omega.{arith}
 use lib.Dec.{ltb}
 use lib.ListN.{length}
 use Rattle.rules.specs.Bytes.{Bytes, first}
-use Rattle.rules.specs.Layout.{blocks, nodes}
+use Rattle.rules.specs.Layout.{nodes}
 use Rattle.rules.specs.Shape.{shape_wrong}
 use Rattle.rules.specs.Scope.{scope_fault}
 use Rattle.rules.specs.Typing.{type_fault}

@@ -22,7 +22,7 @@ use Rattle.texts.specs.declared.TextRead.TheVariants.{Table}
 use Rattle.retold.specs.Retold.{program_in}
 use Rattle.retold.specs.Stays.{NumberedSo, Reread}
 use Rattle.retold.proofs.Fronts.{written_front}
-use Rattle.retold.proofs.AtCalls.{IsTable, is_table, read_short}
+use Rattle.retold.proofs.AtCalls.{is_table, read_short}
 use Rattle.retold.proofs.Stays.{comes_back}
 use Rattle.retold.proofs.TextOrder.{text_numbered}
 

@@ -3,7 +3,7 @@
 use mathlib.Core.Path.{◌≡◌, refl, sym, ap, subst, ◌∙◌}
 use mathlib.Core.Bool.{Bool, true, false}
 use mathlib.Core.List.{List, [], ◌∷◌, ◌++◌}
-use Prim.Native.Nat.{ℕ, suc, ◌+◌, ◌-◌, ◌<◌, ◌≤◌}
+use Prim.Native.Nat.{ℕ, suc, ◌+◌, ◌-◌, ◌≤◌}
 use native.Mathlib.Omega.{arith}
 use lib.ListN.{length, length-append}
 use borrow.Author.Tests.{eqb-true}
@@ -13,12 +13,12 @@ use Rattle.rules.specs.Kinds.{row, is_signal, is_expression, is_branch, is_case,
 use Rattle.rules.specs.Shape.{is_child}
 use Rattle.rules.specs.Shaped.{NodeOf}
 use Rattle.rules.specs.Accepted.{Formed}
-use Rattle.rules.specs.Tree.{Expr, Signal, Branches, Cases, expr_at, signal_at, branches_at, cases_at, root}
+use Rattle.rules.specs.Tree.{expr_at, signal_at, branches_at, cases_at, root}
 use Rattle.rules.specs.declared.Field.{Field}
 use Rattle.rules.proofs.Static.{not_both}
 use Rattle.rules.proofs.Kids.{Child}
 use Rattle.rules.proofs.Nodes.{expr_variable, expr_constant, signal_input, signal_time}
-use Rattle.rules.proofs.Expressions.{IsOperation, negation_kid, negation_tree, just_kid, just_tree, choice_kids, choice_tree, taking_kids, taking_tree, operation_kids, operation_tree}
+use Rattle.rules.proofs.Expressions.{negation_kid, negation_tree, just_kid, just_tree, choice_kids, choice_tree, taking_kids, taking_tree, operation_kids, operation_tree}
 use Rattle.rules.proofs.Signals.{ext_kid, ext_tree, delay_kid, delay_tree, let_kids, let_tree, switch_kids, switch_tree, group_kids, group_tree, until_kids, until_tree, branch_kid, branch_next, branch_end, branch_on, case_kid, case_next, case_end, case_on}
 use Rattle.rules.proofs.ByKind.{ExpressionKind, is_variable, is_constant, is_negation, is_choice, is_just, is_taking, is_operation, expression_kind, SignalKind, is_input, is_time, is_ext, is_delay, is_let, is_switch, is_group, is_until, signal_kind, choose, two_kids}
 use Rattle.rules.proofs.Established.{root_signal}

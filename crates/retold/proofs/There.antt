@@ -18,7 +18,7 @@ use Rattle.rules.specs.Accepted.{Accepted}
 use Rattle.rules.specs.declared.Place.TheVariants.{Nowhere}
 use Rattle.rules.specs.declared.Field.{Field}
 use Rattle.rules.proofs.Static.{and_both, not_both}
-use Rattle.rules.proofs.Verdicts.{accepted, fine_verdict}
+use Rattle.rules.proofs.Verdicts.{fine_verdict}
 use Rattle.promises.specs.Small.{Small}
 use Rattle.written.specs.Parts.{Part, size_p, last_p}
 use Rattle.written.specs.Written.{part_s, new_number, written, placed_s, renamed}

@@ -1,5 +1,6 @@
 -- A tidied program tidied again is the same, byte for byte.
 -- Assumes nothing.
+use Rattle.std.specs.Prelude.{if◌then◌else◌}
 use mathlib.Core.Path.{◌≡◌, refl, sym, ap, ◌∙◌}
 use mathlib.Core.List.{List, [], ◌∷◌, ◌++◌}
 use mathlib.Core.Bool.{Bool, true, false}
@@ -8,7 +9,7 @@ use native.Mathlib.Omega.{arith}
 use lib.Dec.{eqb}
 use lib.ListN.{length}
 use borrow.Author.Tests.{eqb-true, eq-eqb}
-use Rattle.rules.specs.Bytes.{Bytes, ◌or◌, if◌then◌else◌}
+use Rattle.rules.specs.Bytes.{Bytes, ◌or◌}
 use Rattle.rules.specs.Layout.{type_at, cells_before, edition}
 use Rattle.rules.specs.Size.{size_e, size_s, size_b, size_c}
 use Rattle.rules.specs.Accepted.{Accepted}

@@ -1,7 +1,7 @@
 -- The calls of request m: from the program and the lent room to the answer and the room after.
 -- Assumes nothing: these are definitions.
-use Rattle.std.specs.Prelude.{ℕ, List, [], ◌∷◌, ltb, length}
-use Rattle.rules.specs.Bytes.{Bytes, write_at, if◌then◌else◌}
+use Rattle.std.specs.Prelude.{ℕ, List, [], ◌∷◌, ltb, length, if◌then◌else◌}
+use Rattle.rules.specs.Bytes.{Bytes, write_at}
 use Rattle.rules.specs.Layout.{nodes}
 use Rattle.rules.specs.Answers.{code_of, place_of}
 use Rattle.rules.specs.Calls.{program_verdict}

@@ -1,6 +1,7 @@
 -- A branch found by its number in a group's list: it is a node of the table, and its body is what evaluation and update go on with. So code
 -- that knows the number needs no walk over the list.
 -- Assumes nothing.
+use Rattle.std.specs.Prelude.{if◌then◌else◌}
 use mathlib.Core.Path.{◌≡◌, refl, sym, ap, ◌∙◌, subst}
 use mathlib.Core.Bool.{Bool, true, false}
 use Prim.Native.Nat.{ℕ, zero, suc, ◌≤◌, ◌<◌, max}
@@ -8,7 +9,7 @@ use native.Mathlib.Omega.{arith}
 use native.Mathlib.Nat.{not-suc-le-zero, le_refl}
 use lib.Dec.{eqb}
 use borrow.Author.Tests.{eq-eqb, ne_eqb, eqb-true, eqb-false}
-use Rattle.rules.specs.Bytes.{Bytes, ◌or◌, if◌then◌else◌}
+use Rattle.rules.specs.Bytes.{Bytes, ◌or◌}
 use Rattle.rules.specs.Layout.{a_at, b_at}
 use Rattle.rules.specs.Kinds.{is_branch}
 use Rattle.rules.specs.Tree.{Branches, no_branch, branch, signal_at, branches_at}

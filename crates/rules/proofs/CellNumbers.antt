@@ -1,12 +1,13 @@
 -- The numbers of the cells: in node order, and below their count.
 -- Assumes nothing.
+use Rattle.std.specs.Prelude.{if◌then◌else◌}
 use mathlib.Core.Path.{◌≡◌, refl, ap}
 use mathlib.Core.Bool.{Bool, true, false}
 use Prim.Native.Nat.{ℕ, zero, suc, ◌+◌, ◌≤◌, ◌<◌}
 use native.Mathlib.Omega.{arith}
 use lib.Dec.{eqb}
 use borrow.Author.Tests.{eqb-true, eqb-false}
-use Rattle.rules.specs.Bytes.{Bytes, how_many, if◌then◌else◌}
+use Rattle.rules.specs.Bytes.{Bytes, how_many}
 use Rattle.rules.specs.Layout.{nodes, kind_at, has_cell, cells_before, cells}
 
 -- the more places, the more

@@ -1,12 +1,13 @@
 -- Each cell of a program whose shape is right stands in the root's tree exactly once, and no other number stands there as a cell.
 -- Assumes nothing.
+use Rattle.std.specs.Prelude.{if◌then◌else◌}
 use mathlib.Core.Path.{◌≡◌, refl, sym, ap, ◌∙◌}
 use mathlib.Core.Bool.{Bool, true, false}
 use Prim.Native.Nat.{ℕ, zero, suc, ◌+◌, ◌≤◌, ◌<◌}
 use native.Mathlib.Omega.{arith}
 use lib.Dec.{eqb, ltb}
 use borrow.Author.Tests.{lt-ltb, le-ltb, eq-eqb, ne_eqb, ltb-true, ltb-false}
-use Rattle.rules.specs.Bytes.{Bytes, first, how_many, if◌then◌else◌}
+use Rattle.rules.specs.Bytes.{Bytes, first, how_many}
 use Rattle.rules.specs.Layout.{kind_at, nodes, has_cell, cells_before, cells}
 use Rattle.rules.specs.declared.Place.TheVariants.{Nowhere}
 use Rattle.rules.specs.Format.{length_wrong}

@@ -1,13 +1,13 @@
 -- Sums over the numbers below a bound, and the counting law: where each number but the last is named once, what is weighed over the last
 -- one's tree is what is weighed over all the numbers.
 -- Assumes nothing.
+use Rattle.std.specs.Prelude.{if◌then◌else◌}
 use mathlib.Core.Path.{◌≡◌, refl, sym, ap, ap₂, ◌∙◌}
 use mathlib.Core.Bool.{Bool, true, false}
 use Prim.Native.Nat.{ℕ, zero, suc, ◌+◌, ◌*◌, ◌≤◌, ◌<◌}
 use native.Mathlib.Omega.{arith}
 use lib.Dec.{eqb}
 use borrow.Author.Tests.{eqb-true, eqb-false, ne_eqb}
-use Rattle.rules.specs.Bytes.{if◌then◌else◌}
 
 -- The sum of f over the numbers below n.
 unfoldable pub total : ℕ → (ℕ → ℕ) → ℕ

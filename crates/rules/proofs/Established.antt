@@ -1,5 +1,6 @@
 -- What codes 1 and 5 establish: a shaped program, whose root is a signal.
 -- Assumes nothing.
+use Rattle.std.specs.Prelude.{if◌then◌else◌}
 use mathlib.Core.Path.{◌≡◌, refl, sym, ap, ◌∙◌}
 use mathlib.Core.Bool.{Bool, true, false, not}
 use Prim.Native.Nat.{ℕ, zero, suc, ◌+◌, ◌-◌, ◌*◌, ◌/◌, ◌%◌, ◌<◌, ◌≤◌}
@@ -8,7 +9,7 @@ use native.Mathlib.Nat.{not-suc-le-zero}
 use lib.Dec.{eqb, ltb}
 use lib.ListN.{length}
 use borrow.Author.Tests.{eqb-true, eqb-false, ltb-false, eq-eqb}
-use Rattle.rules.specs.Bytes.{Bytes, ◌or◌, first_from, first, if◌then◌else◌}
+use Rattle.rules.specs.Bytes.{Bytes, ◌or◌, first_from, first}
 use Rattle.rules.specs.Layout.{nodes, records, blocks, place_or, kind_at}
 use Rattle.rules.specs.Format.{length_wrong}
 use Rattle.rules.specs.Kinds.{is_signal}

@@ -1,13 +1,14 @@
 -- In a program whose shape is right each node stands in the root's tree exactly once: what is weighed over the tree is what is weighed over
 -- the table. So the tree has as many nodes as the table, and the bound is at most N(N + 1).
 -- Assumes nothing.
+use Rattle.std.specs.Prelude.{if◌then◌else◌}
 use mathlib.Core.Path.{◌≡◌, refl, sym, ap, subst, ◌∙◌}
 use mathlib.Core.Bool.{Bool, true, false}
 use Prim.Native.Nat.{ℕ, zero, suc, ◌+◌, ◌-◌, ◌*◌, ◌≤◌, ◌<◌}
 use native.Mathlib.Omega.{arith}
 use lib.Dec.{eqb}
 use borrow.Author.Tests.{eqb-true, ne_eqb}
-use Rattle.rules.specs.Bytes.{Bytes, first, if◌then◌else◌, ◌and◌}
+use Rattle.rules.specs.Bytes.{Bytes, first, ◌and◌}
 use Rattle.rules.specs.Layout.{kind_at, a_at, b_at, c_at, nodes, has_cell, cells_before}
 use Rattle.rules.specs.declared.Field.{Field}
 use Rattle.rules.specs.declared.Field.TheVariants.{Unused, Channel, PresentByte, Signal, Expression, FirstBranch, NextBranch, FirstCase, NextCase, Binder, Target}

@@ -1,5 +1,6 @@
 -- What codes 1-5 establish together: an accepted program has a node, is shaped, and its root is a signal.
 -- Assumes nothing.
+use Rattle.std.specs.Prelude.{if◌then◌else◌}
 use mathlib.Core.Path.{◌≡◌, refl, sym}
 use mathlib.Core.Bool.{Bool, true, false, not}
 use Prim.Native.Nat.{ℕ, zero, suc, ◌-◌, ◌%◌, ◌<◌}
@@ -7,7 +8,7 @@ use native.Mathlib.Omega.{arith}
 use lib.Dec.{eqb}
 use lib.ListN.{length}
 use borrow.Author.Tests.{eqb-true, eqb-false}
-use Rattle.rules.specs.Bytes.{Bytes, ◌and◌, ◌or◌, first_from, first, if◌then◌else◌}
+use Rattle.rules.specs.Bytes.{Bytes, ◌and◌, ◌or◌, first_from, first}
 use Rattle.rules.specs.Layout.{blocks, records, nodes, kind_at, place_or}
 use Rattle.rules.specs.Format.{length_wrong, record_wrong, may_end, is_zero, after_end, node_wrong}
 use Rattle.rules.specs.Kinds.{is_signal}

@@ -1,5 +1,6 @@
 -- A program has no fault exactly when it meets every rule; and then it has a node, and is shaped with a signal as its root.
 -- Assumes nothing.
+use Rattle.std.specs.Prelude.{if◌then◌else◌}
 use mathlib.Core.Path.{◌≡◌, refl, sym, ap, ◌∙◌}
 use mathlib.Core.Bool.{Bool, true, false, not}
 use Prim.Native.Nat.{ℕ, zero, suc, ◌+◌, ◌-◌, ◌*◌, ◌/◌, ◌%◌, ◌<◌, ◌≤◌}
@@ -7,7 +8,7 @@ use native.Mathlib.Omega.{arith}
 use lib.Dec.{eqb, ltb}
 use lib.ListN.{length}
 use borrow.Author.Tests.{eqb-true, eqb-false, ne_eqb, eq-eqb}
-use Rattle.rules.specs.Bytes.{Bytes, ◌and◌, ◌or◌, first_from, first, if◌then◌else◌}
+use Rattle.rules.specs.Bytes.{Bytes, ◌and◌, ◌or◌, first_from, first}
 use Rattle.rules.specs.Layout.{blocks, records, nodes, kind_at, place_or}
 use Rattle.rules.specs.Format.{length_wrong, sum_wrong, number_wrong, record_wrong, may_end, is_zero, after_end, node_wrong}
 use Rattle.rules.specs.Kinds.{is_signal}

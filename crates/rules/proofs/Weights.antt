@@ -1,13 +1,14 @@
 -- What a tree weighs, each node that has no cell the same and each that has one by the number of its cell; and the same summed along the
 -- children of a table. In a shaped program the two agree.
 -- Assumes nothing.
+use Rattle.std.specs.Prelude.{if◌then◌else◌}
 use mathlib.Core.Path.{◌≡◌, refl, sym, ap, ◌∙◌}
 use mathlib.Core.Bool.{Bool, true, false}
 use Prim.Native.Nat.{ℕ, zero, suc, ◌+◌, ◌<◌}
 use native.Mathlib.Nat.{not-suc-le-zero}
 use native.Mathlib.Omega.{arith}
 use borrow.Author.Tests.{eqb-true}
-use Rattle.rules.specs.Bytes.{Bytes, if◌then◌else◌, ◌and◌, ◌or◌}
+use Rattle.rules.specs.Bytes.{Bytes, ◌and◌, ◌or◌}
 use Rattle.rules.specs.Layout.{kind_at, a_at, b_at, c_at, has_cell, cells_before}
 use Rattle.rules.specs.declared.Field.{Field}
 use Rattle.rules.specs.declared.Fields.{Fields}

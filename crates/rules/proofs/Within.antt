@@ -1,12 +1,13 @@
 -- The work of an evaluation and of an update is at most the bound, whatever the environment, the record and the state.
 -- Assumes nothing.
+use Rattle.std.specs.Prelude.{if◌then◌else◌}
 use mathlib.Core.Bool.{Bool, true, false}
 use Prim.Native.Nat.{ℕ, ◌+◌, ◌≤◌, max}
 use native.Mathlib.Nat.{le_refl}
 use native.Mathlib.Omega.{arith}
 use lib.Dec.{eqb}
 use lib.ListN.{get_or}
-use Rattle.rules.specs.Bytes.{Bytes, if◌then◌else◌}
+use Rattle.rules.specs.Bytes.{Bytes}
 use Rattle.rules.specs.Scope.{has_branch}
 use Rattle.rules.specs.Layout.{is_clear, held, branch_in}
 use Rattle.rules.specs.Values.{maybe_of, is_plain, unpacked}

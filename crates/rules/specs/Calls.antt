@@ -1,7 +1,7 @@
 -- The three calls: from the bytes that they are lent to the answer and the bytes after.
 -- Assumes nothing: these are definitions.
-use Rattle.std.specs.Prelude.{ℕ, zero, suc, ◌+◌, ◌*◌, ◌/◌, ◌%◌, Bool, not, length, eqb, ltb, leb}
-use Rattle.rules.specs.Bytes.{Bytes, byte_at, write_at, first, if◌then◌else◌, ◌and◌, ◌or◌}
+use Rattle.std.specs.Prelude.{ℕ, zero, suc, ◌+◌, ◌*◌, ◌/◌, ◌%◌, Bool, not, length, eqb, ltb, leb, if◌then◌else◌}
+use Rattle.rules.specs.Bytes.{Bytes, byte_at, write_at, first, ◌and◌, ◌or◌}
 use Rattle.rules.specs.Values.{value_bytes}
 use Rattle.rules.specs.Layout.{blocks, records, nodes, cells, state_length, last_time, no_time, input_length, input_at, time_in, flag_on, event_on}
 use Rattle.rules.specs.Format.{length_wrong, sum_wrong, number_wrong, record_wrong}

@@ -1,7 +1,7 @@
 -- Where things stand: blocks and nodes in a program, cells in a state, channels in a record.
 -- Assumes nothing: these are definitions.
-use Rattle.std.specs.Prelude.{ℕ, zero, suc, ◌+◌, ◌-◌, ◌*◌, ◌/◌, ◌%◌, ◌^◌, ◌++◌, Bool, length, take, drop, eqb, ltb}
-use Rattle.rules.specs.Bytes.{Bytes, byte_at, u16_at, u32_at, u64_at, bytes_of, write_at, first, how_many, if◌then◌else◌, ◌or◌}
+use Rattle.std.specs.Prelude.{ℕ, zero, suc, ◌+◌, ◌-◌, ◌*◌, ◌/◌, ◌%◌, ◌^◌, ◌++◌, Bool, length, take, drop, eqb, ltb, if◌then◌else◌}
+use Rattle.rules.specs.Bytes.{Bytes, byte_at, u16_at, u32_at, u64_at, bytes_of, write_at, first, how_many, ◌or◌}
 use Rattle.rules.specs.Values.{int_t, maybe_of, packed, unpacked, middle_in}
 use Rattle.rules.specs.declared.Place.{Place}
 use Rattle.rules.specs.declared.Place.TheVariants.{At, Nowhere}

@@ -1,7 +1,7 @@
 -- The operations, kinds 18-23, 25 and 26: what they take, what they give and what they mean.
 -- Assumes nothing: these are definitions.
-use Rattle.std.specs.Prelude.{ℕ, Bool, not, eqb, leb, ℤ, ◌+ℤ◌, ◌-ℤ◌, ◌*ℤ◌}
-use Rattle.rules.specs.Bytes.{if◌then◌else◌, ◌and◌, ◌or◌}
+use Rattle.std.specs.Prelude.{ℕ, Bool, not, eqb, leb, ℤ, ◌+ℤ◌, ◌-ℤ◌, ◌*ℤ◌, if◌then◌else◌}
+use Rattle.rules.specs.Bytes.{◌and◌, ◌or◌}
 use Rattle.rules.specs.Values.{bool_t, int_t, maybe_of}
 use Rattle.rules.specs.Words.{signed, outside, sum_of, difference_of, product_of, floor_z, quotient_of, is_less}
 use Rattle.rules.specs.declared.Value.{Value}

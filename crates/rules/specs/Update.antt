@@ -1,7 +1,7 @@
 -- How a step updates, in place.
 -- Assumes nothing: these are definitions.
-use Rattle.std.specs.Prelude.{ℕ, eqb}
-use Rattle.rules.specs.Bytes.{Bytes, if◌then◌else◌}
+use Rattle.std.specs.Prelude.{ℕ, eqb, if◌then◌else◌}
+use Rattle.rules.specs.Bytes.{Bytes}
 use Rattle.rules.specs.Layout.{held, hold, is_clear, branch_in, hold_branch, time_in, set_time, most_nodes}
 use Rattle.rules.specs.Work.{nothing, ◌plus◌, Updated, Next, Jump, Halted, stays, leave, afterᵘ, ruleᵘ, ◌with◌, ◌thenᵘ◌}
 use Rattle.rules.specs.Tree.{Signal, input, time, ext, delay, let_signal, switch, group, until, Branches, no_branch, branch, Cases, no_case, case, root}

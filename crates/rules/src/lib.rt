@@ -1,4 +1,6 @@
 // The plain types that the rules speak of, and the paper's numbers for them. The rules themselves are in specs/.
+#![tactic(auto)]
+
 ghost use Rattle.std.specs.Prelude.{◌≡◌};
 ghost use Rattle.rules.specs.Answers.{code_of, place_of};
 
@@ -16,7 +18,7 @@ pub const NO_NEXT: u16 = 65535;
 pub const NO_STEP: u32 = 65535;
 
 // A value: its type code and its word, unsigned two's complement. Types 1-3 are Plain; 5-7 are Absent or Present.
-#[derive(Drop)]
+#[derive(Clone, Copy)]
 pub enum Value {
     Plain(u8, u32),
     Absent(u8),
@@ -24,14 +26,14 @@ pub enum Value {
 }
 
 // What an evaluation or an update has counted, and whether a number in it wrapped.
-#[derive(Drop)]
+#[derive(Clone, Copy)]
 pub struct Tally {
     pub work: u64,
     pub wrapped: bool,
 }
 
 // The fields of a node's record: kind, type, a, b, c, word.
-#[derive(Drop)]
+#[derive(Clone, Copy)]
 pub struct Node {
     pub kind: u8,
     pub ty: u8,
@@ -42,14 +44,14 @@ pub struct Node {
 }
 
 // The outcome of an evaluation.
-#[derive(Drop)]
+#[derive(Clone, Copy)]
 pub enum Evaluated {
     Done(Value, Tally),
     Stuck,
 }
 
 // The outcome of an update in place: it stays, or an until jumps to a branch with a value, which its group catches.
-#[derive(Drop)]
+#[derive(Clone, Copy)]
 pub enum Moved {
     Stay(Tally),
     Jump(u32, Value, Tally),
@@ -57,14 +59,14 @@ pub enum Moved {
 }
 
 // The word of a plain value of the type that is asked for.
-#[derive(Drop)]
+#[derive(Clone, Copy)]
 pub enum Word {
     Is(u32),
     Not,
 }
 
 // A maybe taken apart: the plain value that it holds, or absent. (A plain value is no maybe.)
-#[derive(Drop)]
+#[derive(Clone, Copy)]
 pub enum Opened {
     Here(Value),
     Gone,
@@ -72,7 +74,7 @@ pub enum Opened {
 }
 
 // What the events of an until did, in list order up to the first present one: it took a branch with a value, or none was present.
-#[derive(Drop)]
+#[derive(Clone, Copy)]
 pub enum Occurrence {
     Took(u32, Value, Tally),
     Quiet(Tally),
@@ -80,14 +82,14 @@ pub enum Occurrence {
 }
 
 // A place, if there is one.
-#[derive(Drop)]
+#[derive(Clone, Copy)]
 pub enum Place {
     At(u32),
     Nowhere,
 }
 
 // Why a call refuses, with the place where the paper names one.
-#[derive(Drop)]
+#[derive(Clone, Copy)]
 pub enum Refusal {
     ProgramLength,
     CheckSum(u32),
@@ -106,21 +108,21 @@ pub enum Refusal {
 }
 
 // A fault found, or none.
-#[derive(Drop)]
+#[derive(Clone, Copy)]
 pub enum Verdict {
     Fine,
     Refuse(Refusal),
 }
 
 // The answer of check: nodes, cells, bound, root type.
-#[derive(Drop)]
+#[derive(Clone, Copy)]
 pub enum Checked {
     Accepted(u32, u32, u32, u8),
     Refused(Refusal),
 }
 
 // The answer of start.
-#[derive(Drop)]
+#[derive(Clone, Copy)]
 pub enum Started {
     Ready,
     Refused(Refusal),
@@ -128,14 +130,14 @@ pub enum Started {
 
 // The answer of run: steps done, work and the first step in which a number wrapped, NO_STEP if none; of a refusal, the work and that step of the
 // steps done.
-#[derive(Drop)]
+#[derive(Clone, Copy)]
 pub enum Ran {
     Finished(u32, u32, u32),
     Refused(Refusal, u32, u32),
 }
 
 // What a field a, b or c of a record is.
-#[derive(Drop)]
+#[derive(Clone, Copy)]
 pub enum Field {
     Unused,
     Channel,
@@ -151,7 +153,7 @@ pub enum Field {
 }
 
 // What the type of a record is: zero, any type, a plain type, or the type of a value, whose present byte and word are b and word.
-#[derive(Drop)]
+#[derive(Clone, Copy)]
 pub enum TypeField {
     NoType,
     AnyType,
@@ -160,7 +162,7 @@ pub enum TypeField {
 }
 
 // The fields of a kind.
-#[derive(Drop)]
+#[derive(Clone, Copy)]
 pub struct Fields {
     pub ty: TypeField,
     pub a: Field,

@@ -1,8 +1,8 @@
 -- The groups that a case may leave for, in lent numbers by node: a group is open while the recursion is inside it, and then its first branch has
 -- the group's number and one.
 -- Assumes nothing: these are definitions.
-use Rattle.std.specs.Prelude.{Bool, List, [], ◌∷◌, ℕ, zero, suc, eqb, get_or}
-use Rattle.rules.specs.Bytes.{Bytes, if◌then◌else◌, ◌and◌}
+use Rattle.std.specs.Prelude.{Bool, List, [], ◌∷◌, ℕ, zero, suc, eqb, get_or, if◌then◌else◌}
+use Rattle.rules.specs.Bytes.{Bytes, ◌and◌}
 use Rattle.rules.specs.Layout.{kind_at, b_at}
 use Rattle.rules.specs.Scope.{Offers}
 use Rattle.rules.specs.Tree.{branches_at}

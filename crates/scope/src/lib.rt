@@ -1,4 +1,6 @@
 // Code 6: scope, with the binders in scope marked in lent bytes and the groups upward in lent numbers, both set and put back.
+#![tactic(auto)]
+
 ghost use Rattle.std.specs.Prelude.{◌≡◌, Bool, ◌+◌, ◌-◌, ◌*◌, ◌≤◌, ◌<◌, length};
 ghost use Rattle.rules.specs.Layout.{nodes, edition, kind_at, a_at, b_at};
 ghost use Rattle.rules.specs.Kinds.{is_expression, is_signal, is_branch, is_case};

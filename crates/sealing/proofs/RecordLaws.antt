@@ -3,7 +3,7 @@
 use mathlib.Core.Path.{◌≡◌, refl, sym, ap, ◌∙◌}
 use mathlib.Core.Bool.{Bool, true, false}
 use mathlib.Core.List.{List, [], ◌∷◌, map}
-use Prim.Native.Nat.{ℕ, zero, suc, ◌+◌, ◌-◌, ◌*◌, ◌/◌, ◌%◌, ◌≤◌, ◌<◌}
+use Prim.Native.Nat.{ℕ, zero, suc, ◌+◌, ◌*◌, ◌/◌, ◌%◌, ◌≤◌, ◌<◌}
 use native.Mathlib.Omega.{arith}
 use lib.Dec.{eqb}
 use lib.ListN.{length, get_or}
@@ -15,7 +15,7 @@ use Rattle.texts.specs.Rows.{Row}
 use Rattle.texts.specs.Resolved.{binder_of, branch_of, record_of, table_from, blocks_of}
 use Rattle.tidy.specs.Record.{row_from, zero_row}
 use Rattle.sealing.specs.Scratch.{count_in, column_of, name_in, row_in, rows_of, rows_in}
-use Rattle.sealing.specs.Found.{found_in, settled_in, records_in}
+use Rattle.sealing.specs.Found.{settled_in, records_in}
 use Rattle.sealing.proofs.NameLaws.{first_column, binder_is, branch_is}
 
 -- Rows, by number.

@@ -1,4 +1,6 @@
 // The reader's rows as blocks: names to numbers, rows to records, and the records 42 to a block.
+#![tactic(auto)]
+
 ghost use Rattle.std.specs.Prelude.{◌≡◌, ◌+◌, ◌*◌, ◌%◌, ◌≤◌, ◌<◌, length};
 ghost use Rattle.rules.specs.Bytes.{write_at};
 ghost use Rattle.written.specs.Table.{block_of};

@@ -1,4 +1,6 @@
 // Code 5: the shape.
+#![tactic(auto)]
+
 ghost use Rattle.std.specs.Prelude.{◌≡◌, Bool, not, ◌+◌, ◌*◌, ◌≤◌, ◌<◌, eqb, length, get_or, replicate};
 ghost use Rattle.rules.specs.Bytes.{◌and◌, ◌or◌, first};
 ghost use Rattle.rules.specs.Layout.{nodes, records};

@@ -1,9 +1,8 @@
 -- The words of the text form in one list, and what a number in a text comes to.
 -- Assumes nothing: these are definitions.
-use Rattle.std.specs.Prelude.{ℕ, ◌-◌, ◌%◌, ◌≤◌, List, [], ◌∷◌, Bool, true, false, eqb, ltb, leb, length}
-use Rattle.rules.specs.Bytes.{Bytes, if◌then◌else◌}
+use Rattle.std.specs.Prelude.{ℕ, ◌-◌, ◌%◌, ◌≤◌, ◌∷◌, Bool, eqb, ltb, leb, length, if◌then◌else◌}
+use Rattle.rules.specs.Bytes.{Bytes}
 use Rattle.rules.specs.Values.{is_plain, is_type}
-use Rattle.texts.specs.Tokens.{part}
 use Rattle.texts.specs.Spelling.{kind_word, type_word, true_word, false_word, some_word, none_word, edition_word}
 use Rattle.texts.specs.Numerals.{is_natural, read_on, is_number, in_range, word_of}
 use Rattle.spell.specs.declared.Number.{Number}

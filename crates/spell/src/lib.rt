@@ -1,4 +1,6 @@
 // The words of a text: which word of the form a part of the text is, whether it is a name, and which number.
+#![tactic(auto)]
+
 ghost use Rattle.std.specs.Prelude.{◌≡◌, true, ◌∷◌, [], ◌≤◌, ◌<◌, length, get_or};
 ghost use Rattle.texts.specs.Tokens.{part};
 ghost use Rattle.texts.specs.Spelled.{same};
@@ -10,7 +12,7 @@ use kinds::{both, either, may_be};
 use rules::{Field, Place};
 
 // A word as a number: of 32 bits, in two's complement; a number that is out of range; no number.
-#[derive(Drop)]
+#[derive(Clone, Copy)]
 pub enum Number {
     Inside(u32),
     Outside,

@@ -1,9 +1,10 @@
 -- One byte more in what stands before a position. Assumes nothing.
+use Rattle.std.specs.Prelude.{if◌then◌else◌}
 use Prim.Native.Nat.{ℕ, ◌+◌}
 use mathlib.Core.Path.{◌≡◌, refl}
 use native.Mathlib.Numerals.{unary_clauses}
 use native.Mathlib.Omega.{arith}
-use Rattle.rules.specs.Bytes.{Bytes, if◌then◌else◌}
+use Rattle.rules.specs.Bytes.{Bytes}
 use Rattle.spots.specs.Standing.{ends_at, lines_before, line_start}
 
 pub more_lines : (text : Bytes) (i : ℕ) → lines_before text (i + 1) ≡ lines_before text i + (if ends_at text i then 1 else 0)

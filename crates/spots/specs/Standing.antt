@@ -1,6 +1,6 @@
 -- Where a position stands in a text, for people: its line, and the position at which that line begins. Assumes nothing: these are definitions.
-use Rattle.std.specs.Prelude.{ℕ, zero, suc, ◌+◌, Bool, true, false, eqb, ltb}
-use Rattle.rules.specs.Bytes.{Bytes, byte_at, if◌then◌else◌}
+use Rattle.std.specs.Prelude.{ℕ, zero, suc, ◌+◌, Bool, true, false, eqb, ltb, if◌then◌else◌}
+use Rattle.rules.specs.Bytes.{Bytes, byte_at}
 
 -- A line ends with a line feed, or with a carriage return that no line feed follows.
 unfoldable pub ends_line : ℕ → ℕ → Bool

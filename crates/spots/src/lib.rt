@@ -1,10 +1,12 @@
 // Where a position stands in a text, for people: its line and its column, the line itself and a mark under the place. Definitions in specs/.
-ghost use Rattle.std.specs.Prelude.{◌≡◌, ◌+◌, ◌≤◌, length};
-ghost use Rattle.rules.specs.Bytes.{byte_at, if◌then◌else◌};
+#![tactic(auto)]
+
+ghost use Rattle.std.specs.Prelude.{◌≡◌, ◌+◌, ◌≤◌, length, if◌then◌else◌};
+ghost use Rattle.rules.specs.Bytes.{byte_at};
 ghost use Rattle.spots.specs.Standing.{ends_line, lines_before, line_start, begins_one};
 
 // The line of a position, counted from 1, and the position at which that line begins.
-#[derive(Drop)]
+#[derive(Clone, Copy)]
 pub struct Spot {
     pub line: usize,
     pub start: usize,

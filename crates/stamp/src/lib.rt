@@ -1,4 +1,6 @@
 // The sum of a program's checks, by which a state knows its program.
+#![tactic(auto)]
+
 ghost use Rattle.std.specs.Prelude.{◌≡◌, ◌%◌, ◌≤◌, length};
 ghost use Rattle.rules.specs.Layout.{checks_of, sum_in, header_length};
 

@@ -1,4 +1,6 @@
 // The start of a program that was accepted, for the call start and for a program that makes its steps one by one.
+#![tactic(auto)]
+
 ghost use Rattle.std.specs.Prelude.{◌≡◌};
 ghost use Rattle.rules.specs.Layout.{nodes};
 ghost use Rattle.rules.specs.Accepted.{Accepted};

@@ -1,4 +1,6 @@
 // Putting cells to start, and the start state.
+#![tactic(auto)]
+
 ghost use Rattle.std.specs.Prelude.{◌≡◌, ◌+◌, ◌-◌, ◌≤◌, ◌<◌, length, get_or, replicate};
 ghost use Rattle.rules.specs.Bytes.{write_at};
 ghost use Rattle.rules.specs.Values.{packed, value_from};

@@ -1,4 +1,6 @@
 // One step of an accepted program in a well-formed state, and a run of steps.
+#![tactic(auto)]
+
 ghost use Rattle.std.specs.Prelude.{◌≡◌, ◌+◌, ◌*◌, ◌≤◌, ◌<◌, ◌/◌, length};
 ghost use Rattle.rules.specs.Layout.{input_length, most_nodes};
 ghost use Rattle.rules.specs.Tree.{root};

@@ -1,4 +1,6 @@
 // The records of a program: the fields of a node, by value.
+#![tactic(auto)]
+
 ghost use Rattle.std.specs.Prelude.{◌≡◌, ◌+◌, ◌*◌, ◌%◌, ◌≤◌, ◌<◌, length};
 ghost use Rattle.rules.specs.Bytes.{byte_at, u16_at, u32_at};
 ghost use Rattle.rules.specs.Layout.{records, record_at, type_at};

@@ -1,10 +1,10 @@
 -- The turns of a watched run come to an end: each one with more to come has counted a step. Assumes nothing.
+use Rattle.std.specs.Prelude.{if◌then◌else◌}
 use mathlib.Core.Path.{◌≡◌, refl, sym, ◌∙◌}
 use mathlib.Core.Bool.{Bool, true, false}
 use Prim.Native.Nat.{ℕ, ◌+◌, ◌-◌, ◌≤◌, ◌<◌}
 use native.Mathlib.Omega.{arith}
 use borrow.Author.Tests.{ltb-true}
-use Rattle.rules.specs.Bytes.{if◌then◌else◌}
 use Rattle.rules.proofs.Static.{and_both}
 use Rattle.turns.specs.Decided.{is_record}
 

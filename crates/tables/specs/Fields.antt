@@ -1,6 +1,6 @@
 -- By which field a node holds another. Assumes nothing: these are definitions.
-use Rattle.std.specs.Prelude.{ℕ, eqb}
-use Rattle.rules.specs.Bytes.{Bytes, if◌then◌else◌}
+use Rattle.std.specs.Prelude.{ℕ, eqb, if◌then◌else◌}
+use Rattle.rules.specs.Bytes.{Bytes}
 use Rattle.rules.specs.Layout.{a_at, b_at, c_at}
 
 -- The first of three fields that is m: 0 for a, 1 for b, 2 for c; 3 if none is.

@@ -1,6 +1,5 @@
 -- The node that an argument names. Assumes nothing: these are definitions.
-use Rattle.std.specs.Prelude.{ℕ, ◌+◌, ◌-◌, ◌*◌, List, [], ◌∷◌, ltb}
-use Rattle.rules.specs.Bytes.{if◌then◌else◌}
+use Rattle.std.specs.Prelude.{ℕ, ◌+◌, ◌-◌, ◌*◌, List, [], ◌∷◌, ltb, if◌then◌else◌}
 
 -- A number with one more digit (48 to 57) behind it; 65536 where that is no digit, or the number none of 16 bits.
 unfoldable pub with_digit : ℕ → ℕ → ℕ

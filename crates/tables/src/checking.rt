@@ -4,21 +4,21 @@ use crate::{codes, say};
 use rules::Checked;
 
 // A program is at most 24 blocks; one byte more tells that the file is longer.
-pub fn check() {
+pub fn check(rt: &HostRuntime) {
     let mut program = [0u8; 12289];
-    let got = argument(2, &mut program);
+    let got = argument(rt, 2, &mut program);
     if !got.whole {
         return;
     }
     let table = feed::first(&program, got.count);
     match watch::check(table) {
         Checked::Accepted(n, held, bound, ty) => {
-            say::accepted(n, held, bound, ty);
-            say::channels(channels::named_channels(table));
+            say::accepted(rt, n, held, bound, ty);
+            say::channels(rt, channels::named_channels(table));
         }
         Checked::Refused(r) => {
-            codes::told(table, r);
-            say::refused(r);
+            codes::told(rt, table, r);
+            say::refused(rt, r);
         }
     }
 }

@@ -3,8 +3,8 @@ ghost use Rattle.std.specs.Prelude.{◌≡◌, ◌<◌};
 ghost use Rattle.rules.specs.Layout.{records, kind_at};
 
 use crate::rows::row;
-use crate::say;
 use crate::say::put;
+use crate::{given, say};
 use rules::{Checked, Refusal};
 
 // The line of a code in the text below: that of 0 where there is no such code.
@@ -17,9 +17,11 @@ fn sentence_row(code: u8) -> u8 {
 
 // The sentence of a code, a line for each: of a program, from 9 on of what else a call is handed: the memory of a run, lists and rooms, a text,
 // and a pairing.
-fn sentence(code: u8) -> bool {
-    put(row(
-        b"refused
+fn sentence(rt: &HostRuntime, code: u8) -> bool {
+    put(
+        rt,
+        row(
+            b"refused
 the program is empty, longer than 24 blocks or not whole blocks of 512 bytes
 the check sum of this block is not that of its bytes
 this block has not its own number, the count of all blocks or the edition of block 0
@@ -49,17 +51,18 @@ the room for the chain is not 1,008 entries
 the pairing has not one entry for each new node
 this entry of the pairing is wrong
 the old and the new program are of different editions",
-        sentence_row(code),
-    ))
+            sentence_row(code),
+        ),
+    )
 }
 
 // Codes 33 to 40 are 1 to 8 of the new program.
-pub fn sentence_of(code: u8) -> bool {
+pub fn sentence_of(rt: &HostRuntime, code: u8) -> bool {
     if code > 32 {
-        put(b"of the new program: ");
-        return sentence(code - 32);
+        put(rt, b"of the new program: ");
+        return sentence(rt, code - 32);
     }
-    sentence(code)
+    sentence(rt, code)
 }
 
 // Is there such a code? 14 was one, and is not used again; 20, 30, 31 and 32 were none.
@@ -76,21 +79,21 @@ fn is_code(code: u8) -> bool {
 }
 
 // tables codes [CODE]: each code with its sentence, or that of the code that is named.
-pub fn list() {
+pub fn list(rt: &HostRuntime) {
     let mut word = [0u8; 16];
-    let n = os::arg(2, &mut word);
-    if !asked(&word[..n]) {
-        say::no_code();
+    let n = given::word(rt, 2, &mut word);
+    if !asked(rt, &word[..n]) {
+        say::no_code(rt);
     }
 }
 
 // Says the lines that a word asks for; true if there is one.
-fn asked(word: &[u8]) -> bool {
+fn asked(rt: &HostRuntime, word: &[u8]) -> bool {
     let mut code: u8 = 1;
     let mut any = false;
     while code < 41 {
         if is_wanted(word, code) {
-            any = listed(code);
+            any = listed(rt, code);
         }
         code += 1;
     }
@@ -108,21 +111,21 @@ fn is_wanted(word: &[u8], code: u8) -> bool {
 }
 
 // The line of a code.
-fn listed(code: u8) -> bool {
-    numbered(b"", code as u32);
-    put(b" ");
-    sentence_of(code);
-    put(b"\n")
+fn listed(rt: &HostRuntime, code: u8) -> bool {
+    numbered(rt, b"", code as u32);
+    put(rt, b" ");
+    sentence_of(rt, code);
+    put(rt, b"\n")
 }
 
 // A word, and what stands before it.
-fn behind(before: &[u8], word: &[u8]) -> bool {
-    put(before);
-    put(word)
+fn behind(rt: &HostRuntime, before: &[u8], word: &[u8]) -> bool {
+    put(rt, before);
+    put(rt, word)
 }
 
 // The word of a kind, and what stands before it; nothing where there is no such kind. A line for each kind.
-pub fn kind_word(before: &[u8], kind: u8) -> bool {
+pub fn kind_word(rt: &HostRuntime, before: &[u8], kind: u8) -> bool {
     let word = row(
         b"\ninput\ntime\next\ndelay\nlet signal\nswitch\nlet continue\nuntil\nbranch\ncase\n\n\n\n\n\nvariable\nconstant\nadd\nsubtract\nmultiply\ndivide\nless\nequal\nnot\nand\nor\nif\njust\ntake",
         kind,
@@ -130,7 +133,7 @@ pub fn kind_word(before: &[u8], kind: u8) -> bool {
     if word.len() == 0 {
         return true;
     }
-    behind(before, word)
+    behind(rt, before, word)
 }
 
 // The kind of record r, where there is such a record.
@@ -145,11 +148,11 @@ pub fn kind_at(p: &[u8], r: usize) -> u8
 }
 
 // A number behind a word.
-pub fn numbered(word: &[u8], n: u32) -> bool {
+pub fn numbered(rt: &HostRuntime, word: &[u8], n: u32) -> bool {
     let mut digits = [0u8; 20];
     let k = io::decimal(n as u64, &mut digits);
-    put(word);
-    put(&digits[..k])
+    put(rt, word);
+    put(rt, &digits[..k])
 }
 
 // How many nodes an accepted table has.
@@ -161,45 +164,45 @@ pub fn nodes(p: &[u8]) -> u32 {
 }
 
 // The place: a block, a record of the table or a node with the word of its kind.
-fn place_words(p: &[u8], code: u8, place: u32) -> bool {
+fn place_words(rt: &HostRuntime, p: &[u8], code: u8, place: u32) -> bool {
     if code < 2 {
         return true;
     }
     if code < 4 {
-        return numbered(b": block ", place);
+        return numbered(rt, b": block ", place);
     }
     if code < 5 {
-        return record_words(b": record ", p, place);
+        return record_words(rt, b": record ", p, place);
     }
     if code < 9 {
-        return record_words(b": node ", p, place);
+        return record_words(rt, b": node ", p, place);
     }
     true
 }
 
 // A record behind a word, with the word of its kind.
-fn record_words(word: &[u8], p: &[u8], place: u32) -> bool {
-    numbered(word, place);
-    kind_word(b", ", kind_at(p, place as usize))
+fn record_words(rt: &HostRuntime, word: &[u8], p: &[u8], place: u32) -> bool {
+    numbered(rt, word, place);
+    kind_word(rt, b", ", kind_at(p, place as usize))
 }
 
 // A line in words, for people; the line of numbers follows it.
-pub fn told(p: &[u8], r: Refusal) -> bool {
+pub fn told(rt: &HostRuntime, p: &[u8], r: Refusal) -> bool {
     let code = rules::code_of(r);
     let place = rules::place_of(r);
-    sentence(code);
-    place_words(p, code, place);
-    put(b"\n")
+    sentence(rt, code);
+    place_words(rt, p, code, place);
+    put(rt, b"\n")
 }
 
 // The same for the new program of two, whose codes have 32 added.
-pub fn told_new(p: &[u8], r: Refusal) -> bool {
-    put(b"of the new program: ");
-    told(p, r)
+pub fn told_new(rt: &HostRuntime, p: &[u8], r: Refusal) -> bool {
+    put(rt, b"of the new program: ");
+    told(rt, p, r)
 }
 
 // The same for a code that has no place.
-pub fn told_alone(code: u8) -> bool {
-    sentence_of(code);
-    put(b"\n")
+pub fn told_alone(rt: &HostRuntime, code: u8) -> bool {
+    sentence_of(rt, code);
+    put(rt, b"\n")
 }

@@ -7,93 +7,101 @@ ghost use Rattle.tables.specs.Owners.{CellOf};
 
 use crate::files::{argument, written};
 use crate::say::put;
-use crate::{codes, say};
+use crate::{codes, given, say};
 use check::same;
 use mends::Mended;
 use rules::Checked;
 
 // A program is at most 24 blocks and a state 8,072 bytes; one byte more tells that a file is longer.
-pub fn mend() {
+pub fn mend(rt: &HostRuntime) {
     let mut program = [0u8; 12289];
-    let got = argument(2, &mut program);
+    let got = argument(rt, 2, &mut program);
     if got.whole {
-        with(feed::first(&program, got.count));
+        with(rt, feed::first(&program, got.count));
     }
 }
 
 // Reads the state, where it is a file.
-fn with(p: &[u8]) {
-    if !is_named() {
+fn with(rt: &HostRuntime, p: &[u8]) {
+    if !is_named(rt) {
         return;
     }
     let mut state = [0u8; 8073];
-    let held = argument(3, &mut state);
+    let held = argument(rt, 3, &mut state);
     if held.whole {
-        checked(p, &mut state, held.count);
+        checked(rt, p, &mut state, held.count);
     }
 }
 
 // The state is a file, since it is written back.
-fn is_named() -> bool {
+fn is_named(rt: &HostRuntime) -> bool {
     let mut path = io::buffer();
-    let n = os::arg(3, &mut path);
+    let n = given::word(rt, 3, &mut path);
     if same(&path[..n], b"-") {
-        say::no_file();
+        say::no_file(rt);
         return false;
     }
     true
 }
 
 // The check of the program says how many cells the list is for: one entry more.
-fn checked(p: &[u8], state: &mut [u8], n: usize) {
+fn checked(rt: &HostRuntime, p: &[u8], state: &mut [u8], n: usize) {
     match watch::check(p) {
         Checked::Accepted(_, cells, _, _) => {
             let mut list = [0u16; 1009];
-            lent(p, n, state, cells as usize + 1, &mut list, cells);
+            lent(rt, p, n, state, cells as usize + 1, &mut list, cells);
         }
         Checked::Refused(r) => {
-            codes::told(p, r);
-            say::refused(r);
+            codes::told(rt, p, r);
+            say::refused(rt, r);
         }
     }
 }
 
 // Lends the first n bytes of the state, and the first m entries of the list.
-fn lent(p: &[u8], n: usize, state: &mut [u8], m: usize, list: &mut [u16], cells: u32) {
+fn lent(
+    rt: &HostRuntime,
+    p: &[u8],
+    n: usize,
+    state: &mut [u8],
+    m: usize,
+    list: &mut [u16],
+    cells: u32,
+) {
     if n > state.len() {
         return;
     }
     if m > list.len() {
         return;
     }
-    answered(p, &mut state[..n], &mut list[..m], cells);
+    answered(rt, p, &mut state[..n], &mut list[..m], cells);
 }
 
 // Says the answer.
-fn answered(p: &[u8], state: &mut [u8], list: &mut [u16], cells: u32) {
+fn answered(rt: &HostRuntime, p: &[u8], state: &mut [u8], list: &mut [u16], cells: u32) {
     match mend::mend(p, state, list) {
         Mended::Listed(count) => {
-            put_back(p, state, list, count, cells);
+            put_back(rt, p, state, list, count, cells);
         }
         Mended::Refused(r) => {
-            codes::told(p, r);
-            say::refused(r);
+            codes::told(rt, p, r);
+            say::refused(rt, r);
         }
         Mended::ListLength => {
-            codes::told_alone(16);
-            put(b"REFUSED 16 0\n");
+            codes::told_alone(rt, 16);
+            put(rt, b"REFUSED 16 0\n");
         }
     }
 }
 
 // Writes the state where something changed, and says what; no line is said where it could not be written.
-fn put_back(p: &[u8], state: &[u8], list: &[u16], count: u32, cells: u32) {
+fn put_back(rt: &HostRuntime, p: &[u8], state: &[u8], list: &[u16], count: u32, cells: u32) {
     if count > 0 {
-        if !written(3, state) {
+        if !written(rt, 3, state) {
             return;
         }
     }
-    listed(p, list, count, cells);
+    listed(rt, p, list, count, cells);
 }
 
 fn wide(n: u16) -> u32 {
@@ -101,30 +109,30 @@ fn wide(n: u16) -> u32 {
 }
 
 // Says each entry, and the end; no line follows one that was lost.
-fn listed(p: &[u8], list: &[u16], count: u32, cells: u32) {
+fn listed(rt: &HostRuntime, p: &[u8], list: &[u16], count: u32, cells: u32) {
     let mut k: usize = 0;
     while k < list.len() {
         if k >= count as usize {
             break;
         }
-        if !entry(p, wide(list[k])) {
+        if !entry(rt, p, wide(list[k])) {
             return;
         }
         k += 1;
     }
-    say::ended(count, cells);
+    say::ended(rt, count, cells);
 }
 
 // The line of an entry; true if it was written.
-fn entry(p: &[u8], k: u32) -> bool {
+fn entry(rt: &HostRuntime, p: &[u8], k: u32) -> bool {
     if k == 65535 {
-        return put(b"time\n");
+        return put(rt, b"time\n");
     }
     let n = node_of(p, k as usize);
-    codes::numbered(b"cell ", k);
-    codes::numbered(b" node ", (n % 4294967296) as u32);
-    codes::kind_word(b" ", codes::kind_at(p, n));
-    put(b"\n")
+    codes::numbered(rt, b"cell ", k);
+    codes::numbered(rt, b" node ", (n % 4294967296) as u32);
+    codes::kind_word(rt, b" ", codes::kind_at(p, n));
+    put(rt, b"\n")
 }
 
 // The node of cell k: the record of kind 4, 6 or 7 that has k such records before it; all records where there is none.

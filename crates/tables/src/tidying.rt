@@ -4,61 +4,61 @@ ghost use Rattle.std.specs.Prelude.{◌≡◌, ◌≤◌};
 ghost use Rattle.tables.specs.Lets.{one_let, lets_of};
 
 use crate::say::put;
-use crate::{codes, files, say};
+use crate::{codes, files, given, say};
 use rewritten::Tidied;
 
 // A program is at most 24 blocks; one byte more tells that the file is longer.
-pub fn tidy() {
+pub fn tidy(rt: &HostRuntime) {
     let mut program = [0u8; 12289];
-    let got = files::argument(2, &mut program);
+    let got = files::argument(rt, 2, &mut program);
     if !got.whole {
         return;
     }
-    tidied(feed::first(&program, got.count));
+    tidied(rt, feed::first(&program, got.count));
 }
 
 // Says the answer.
-fn tidied(old: &[u8]) {
+fn tidied(rt: &HostRuntime, old: &[u8]) {
     let mut room = [0u8; 12288];
     match tidy::tidy(old, &mut room) {
         Tidied::Table(nodes, length) => {
-            made(old, feed::first(&room, length as usize), nodes);
+            made(rt, old, feed::first(&room, length as usize), nodes);
         }
         Tidied::Refused(r) => {
-            codes::told(old, r);
-            say::refused(r);
+            codes::told(rt, old, r);
+            say::refused(rt, r);
         }
         Tidied::RoomShort => {
-            codes::told_alone(19);
-            say::refused_at(19, 0);
+            codes::told_alone(rt, 19);
+            say::refused_at(rt, 19, 0);
         }
     }
 }
 
 // Writes the pairing, where its file is named, then the table, and says what went.
-fn made(old: &[u8], new: &[u8], nodes: u32) {
-    if os::arg_count() > 4 {
-        if !paired(old) {
+fn made(rt: &HostRuntime, old: &[u8], new: &[u8], nodes: u32) {
+    if given::count(rt) > 4 {
+        if !paired(rt, old) {
             return;
         }
     }
-    if files::written(3, new) {
+    if files::written(rt, 3, new) {
         let before = codes::nodes(old);
-        codes::numbered(b"", less(before, nodes));
-        codes::numbered(b" nodes went, ", less(lets(old), lets(new)));
-        put(b" of them lets\n");
-        say::ended(before, nodes);
+        codes::numbered(rt, b"", less(before, nodes));
+        codes::numbered(rt, b" nodes went, ", less(lets(old), lets(new)));
+        put(rt, b" of them lets\n");
+        say::ended(rt, before, nodes);
     }
 }
 
 // Writes for each new node its old one; true if that went well.
-fn paired(old: &[u8]) -> bool {
+fn paired(rt: &HostRuntime, old: &[u8]) -> bool {
     let mut room = [0u16; 1008];
     let mut bytes = [0u8; 2016];
     match tidy::pairing_of(old, &mut room) {
         Tidied::Table(nodes, _) => {
             feed::give_entries(&room, &mut bytes);
-            files::written(4, feed::first(&bytes, 2 * (nodes as usize)))
+            files::written(rt, 4, feed::first(&bytes, 2 * (nodes as usize)))
         }
         Tidied::Refused(_) => false,
         Tidied::RoomShort => false,

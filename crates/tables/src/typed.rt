@@ -5,80 +5,80 @@
 use crate::files::{argument, written};
 use crate::here::point;
 use crate::say::put;
-use crate::{codes, say};
+use crate::{codes, given, say};
 use rules::{Checked, Place, Refusal};
 use spots::{column, spot_of};
 use texts::{TextPrinted, TextRead};
 
 // A text is at most 262,144 bytes; one byte more tells that the file is longer.
-pub fn read() {
+pub fn read(rt: &HostRuntime) {
     let mut text = [0u8; 262145];
-    let got = argument(2, &mut text);
+    let got = argument(rt, 2, &mut text);
     if !got.whole {
         return;
     }
     if got.count > 262144 {
-        say::long_text();
+        say::long_text(rt);
         return;
     }
-    taken(feed::first(&text, got.count));
+    taken(rt, feed::first(&text, got.count));
 }
 
 // Says the answer.
-fn taken(text: &[u8]) {
+fn taken(rt: &HostRuntime, text: &[u8]) {
     let mut room = [0u8; 12288];
     match reading::read(text, &mut room) {
         TextRead::Table(nodes, length) => {
-            made(feed::first(&room, length as usize), nodes, length);
+            made(rt, feed::first(&room, length as usize), nodes, length);
         }
         TextRead::BadWord(at) => {
-            shown(text, 21, at);
+            shown(rt, text, 21, at);
         }
         TextRead::BadName(at) => {
-            shown(text, 22, at);
+            shown(rt, text, 22, at);
         }
         TextRead::BadNumber(at) => {
-            shown(text, 23, at);
+            shown(rt, text, 23, at);
         }
         TextRead::RoomShort => {
-            codes::told_alone(24);
-            say::refused_at(24, 0);
+            codes::told_alone(rt, 24);
+            say::refused_at(rt, 24, 0);
         }
         TextRead::Refused(r) => {
-            judged(text, r);
+            judged(rt, text, r);
         }
     }
 }
 
 // Writes the table, where its file is named, and says what check says of it.
-fn made(table: &[u8], nodes: u32, length: u32) {
-    if os::arg_count() > 3 {
-        if !written(3, table) {
+fn made(rt: &HostRuntime, table: &[u8], nodes: u32, length: u32) {
+    if given::count(rt) > 3 {
+        if !written(rt, 3, table) {
             return;
         }
     }
     match watch::check(table) {
         Checked::Accepted(n, held, bound, ty) => {
-            say::accepted(n, held, bound, ty);
-            say::channels(channels::named_channels(table));
-            say::ended(nodes, length);
+            say::accepted(rt, n, held, bound, ty);
+            say::channels(rt, channels::named_channels(table));
+            say::ended(rt, nodes, length);
         }
         Checked::Refused(r) => {
-            codes::told(table, r);
-            say::refused(r);
+            codes::told(rt, table, r);
+            say::refused(rt, r);
         }
     }
 }
 
 // The name of the text's file, and line and column of a position in it.
-fn named(text: &[u8], at: usize) -> usize {
+fn named(rt: &HostRuntime, text: &[u8], at: usize) -> usize {
     let mut path = io::buffer();
-    let n = os::arg(2, &mut path);
+    let n = given::word(rt, 2, &mut path);
     let place = spot_of(text, at);
-    put(&path[..n]);
-    codes::numbered(b":", narrow(place.line));
-    codes::numbered(b":", narrow(column(text, place.start, at)));
-    put(b": ");
+    put(rt, &path[..n]);
+    codes::numbered(rt, b":", narrow(place.line));
+    codes::numbered(rt, b":", narrow(column(text, place.start, at)));
+    put(rt, b": ");
     place.start
 }
 
@@ -88,59 +88,59 @@ fn narrow(n: usize) -> u32 {
 }
 
 // A text code at its position.
-fn shown(text: &[u8], code: u8, at: u32) -> bool {
-    let start = named(text, at as usize);
-    codes::sentence_of(code);
+fn shown(rt: &HostRuntime, text: &[u8], code: u8, at: u32) -> bool {
+    let start = named(rt, text, at as usize);
+    codes::sentence_of(rt, code);
     if at as usize == text.len() {
-        put(b": the text ends here");
+        put(rt, b": the text ends here");
     }
-    put(b"\n");
-    point(text, start, at as usize);
-    say::refused_at(code as u32, at)
+    put(rt, b"\n");
+    point(rt, text, start, at as usize);
+    say::refused_at(rt, code as u32, at)
 }
 
 // A code of the check, at the place where its node begins.
-fn judged(text: &[u8], r: Refusal) -> bool {
+fn judged(rt: &HostRuntime, text: &[u8], r: Refusal) -> bool {
     let node = rules::place_of(r);
     match reading::node_position(text, node as usize) {
-        Place::At(at) => at_node(text, r, node, at),
-        Place::Nowhere => say::refused(r),
+        Place::At(at) => at_node(rt, text, r, node, at),
+        Place::Nowhere => say::refused(rt, r),
     }
 }
 
-fn at_node(text: &[u8], r: Refusal, node: u32, at: u32) -> bool {
-    let start = named(text, at as usize);
-    codes::sentence_of(rules::code_of(r));
-    codes::numbered(b": node ", node);
-    put(b"\n");
-    point(text, start, at as usize);
-    say::refused(r)
+fn at_node(rt: &HostRuntime, text: &[u8], r: Refusal, node: u32, at: u32) -> bool {
+    let start = named(rt, text, at as usize);
+    codes::sentence_of(rt, rules::code_of(r));
+    codes::numbered(rt, b": node ", node);
+    put(rt, b"\n");
+    point(rt, text, start, at as usize);
+    say::refused(rt, r)
 }
 
 // A program is at most 24 blocks; one byte more tells that the file is longer.
-pub fn print() {
+pub fn print(rt: &HostRuntime) {
     let mut program = [0u8; 12289];
-    let got = argument(2, &mut program);
+    let got = argument(rt, 2, &mut program);
     if !got.whole {
         return;
     }
-    printed(feed::first(&program, got.count));
+    printed(rt, feed::first(&program, got.count));
 }
 
 // Says the text: no text is longer than the room.
-fn printed(table: &[u8]) {
+fn printed(rt: &HostRuntime, table: &[u8]) {
     let mut room = [0u8; 107868];
     match typeset::print(table, &mut room) {
         TextPrinted::Text(length) => {
-            put(feed::first(&room, length as usize));
+            put(rt, feed::first(&room, length as usize));
         }
         TextPrinted::Refused(r) => {
-            codes::told(table, r);
-            say::refused(r);
+            codes::told(rt, table, r);
+            say::refused(rt, r);
         }
         TextPrinted::RoomShort => {
-            codes::told_alone(24);
-            say::refused_at(24, 0);
+            codes::told_alone(rt, 24);
+            say::refused_at(rt, 24, 0);
         }
     }
 }

@@ -11,9 +11,10 @@ ghost use Rattle.tables.specs.Named.{with_digit, number_of};
 
 use crate::paired::entry;
 use crate::say::put;
-use crate::{codes, say};
+use crate::{codes, given, say};
 use feed::Place;
 use rules::{Checked, Ran, Refusal, Started};
+use std::io::{Error, Read};
 use watched::Watched;
 
 // A number with one more digit behind it; 65536 where that is no digit, or the number none of 16 bits.
@@ -54,14 +55,14 @@ fn number(text: &[u8]) -> u32
 }
 
 // The node that argument i names; 65536 for none.
-fn node(i: usize) -> u32 {
+fn node(rt: &HostRuntime, i: usize) -> u32 {
     let mut text = [0u8; 16];
-    let n = os::arg(i, &mut text);
+    let n = given::word(rt, i, &mut text);
     number(&text[..n])
 }
 
 // Puts the nodes that the arguments name into a list of nine (more than eight are refused by 17 in any case); false where one is no number.
-fn nodes(list: &mut [u16], count: usize) -> bool
+fn nodes(rt: &HostRuntime, list: &mut [u16], count: usize) -> bool
     requires { length list.old ≡ 9 }
 {
     let mut j: usize = 0;
@@ -69,7 +70,7 @@ fn nodes(list: &mut [u16], count: usize) -> bool
         if j >= count {
             return true;
         }
-        let n = node(2 + j);
+        let n = node(rt, 2 + j);
         if n > 65535 {
             return false;
         }
@@ -98,16 +99,23 @@ fn step_line(
 }
 
 // Writes the line of a step; false where it is lost.
-fn put_step(rec: &[u8; 40], value: &[u8; 8], work: u32, row: &[u8; 64], entries: usize) -> bool
+fn put_step(
+    rt: &HostRuntime,
+    rec: &[u8; 40],
+    value: &[u8; 8],
+    work: u32,
+    row: &[u8; 64],
+    entries: usize,
+) -> bool
     requires { entries ≤ 8 }
 {
     let mut line = [0u8; 175];
     let n = step_line(rec, value, work, row, entries, &mut line);
-    put(&line[..n])
+    put(rt, &line[..n])
 }
 
 // After a turn: what is unread, the steps done and their work, and whether there is more to do.
-#[derive(Drop)]
+#[derive(Clone, Copy)]
 struct Next {
     at: usize,
     end: usize,
@@ -130,34 +138,34 @@ fn stop() -> Next
 }
 
 // A refusal of the run, in words and as the last line.
-fn refuse(r: Refusal) -> Next
+fn refuse(rt: &HostRuntime, r: Refusal) -> Next
     ensures { result.more ≡ false }
 {
-    codes::told_alone(rules::code_of(r));
-    say::refused(r);
+    codes::told_alone(rt, rules::code_of(r));
+    say::refused(rt, r);
     stop()
 }
 
 // A list that has not 1 to 8 entries.
-fn refuse_length() -> Next
+fn refuse_length(rt: &HostRuntime) -> Next
     ensures { result.more ≡ false }
 {
-    codes::told_alone(17);
-    say::refused_at(17, 0);
+    codes::told_alone(rt, 17);
+    say::refused_at(rt, 17, 0);
     stop()
 }
 
 // An entry of the list that is off: its place, its node and the word of that node's kind.
-fn refuse_entry(program: &[u8], list: &[u16], j: u32) -> Next
+fn refuse_entry(rt: &HostRuntime, program: &[u8], list: &[u16], j: u32) -> Next
     ensures { result.more ≡ false }
 {
     let x = entry(list, j as usize);
-    codes::sentence_of(18);
-    codes::numbered(b": entry ", j);
-    codes::numbered(b", node ", x);
-    codes::kind_word(b", ", codes::kind_at(program, x as usize));
-    put(b"\n");
-    say::refused_at(18, j);
+    codes::sentence_of(rt, 18);
+    codes::numbered(rt, b": entry ", j);
+    codes::numbered(rt, b", node ", x);
+    codes::kind_word(rt, b", ", codes::kind_at(program, x as usize));
+    put(rt, b"\n");
+    say::refused_at(rt, 18, j);
     stop()
 }
 
@@ -171,6 +179,7 @@ fn sum(a: u32, b: u32) -> u32 {
 
 // What the run of one record did: its line, or its refusal, with the steps printed for its place.
 fn ran_one(
+    rt: &HostRuntime,
     ran: Ran,
     place: Place,
     steps: u32,
@@ -185,7 +194,7 @@ fn ran_one(
 {
     match ran {
         Ran::Finished(_, work, _) => {
-            let is_put = put_step(rec, value, work, row, entries);
+            let is_put = put_step(rt, rec, value, work, row, entries);
             Next {
                 at: place.at,
                 end: place.end,
@@ -194,7 +203,7 @@ fn ran_one(
                 more: is_put,
             }
         }
-        Ran::Refused(r, _, _) => refuse(turns::placed(steps, r)),
+        Ran::Refused(r, _, _) => refuse(rt, turns::placed(steps, r)),
     }
 }
 
@@ -216,6 +225,7 @@ fn one_watched(
 
 // A step of one record, and its line.
 fn stepped(
+    rt: &HostRuntime,
     place: Place,
     steps: u32,
     total: u32,
@@ -231,36 +241,44 @@ fn stepped(
     let mut row = [0u8; 64];
     let n = list.len();
     if n > 8 {
-        return refuse_length();
+        return refuse_length(rt);
     }
     match one_watched(program, state, rec, list, &mut value, &mut row, 8 * n) {
-        Watched::AsRun(ran) => ran_one(ran, place, steps, total, rec, &value, &row, n),
-        Watched::ListLength => refuse_length(),
-        Watched::ListEntry(j) => refuse_entry(program, list, j),
+        Watched::AsRun(ran) => ran_one(rt, ran, place, steps, total, rec, &value, &row, n),
+        Watched::ListLength => refuse_length(rt),
+        Watched::ListEntry(j) => refuse_entry(rt, program, list, j),
     }
 }
 
 // The last line where no record is taken any more and so many bytes were read.
-fn last(left: usize, steps: u32, total: u32) -> Next
+fn last(rt: &HostRuntime, left: usize, steps: u32, total: u32) -> Next
     ensures { result.more ≡ false }
 {
     if left > 0 {
-        return refuse(Refusal::RecordsLength);
+        return refuse(rt, Refusal::RecordsLength);
     }
-    say::ended(steps, total);
+    say::ended(rt, steps, total);
     stop()
 }
 
-// A read that failed is told: what was printed is not the whole run.
-fn unread() -> Next
+// The C library's number for a read that failed and now would not.
+const EIO: i32 = 5;
+
+// A read that failed is told: what was printed is not the whole run. Why it failed is what one more read answers.
+fn unread(rt: &HostRuntime) -> Next
     ensures { result.more ≡ false }
 {
-    os::fail(b"tables: standard input");
+    let mut none = [0u8; 1];
+    match rt.stdin().read(&mut none) {
+        Ok(_) => say::failed(rt, b"tables: standard input", Error::from_raw_os_error(EIO)),
+        Err(error) => say::failed(rt, b"tables: standard input", error),
+    }
     stop()
 }
 
 // One turn: reads what is wanted for it, and steps, or says the last line.
 fn turn(
+    rt: &HostRuntime,
     place: Place,
     steps: u32,
     total: u32,
@@ -272,19 +290,26 @@ fn turn(
     ensures { result.more ≡ true → (steps < 4096) × (result.steps ≡ steps + 1) }
 {
     let mut rec = [0u8; 40];
-    let got = feed::gather(place, input, &mut rec, 0, turns::wanted(steps));
+    let got = feed::gather(rt, place, input, &mut rec, 0, turns::wanted(steps));
     let after = got.place;
     if after.failed {
-        return unread();
+        return unread(rt);
     }
     if turns::is_record(got.count, steps) {
-        return stepped(after, steps, total, program, state, list, &rec);
+        return stepped(rt, after, steps, total, program, state, list, &rec);
     }
-    last(got.count, steps, total)
+    last(rt, got.count, steps, total)
 }
 
 // One turn after the other, while there is more to do.
-fn turns(place: Place, program: &[u8], state: &mut [u8], list: &[u16], input: &mut [u8]) {
+fn turns(
+    rt: &HostRuntime,
+    place: Place,
+    program: &[u8],
+    state: &mut [u8],
+    list: &[u16],
+    input: &mut [u8],
+) {
     let mut at = place.at;
     let mut end = place.end;
     let mut steps: u32 = 0;
@@ -296,7 +321,7 @@ fn turns(place: Place, program: &[u8], state: &mut [u8], list: &[u16], input: &m
             end: end,
             failed: false,
         };
-        let t = turn(here, steps, total, program, state, list, input);
+        let t = turn(rt, here, steps, total, program, state, list, input);
         at = t.at;
         end = t.end;
         steps = t.steps;
@@ -321,47 +346,70 @@ fn tried(program: &[u8], state: &mut [u8], list: &[u16]) -> Watched {
 }
 
 // Tries the list, and makes the turns.
-fn begun(place: Place, program: &[u8], state: &mut [u8], list: &[u16], input: &mut [u8]) {
+fn begun(
+    rt: &HostRuntime,
+    place: Place,
+    program: &[u8],
+    state: &mut [u8],
+    list: &[u16],
+    input: &mut [u8],
+) {
     match tried(program, state, list) {
         Watched::AsRun(_) => {
-            turns(place, program, state, list, input);
+            turns(rt, place, program, state, list, input);
         }
         Watched::ListLength => {
-            refuse_length();
+            refuse_length(rt);
         }
         Watched::ListEntry(j) => {
-            refuse_entry(program, list, j);
+            refuse_entry(rt, program, list, j);
         }
     }
 }
 
 // Starts a state, and goes on.
-fn started(place: Place, program: &[u8], state: &mut [u8], list: &[u16], input: &mut [u8]) {
+fn started(
+    rt: &HostRuntime,
+    place: Place,
+    program: &[u8],
+    state: &mut [u8],
+    list: &[u16],
+    input: &mut [u8],
+) {
     match watch::start(program, state) {
         Started::Ready => {
-            begun(place, program, state, list, input);
+            begun(rt, place, program, state, list, input);
         }
         Started::Refused(r) => {
-            refuse(r);
+            refuse(rt, r);
         }
     }
 }
 
 // Lends the first n bytes of the state, which all states of accepted programs fit in.
-fn lent(place: Place, n: usize, program: &[u8], state: &mut [u8], list: &[u16], input: &mut [u8]) {
+fn lent(
+    rt: &HostRuntime,
+    place: Place,
+    n: usize,
+    program: &[u8],
+    state: &mut [u8],
+    list: &[u16],
+    input: &mut [u8],
+) {
     if n > state.len() {
         return;
     }
-    started(place, program, &mut state[..n], list, input);
+    started(rt, place, program, &mut state[..n], list, input);
 }
 
 // Checks a table, prints its first line, and watches its run.
-fn checked(place: Place, program: &[u8], list: &[u16], input: &mut [u8]) {
+fn checked(rt: &HostRuntime, place: Place, program: &[u8], list: &[u16], input: &mut [u8]) {
     let mut state = [0u8; 8072];
     match watch::check(program) {
         Checked::Accepted(n, held, bound, ty) => {
-            if say::accepted(n, held, bound, ty) {
+            if say::accepted(rt, n, held, bound, ty) {
                 lent(
+                    rt,
                     place,
                     8 + 8 * (held as usize),
                     program,
@@ -372,14 +420,14 @@ fn checked(place: Place, program: &[u8], list: &[u16], input: &mut [u8]) {
             }
         }
         Checked::Refused(r) => {
-            codes::told(program, r);
-            say::refused(r);
+            codes::told(rt, program, r);
+            say::refused(rt, r);
         }
     }
 }
 
 // Reads the blocks from standard input, and watches their run with a list.
-fn listed(list: &[u16]) {
+fn listed(rt: &HostRuntime, list: &[u16]) {
     let mut input = io::large_buffer();
     let mut program = [0u8; 12288];
     let begin = Place {
@@ -387,20 +435,21 @@ fn listed(list: &[u16]) {
         end: 0,
         failed: false,
     };
-    let head = feed::gather(begin, &mut input, &mut program, 0, 512);
+    let head = feed::gather(rt, begin, &mut input, &mut program, 0, 512);
     let first = head.place;
     if first.failed {
-        unread();
+        unread(rt);
         return;
     }
     let left = turns::blocks_left(&program, head.count);
-    let tail = feed::gather(first, &mut input, &mut program, 512, left);
+    let tail = feed::gather(rt, first, &mut input, &mut program, 512, left);
     let after = tail.place;
     if after.failed {
-        unread();
+        unread(rt);
         return;
     }
     checked(
+        rt,
         after,
         feed::first(&program, head.count + tail.count),
         list,
@@ -409,16 +458,16 @@ fn listed(list: &[u16]) {
 }
 
 // Watches what the arguments name.
-pub fn watch_nodes() {
-    let count = os::arg_count();
+pub fn watch_nodes(rt: &HostRuntime) {
+    let count = given::count(rt);
     let mut list = [0u16; 9];
     if count < 3 {
-        listed(&list[..0]);
+        listed(rt, &list[..0]);
         return;
     }
-    if !nodes(&mut list, count - 2) {
-        say::no_node();
+    if !nodes(rt, &mut list, count - 2) {
+        say::no_node(rt);
         return;
     }
-    listed(feed::first_entries(&list, count - 2));
+    listed(rt, feed::first_entries(&list, count - 2));
 }

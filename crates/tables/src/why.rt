@@ -12,33 +12,33 @@ use chains::Explained;
 use rules::Node;
 
 // A program is at most 24 blocks; one byte more tells that the file is longer.
-pub fn why() {
+pub fn why(rt: &HostRuntime) {
     let mut program = [0u8; 12289];
-    let got = argument(2, &mut program);
+    let got = argument(rt, 2, &mut program);
     if !got.whole {
         return;
     }
-    explained(feed::first(&program, got.count));
+    explained(rt, feed::first(&program, got.count));
 }
 
 // Says the answer.
-fn explained(p: &[u8]) {
+fn explained(rt: &HostRuntime, p: &[u8]) {
     let mut room = [0u16; 1008];
     match explain::explain(p, &mut room) {
         Explained::Chain(x, entries) => {
-            chain(p, &room, x, entries);
+            chain(rt, p, &room, x, entries);
         }
         Explained::Refused(r) => {
-            codes::told(p, r);
-            say::refused(r);
+            codes::told(rt, p, r);
+            say::refused(rt, r);
         }
         Explained::NoLet => {
-            codes::told_alone(25);
-            put(b"REFUSED 25 0\n");
+            codes::told_alone(rt, 25);
+            put(rt, b"REFUSED 25 0\n");
         }
         Explained::RoomLength => {
-            codes::told_alone(26);
-            put(b"REFUSED 26 0\n");
+            codes::told_alone(rt, 26);
+            put(rt, b"REFUSED 26 0\n");
         }
     }
 }
@@ -48,7 +48,7 @@ fn wide(n: u16) -> u32 {
 }
 
 // Says each node of a chain below the one before, the first below the let, and the end; no line follows one that was lost.
-fn chain(p: &[u8], room: &[u16], x: u32, entries: u32) {
+fn chain(rt: &HostRuntime, p: &[u8], room: &[u16], x: u32, entries: u32) {
     let mut above = x;
     let mut k: usize = 0;
     while k < room.len() {
@@ -56,23 +56,23 @@ fn chain(p: &[u8], room: &[u16], x: u32, entries: u32) {
             break;
         }
         let here = wide(room[k]);
-        if !entry(p, above, here) {
+        if !entry(rt, p, above, here) {
             return;
         }
         above = here;
         k += 1;
     }
-    say::ended(x, entries);
+    say::ended(rt, x, entries);
 }
 
 // The line of a node below another; true if it was written.
-fn entry(p: &[u8], above: u32, here: u32) -> bool {
+fn entry(rt: &HostRuntime, p: &[u8], above: u32, here: u32) -> bool {
     let field = held_by(p, above as usize, here as usize);
-    codes::numbered(b"", here);
-    codes::kind_word(b" ", codes::kind_at(p, here as usize));
-    held_words(codes::kind_at(p, above as usize), field);
-    codes::numbered(b" ", above);
-    put(b"\n")
+    codes::numbered(rt, b"", here);
+    codes::kind_word(rt, b" ", codes::kind_at(p, here as usize));
+    held_words(rt, codes::kind_at(p, above as usize), field);
+    codes::numbered(rt, b" ", above);
+    put(rt, b"\n")
 }
 
 // The first field of a record that is m: 0 for a, 1 for b, 2 for c; 3 if none is.
@@ -131,13 +131,15 @@ fn field_row(number: u8, field: u8) -> u8 {
 }
 
 // Where a node stands that one of a kind holds by a field: the paper's words for the fields of signals, branches and some operations,
-fn held_words(kind: u8, field: u8) -> bool {
+fn held_words(rt: &HostRuntime, kind: u8, field: u8) -> bool {
     let number = worded(kind);
     if number == 10 {
-        return operand_words(kind, field);
+        return operand_words(rt, kind, field);
     }
-    put(row(
-        b": expression of ext
+    put(
+        rt,
+        row(
+            b": expression of ext
 : expression of ext
 : expression of ext
 : definition of let
@@ -167,20 +169,21 @@ fn held_words(kind: u8, field: u8) -> bool {
 : maybe of take
 : arm for absent of take
 : arm for present of take",
-        field_row(number, field),
-    ))
+            field_row(number, field),
+        ),
+    )
 }
 
 // and for those of all other operations.
-fn operand_words(kind: u8, field: u8) -> bool {
-    one_of(field, b": left operand of", b": right operand of");
-    codes::kind_word(b" ", kind)
+fn operand_words(rt: &HostRuntime, kind: u8, field: u8) -> bool {
+    one_of(rt, field, b": left operand of", b": right operand of");
+    codes::kind_word(rt, b" ", kind)
 }
 
 // One text for field a, another for one behind it.
-fn one_of(field: u8, first: &[u8], other: &[u8]) -> bool {
+fn one_of(rt: &HostRuntime, field: u8, first: &[u8], other: &[u8]) -> bool {
     if field == 0 {
-        return put(first);
+        return put(rt, first);
     }
-    put(other)
+    put(rt, other)
 }

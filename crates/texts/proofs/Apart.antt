@@ -4,7 +4,7 @@ use mathlib.Core.Path.{◌≡◌, refl, sym, ap, ◌∙◌}
 use mathlib.Core.Bool.{Bool, true, false}
 use mathlib.Core.List.{List, [], ◌∷◌, ◌++◌, append_assoc, append-nil}
 use Prim.Native.Nat.{ℕ, suc}
-use Rattle.rules.specs.Bytes.{Bytes, ◌and◌, ◌or◌}
+use Rattle.rules.specs.Bytes.{Bytes, ◌or◌}
 use Rattle.texts.specs.Tokens as Tokens
 use Rattle.texts.specs.Tokens.{token, is_white, ends_line, is_comment, is_mark}
 use Rattle.texts.specs.Printer.{Piece, laid}

@@ -42,7 +42,7 @@ Binds q N opens = (m : ℕ) → opens m ≡ true → (m < N) × ((row_of q m).bi
 module _ (q : Bytes) (N : ℕ) where
   own_name : (k n : ℕ) → kind_at q n ≡ k → eqb k 17 ≡ false → (row_of q n).binds ≡ binds_of (fields_of k).ty n
   unfolding row_of row_as
-  own_name k n is e = ap (λ (x : ℕ). (row_as x q n).binds) is ∙ rw e refl
+  own_name k n is e = ap (λ (x : ℕ). (row_as x q n).binds) is ∙ rw (e, row_as) refl
 
   binds_own : (n : ℕ) (opens : Opens) → n < N → (row_of q n).binds ≡ variable_name n → Binds q N opens → Binds q N (λ m. eqb m n or opens m)
   unfolding ◌or◌

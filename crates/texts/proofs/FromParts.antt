@@ -20,7 +20,7 @@ use Rattle.rules.proofs.Static.{and_both}
 use Rattle.rules.proofs.Kids.{not_not}
 use Rattle.rules.proofs.ByKind.{choose}
 use Rattle.written.specs.Parts.{Part, part, Slot, holds, child, size_p, size_k, last_p, field_k, row_p}
-use Rattle.written.specs.Right.{kind_p, Fits, plain, stops, RightP, RightK, HoldsP, HoldsK}
+use Rattle.written.specs.Right.{kind_p, plain, stops, RightP, RightK, HoldsP, HoldsK}
 use Rattle.written.proofs.Rows.{last_size}
 use Rattle.texts.proofs.Gives.{false≢true}
 use Rattle.texts.proofs.Decimals.{by_test}

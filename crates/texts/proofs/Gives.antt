@@ -7,7 +7,7 @@ use mathlib.Core.List.{List, [], ◌∷◌, nil≢cons, head-eq_of_cons-eq, tail
 use Prim.Native.Nat.{ℕ}
 use lib.Dec.{T}
 use borrow.Author.Tests.{eq-eqb}
-use Rattle.rules.specs.Bytes.{Bytes, ◌and◌, ◌or◌}
+use Rattle.rules.specs.Bytes.{Bytes, ◌and◌}
 use Rattle.rules.specs.declared.Place.TheVariants.{At}
 use Rattle.texts.specs.Tokens.{Token}
 use Rattle.texts.specs.Spelled.{same, is_among}
@@ -96,9 +96,9 @@ module _ {B : Type 0} {Q : Claim B} where
       → ((rest : List Token) → words rest ≡ W → Gives Q (k w rest (record { begun = so.begun; rows = so.rows; places = so.places; variables = w ∷ so.variables; labels = so.labels })))
       → Gives Q (variable finish ts so onward k)
   unfolding variable fresh name
-  after_variable k w W finish ts so e is_name is-new h =
+  after_variable k w W finish ts so e named is-new h =
       regroup _ _ k (regroup _ _ _ (regroup _ _ _ (after_next _ w W finish ts so e (λ t rest is left.
-      regroup _ _ _ (after_given _ _ _ rest so (ap is_name is ∙ is_name) (after_got _ t rest so
+      regroup _ _ _ (after_given _ _ _ rest so (ap is_name is ∙ named) (after_got _ t rest so
       (rw (ap (λ (v : Bytes). is_bound v so) is ∙ is-new) (after_got _ t.word rest so (after_got _ _ rest _ (rw is (h rest left)))))))))))
 
   -- A type's word.
@@ -114,9 +114,9 @@ module _ {B : Type 0} {Q : Claim B} where
       → ((rest : List Token) → words rest ≡ W → Gives Q (k w rest (record { begun = so.begun; rows = so.rows; places = so.places; variables = so.variables; labels = w ∷ so.labels })))
       → Gives Q (label finish ts so onward k)
   unfolding label fresh name
-  after_label k w W finish ts so e is_name is-new h =
+  after_label k w W finish ts so e named is-new h =
       regroup _ _ k (regroup _ _ _ (regroup _ _ _ (after_next _ w W finish ts so e (λ t rest is left.
-      regroup _ _ _ (after_given _ _ _ rest so (ap is_name is ∙ is_name) (after_got _ t rest so
+      regroup _ _ _ (after_given _ _ _ rest so (ap is_name is ∙ named) (after_got _ t rest so
       (rw (ap (λ (v : Bytes). is_bound v so) is ∙ is-new) (after_got _ t.word rest so (after_got _ _ rest _ (rw is (h rest left)))))))))))
 
   -- A target that is among the names.
@@ -124,7 +124,7 @@ module _ {B : Type 0} {Q : Claim B} where
       → words ts ≡ w ∷ W → is_name w ≡ true → is_among w names ≡ true → ((rest : List Token) → words rest ≡ W → Gives Q (k w rest so))
       → Gives Q (target names finish ts so onward k)
   unfolding target name
-  after_target k names w W finish ts so e is_name among h =
+  after_target k names w W finish ts so e named among h =
       regroup _ _ k (regroup _ _ _ (after_next _ w W finish ts so e (λ t rest is left.
-      regroup _ _ _ (after_given _ _ _ rest so (ap is_name is ∙ is_name) (after_got _ t rest so
+      regroup _ _ _ (after_given _ _ _ rest so (ap is_name is ∙ named) (after_got _ t rest so
       (regroup _ _ k (after_given _ _ _ rest so (ap (λ (v : Bytes). is_among v names) is ∙ among) (after_got k _ rest so (rw is (h rest left))))))))))

@@ -16,7 +16,7 @@ use Rattle.rules.specs.declared.TypeField.TheVariants.{NoType, AnyType, PlainTyp
 use Rattle.rules.proofs.Static.{and_both}
 use Rattle.texts.specs.Tokens.{Token}
 use Rattle.texts.specs.Rows.{Sofar}
-use Rattle.texts.specs.Steps.{Written, type, value, label}
+use Rattle.texts.specs.Steps.{Written}
 use Rattle.texts.specs.Reader.{Heading, labelled, binding, typed, heading}
 use Rattle.texts.proofs.Gives.{Claim}
 use Rattle.texts.proofs.Decimals.{by_test}

@@ -21,7 +21,7 @@ use Rattle.rules.proofs.Static.{and_both}
 use Rattle.texts.specs.Spelled.{spelled, same}
 use Rattle.texts.specs.Spelling.{open₀, kind_word, type_word, type_named}
 use Rattle.texts.specs.Numerals.{digits_f, decimal, signed_decimal}
-use Rattle.texts.specs.Printer.{Piece, tight, spaced, lined, variable_name, branch_name, plain_word, value_pieces, label_pieces, type_pieces, opening, pieces, laid, printed}
+use Rattle.texts.specs.Printer.{Piece, tight, spaced, lined, variable_name, branch_name, plain_word, value_pieces, label_pieces, type_pieces, opening, laid}
 use Rattle.texts.proofs.Decimals.{by_test, one_digit, more_digits}
 use Rattle.texts.proofs.Laid.{an_int, a_truth, a_falsehood, a_unit, unit_type, bool_type, int_type, Fits, plain_fits, some_fits, none_fits, HeadFits, no_head, any_head, plain_head, value_head}
 use Rattle.texts.proofs.NodeLaws.{no_pieces, own_pieces}

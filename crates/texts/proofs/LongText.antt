@@ -17,7 +17,7 @@ use Rattle.rules.specs.declared.Field.{Field}
 use Rattle.texts.specs.Spelled.{spelled, same}
 use Rattle.texts.specs.Spelling.{close₀, edition_word, kind_word, kind_named}
 use Rattle.texts.specs.Numerals.{decimal}
-use Rattle.texts.specs.Printer.{tight, spaced, variable_name, value_pieces, label_pieces, type_pieces, field_pieces, behind_pieces, opening, Pieces, form_pieces, pieces_as, pieces_f, pieces, laid, printed}
+use Rattle.texts.specs.Printer.{tight, spaced, variable_name, value_pieces, label_pieces, type_pieces, field_pieces, behind_pieces, opening, Pieces, form_pieces, pieces_as, pieces_f, pieces, printed}
 use Rattle.texts.proofs.Decimals.{by_test, one_digit}
 use Rattle.texts.proofs.Laid.{Opens, Fits, HeadFits, Laid, variable_laid, constant_laid, form_laid, Kid, unused_kid, channel_kid, present_kid, signal_kid, expression_kid, first_branch_kid, first_case_kid, next_branch_kid, next_case_kid, target_kid, After, none_after, last_after, next_after}
 use Rattle.texts.proofs.NodeLaws.{pieces_at, as_form}

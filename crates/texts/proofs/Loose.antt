@@ -3,7 +3,7 @@
 use mathlib.Core.Path.{◌≡◌, refl, sym, subst, ◌∙◌}
 use mathlib.Core.Bool.{Bool, true, false, not}
 use mathlib.Core.List.{List, [], ◌∷◌, ◌++◌, append_assoc}
-use Prim.Native.Nat.{ℕ, zero, suc, ◌+◌, ◌*◌, ◌-◌, ◌<◌, ◌≤◌, min}
+use Prim.Native.Nat.{ℕ, zero, suc, ◌*◌, ◌-◌, ◌<◌, ◌≤◌, min}
 use native.Mathlib.Omega.{arith}
 use lib.Dec.{eqb, ltb, leb}
 use lib.ListN.{replicate}
@@ -140,10 +140,12 @@ spaces (suc n) = white_more refl (spaces n)
 spaced_loose : (w : Bytes) (ys : List Piece) → IsWord w → Loose ys → Loose (spaced w ∷ ys)
 unfolding spaced is_white ◌or◌
 spaced_loose (b ∷ bs) ys (is_word_lem p ps) h after = apart_spaced refl no_white p ps (h true)
+spaced_loose [] ys x'' h after = elim x'' [ ]
 
 pub tight_word : (w : Bytes) (ys : List Piece) → IsWord w → Loose ys → Apart false (tight w ∷ ys)
 unfolding tight
 tight_word (b ∷ bs) ys (is_word_lem p ps) h = apart_tight p ps (h true)
+tight_word [] ys x'' h = elim x'' [ ]
 
 close_loose : (ys : List Piece) → Loose ys → Loose (tight close₀ ∷ ys)
 unfolding tight

@@ -20,7 +20,7 @@ use Rattle.rules.specs.declared.Field.{Field}
 use Rattle.rules.specs.declared.Field.TheVariants.{Unused, Channel, PresentByte, Signal, Expression, FirstBranch, NextBranch, FirstCase, NextCase, Binder, Target}
 use Rattle.rules.proofs.Static.{and_both}
 use Rattle.rules.proofs.ByKind.{choose}
-use Rattle.written.specs.Parts.{Slot, child, field_k}
+use Rattle.written.specs.Parts.{Slot, field_k}
 use Rattle.written.specs.Right.{Fits, plain, stops, HeadRight}
 use Rattle.texts.specs.Tokens.{Token}
 use Rattle.texts.specs.Spelled.{same}
@@ -33,7 +33,6 @@ use Rattle.texts.specs.declared.Unread.TheVariants.{Word}
 use Rattle.texts.proofs.Gives.{false≢true}
 use Rattle.texts.proofs.Decimals.{by_test}
 use Rattle.texts.proofs.Laid as L
-use Rattle.texts.proofs.Named.{node}
 use Rattle.texts.proofs.Whole.{plain_behind, next_behind}
 use Rattle.texts.proofs.KindTests.{kind_below, is_target, is_present, is_value, no_target, no_child, value_present, expression_only}
 use Rattle.texts.proofs.FromParts.{next_child}

@@ -3,7 +3,7 @@
 use mathlib.Core.Path.{◌≡◌, refl, sym, ap, subst, ◌∙◌}
 use mathlib.Core.Bool.{true, false}
 use mathlib.Core.List.{List, [], ◌∷◌, ◌++◌}
-use Prim.Native.Nat.{ℕ, ◌+◌}
+use Prim.Native.Nat.{ℕ}
 use lib.Dec.{eqb}
 use borrow.Author.Tests.{eqb-true}
 use Rattle.rules.specs.Bytes.{Bytes, first, first_from, ◌and◌, ◌or◌}
@@ -14,7 +14,7 @@ use Rattle.texts.specs.Spelled.{spelled, same}
 use Rattle.texts.specs.Spelling.{open₀, close₀, some_word, none_word, type_word, type_named, is_digit}
 use Rattle.texts.specs.Numerals.{is_number, is_natural, are_digits, magnitude_of, in_range, word_of, signed_decimal}
 use Rattle.texts.specs.Rows.{Sofar, Got, ◌onward◌}
-use Rattle.texts.specs.Steps.{given, type, Written, plain, plain_value, maybe_value, value}
+use Rattle.texts.specs.Steps.{given, Written, plain, plain_value, maybe_value, value}
 use Rattle.texts.specs.Printer.{Piece, spaced, tight, plain_word, value_pieces}
 use Rattle.texts.proofs.Gives.{false≢true, same_refl, words, Claim, Gives, after_next, after_given, after_got, after_expect, after_type, regroup}
 use Rattle.texts.proofs.Decimals.{by_test, numeral}

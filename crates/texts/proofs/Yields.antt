@@ -1,13 +1,13 @@
 -- What a step of the reader gives, where it is not stopped: names, types, channels and values that fit; rows and how many nodes have begun stay.
 -- Assumes nothing.
 use mathlib.Core.Path.{◌≡◌, refl, sym, ap, subst, ◌∙◌}
-use mathlib.Core.Bool.{Bool, true, false, not}
+use mathlib.Core.Bool.{Bool, true, false}
 use mathlib.Core.List.{List, [], ◌∷◌}
-use Prim.Native.Nat.{ℕ, zero, suc, ◌+◌, ◌-◌, ◌<◌, ◌≤◌}
+use Prim.Native.Nat.{ℕ, zero, suc, ◌+◌, ◌<◌, ◌≤◌}
 use native.Mathlib.Omega.{arith}
 use lib.Dec.{ltb, leb}
 use borrow.Author.Tests.{ltb-true, leb-true}
-use Rattle.rules.specs.Bytes.{Bytes, first, first_from, ◌and◌, ◌or◌}
+use Rattle.rules.specs.Bytes.{Bytes, first, first_from, ◌and◌}
 use Rattle.rules.specs.Values.{is_plain}
 use Rattle.rules.specs.declared.Place.{Place}
 use Rattle.rules.specs.declared.Place.TheVariants.{At, Nowhere}

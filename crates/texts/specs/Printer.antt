@@ -2,7 +2,7 @@
 -- ext that is its form's first child follows on the line, and so do expressions. A variable is called x and a branch k (document 000's letters), with the
 -- node's number behind.
 -- Assumes nothing: these are definitions.
-use Rattle.std.specs.Prelude.{ℕ, zero, suc, ◌+◌, ◌-◌, ◌*◌, min, List, [], ◌∷◌, ◌++◌, Bool, true, false, replicate, eqb, ltb}
+use Rattle.std.specs.Prelude.{ℕ, zero, suc, ◌-◌, ◌*◌, min, List, [], ◌∷◌, ◌++◌, Bool, true, false, replicate, eqb, ltb}
 use Rattle.rules.specs.Bytes.{Bytes, ◌and◌, ◌or◌}
 use Rattle.rules.specs.Values.{bool_t, int_t, is_plain}
 use Rattle.rules.specs.Layout.{edition, kind_at, type_at, a_at, b_at, c_at, word_at, nodes, no_next}

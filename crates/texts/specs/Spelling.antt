@@ -1,7 +1,7 @@
 -- The words of the text form: one for each kind, for types and for constants; and what may be a name.
 -- Assumes nothing: these are definitions.
-use Rattle.std.specs.Prelude.{ℕ, [], ◌∷◌, Bool, true, false, not, length, eqb, leb}
-use Rattle.rules.specs.Bytes.{Bytes, first, if◌then◌else◌, ◌and◌, ◌or◌}
+use Rattle.std.specs.Prelude.{ℕ, [], ◌∷◌, Bool, true, false, not, length, eqb, leb, if◌then◌else◌}
+use Rattle.rules.specs.Bytes.{Bytes, first, ◌and◌, ◌or◌}
 use Rattle.rules.specs.Shape.{may_be}
 use Rattle.rules.specs.declared.Place.{Place}
 use Rattle.rules.specs.declared.Field.{Field}
@@ -15,7 +15,7 @@ close₀ = 41 ∷ []
 
 -- "The first word of a text is its edition": byte 3 of its blocks is 0 for edition one and 1 for edition two.
 unfoldable pub edition_word : ℕ → Bytes
-edition_word e = if eqb e 0 then spelled "edition_one" else if eqb e 1 then spelled "edition_two" else []
+edition_word e = if eqb e 0 then spelled "edition-one" else if eqb e 1 then spelled "edition-two" else []
 
 -- The edition that a word stands for.
 unfoldable pub edition_named : Bytes → Place

@@ -1,12 +1,13 @@
 -- A tree without regard to kinds beside a tree of the program, tidied: the same uses, order and records. How one is built from its parts.
 -- Assumes nothing.
+use Rattle.std.specs.Prelude.{if◌then◌else◌}
 use mathlib.Core.Path.{◌≡◌, refl, sym, ap, ◌∙◌}
 use mathlib.Core.List.{List, [], ◌∷◌, ◌++◌}
 use mathlib.Core.Bool.{Bool, true, false, not}
 use Prim.Native.Nat.{ℕ, ◌≤◌, ◌<◌}
 use lib.Dec.{eqb}
 use borrow.Author.Tests.{ne_eqb}
-use Rattle.rules.specs.Bytes.{Bytes, if◌then◌else◌, ◌and◌, ◌or◌}
+use Rattle.rules.specs.Bytes.{Bytes, ◌and◌, ◌or◌}
 use Rattle.rules.specs.Shape.{is_child}
 use Rattle.rules.specs.declared.Field.{Field}
 use Rattle.written.specs.Parts.{Part, part, Slot}

@@ -1,5 +1,6 @@
 -- The functions of the call: what they ask and give, of an accepted program.
 -- Assumes nothing.
+use Rattle.std.specs.Prelude.{if◌then◌else◌}
 use mathlib.Core.Path.{◌≡◌, refl, sym, ap, ◌∙◌}
 use mathlib.Core.List.{List, [], ◌∷◌}
 use mathlib.Core.Bool.{Bool, true, false}
@@ -8,7 +9,7 @@ use native.Mathlib.Omega.{arith}
 use lib.Dec.{ltb}
 use lib.ListN.{length, get_or, take, drop}
 use borrow.Author.Tests.{lt-ltb, le-ltb}
-use Rattle.rules.specs.Bytes.{Bytes, write_at, if◌then◌else◌}
+use Rattle.rules.specs.Bytes.{Bytes, write_at}
 use Rattle.rules.specs.Layout.{nodes, edition, blocks, records}
 use Rattle.rules.specs.Shaped.{Shaped}
 use Rattle.rules.specs.Accepted.{Accepted}

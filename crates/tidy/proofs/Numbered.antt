@@ -1,6 +1,7 @@
 -- The new numbers that the list of a walk gives: each node that stays has its place, and a let that goes its body's.
 -- Assumes nothing.
-use mathlib.Core.Path.{◌≡◌, refl, sym, ap, ◌∙◌}
+use Rattle.std.specs.Prelude.{if◌then◌else◌}
+use mathlib.Core.Path.{◌≡◌, refl, sym, ap, subst, ◌∙◌}
 use mathlib.Core.List.{List, [], ◌∷◌, ◌++◌}
 use mathlib.Core.Bool.{Bool, true, false}
 use Prim.Native.Nat.{ℕ, zero, suc, ◌+◌, ◌-◌, ◌%◌, ◌≤◌, ◌<◌}
@@ -9,7 +10,6 @@ use lib.Dec.{eqb, ltb}
 use lib.ListN.{length, get_or, set, length-set}
 use lib.Seq.{get_or-set_other}
 use borrow.Author.Tests.{eq-eqb, eqb-true, ltb-true, ltb-false}
-use Rattle.rules.specs.Bytes.{if◌then◌else◌}
 use Rattle.written.proofs.Counted.{sum_l, is}
 use Rattle.tidy.specs.Settle.{staying, renumber}
 use Rattle.tidy.proofs.SweptRight.{get_set}
@@ -68,7 +68,7 @@ right_numbers (e ∷ es) m new l h =
     let s = sum_cons (entry_of n) e es in
     let o = own_entry e in
     let fr : sum_l (entry_of n) es ≡ 0 = omega (arith, h n) in
-    rw (renumber_step e es m new) (
+    subst (λ (r : List ℕ). Right r m (e ∷ es)) (sym (renumber_step e es m new)) (
       frame es (after_one m e) new' n fr ∙ get_set new n (given m e) (omega arith),
       right_numbers es (after_one m e) new' (length-set new n (given m e) ∙ l) (λ y. omega (arith, h y, sum_cons (entry_of y) e es)),
     )

@@ -1,5 +1,6 @@
 -- Records renumbered, and records as bytes, written one after the other.
 -- Assumes nothing.
+use Rattle.std.specs.Prelude.{if◌then◌else◌}
 use mathlib.Core.Path.{◌≡◌, refl, sym, ap, ◌∙◌}
 use mathlib.Core.List.{List, [], ◌∷◌, ◌++◌}
 use mathlib.Core.Bool.{Bool, true, false}
@@ -8,7 +9,7 @@ use native.Mathlib.Omega.{arith}
 use lib.Dec.{eqb, ltb}
 use lib.ListN.{length, get_or, set, take, length-set}
 use borrow.Author.Tests.{lt-ltb, le-ltb}
-use Rattle.rules.specs.Bytes.{Bytes, write_at, bytes_of, if◌then◌else◌, ◌and◌, ◌or◌}
+use Rattle.rules.specs.Bytes.{Bytes, write_at, bytes_of, ◌and◌, ◌or◌}
 use Rattle.rules.specs.Kinds.{fields_of}
 use Rattle.rules.specs.Layout.{kind_at, type_at, a_at, b_at, c_at, word_at}
 use Rattle.rules.specs.Shape.{is_child}

@@ -1,5 +1,6 @@
 -- What the walk does at a node, by the fields of its record; and what is stored before what stands already.
 -- Assumes nothing.
+use Rattle.std.specs.Prelude.{if◌then◌else◌}
 use mathlib.Core.Path.{◌≡◌, refl, sym, ap, ◌∙◌}
 use mathlib.Core.List.{List, [], ◌∷◌, ◌++◌}
 use mathlib.Core.Logic.{◌≢◌}
@@ -10,7 +11,7 @@ use lib.Dec.{eqb, ltb}
 use lib.ListN.{length, get_or, set, length-set}
 use lib.Seq.{set_comm}
 use borrow.Author.Tests.{ltb-true, ltb-false, ne_eqb}
-use Rattle.rules.specs.Bytes.{Bytes, write_at, if◌then◌else◌, ◌and◌}
+use Rattle.rules.specs.Bytes.{Bytes, write_at, ◌and◌}
 use Rattle.rules.specs.Layout.{kind_at, a_at, b_at, c_at}
 use Rattle.rules.specs.Kinds.{row, fields_of}
 use Rattle.rules.specs.Scope.{Marks, mark, is_marked}

@@ -1,5 +1,6 @@
 -- The walk's list is that of the tidied tree, and it marks what the tidied tree uses.
 -- Assumes nothing.
+use Rattle.std.specs.Prelude.{if◌then◌else◌}
 use mathlib.Core.Path.{◌≡◌, refl, sym, ap, ◌∙◌}
 use mathlib.Core.List.{List, [], ◌∷◌, ◌++◌}
 use mathlib.Core.Bool.{Bool, true, false, not}
@@ -9,7 +10,7 @@ use lib.Dec.{eqb}
 use lib.ListN.{length, get_or, set, length-set}
 use lib.Seq.{get_or-set_other}
 use borrow.Author.Tests.{eqb-true, eqb-false, eq-eqb, ne_eqb}
-use Rattle.rules.specs.Bytes.{Bytes, if◌then◌else◌, ◌and◌, ◌or◌}
+use Rattle.rules.specs.Bytes.{Bytes, ◌and◌, ◌or◌}
 use Rattle.rules.specs.Scope.{Marks, mark, is_marked}
 use Rattle.tidy.specs.Twig.{Twig, twig, Limb, holds, child, held_in}
 use Rattle.tidy.specs.Sweep.{Swept, gone_let, unmark, nothing, swept_variable, swept_let, swept_node, swept_as, sweep_t, sweep_l}

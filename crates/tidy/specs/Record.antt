@@ -1,7 +1,7 @@
 -- The record of a node that stays, by its old record and the new numbers: children, binders and targets are renumbered, all else is as it was.
 -- Assumes nothing: these are definitions.
-use Rattle.std.specs.Prelude.{ℕ, zero, suc, ◌+◌, ◌<◌, List, [], ◌∷◌, ◌++◌, Bool, eqb, ltb, get_or}
-use Rattle.rules.specs.Bytes.{Bytes, if◌then◌else◌, ◌and◌, ◌or◌}
+use Rattle.std.specs.Prelude.{ℕ, zero, suc, ◌+◌, ◌<◌, List, [], ◌∷◌, ◌++◌, Bool, eqb, ltb, get_or, if◌then◌else◌}
+use Rattle.rules.specs.Bytes.{Bytes, ◌and◌, ◌or◌}
 use Rattle.rules.specs.Layout.{kind_at, type_at, a_at, b_at, c_at, word_at}
 use Rattle.rules.specs.Kinds.{fields_of}
 use Rattle.rules.specs.Shape.{is_child}

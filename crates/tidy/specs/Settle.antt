@@ -1,7 +1,6 @@
 -- New numbers from the list of a walk: the nodes that stay are numbered in its order, and a let that goes has its body's number, the last one given.
 -- Assumes nothing: these are definitions.
-use Rattle.std.specs.Prelude.{ℕ, suc, ◌-◌, ◌%◌, List, [], ◌∷◌, ltb, set}
-use Rattle.rules.specs.Bytes.{if◌then◌else◌}
+use Rattle.std.specs.Prelude.{ℕ, suc, ◌-◌, ◌%◌, List, [], ◌∷◌, ltb, set, if◌then◌else◌}
 
 -- The nodes that stay.
 unfoldable pub staying : List ℕ → List ℕ

@@ -1,8 +1,8 @@
 -- The walk that decides which lets go: a let's body before its definition, so that a definition is entered only where the body, as it is then,
 -- names the variable. It lists the nodes that stay, children first in field order, and the lets that go.
 -- Assumes nothing: these are definitions.
-use Rattle.std.specs.Prelude.{ℕ, ◌+◌, ◌≤◌, ◌≡◌, List, [], ◌∷◌, ◌++◌, Bool, eqb, length, set}
-use Rattle.rules.specs.Bytes.{Bytes, write_at, if◌then◌else◌}
+use Rattle.std.specs.Prelude.{ℕ, ◌+◌, ◌≤◌, ◌≡◌, List, [], ◌∷◌, ◌++◌, Bool, eqb, length, set, if◌then◌else◌}
+use Rattle.rules.specs.Bytes.{Bytes, write_at}
 use Rattle.rules.specs.Scope.{Marks, mark, is_marked}
 use Rattle.rules.specs.Tree.{below}
 use Rattle.tidy.specs.Twig.{Twig, twig, Limb, holds, child, held_in, twig_at}

@@ -1,16 +1,16 @@
 -- The words ahead, byte by byte.
 -- Assumes nothing.
-use mathlib.Core.Path.{◌≡◌, refl, sym, ap, subst, ◌∙◌}
+use mathlib.Core.Path.{◌≡◌, refl, sym, ap, ◌∙◌}
 use mathlib.Core.Bool.{Bool, true, false}
-use mathlib.Core.List.{List, [], ◌∷◌, ◌++◌, append_assoc, append-nil}
-use Prim.Native.Nat.{ℕ, zero, suc, ◌+◌, ◌-◌, ◌≤◌, ◌<◌}
+use mathlib.Core.List.{[], ◌∷◌, ◌++◌, append_assoc, append-nil}
+use Prim.Native.Nat.{ℕ, suc, ◌+◌, ◌-◌, ◌≤◌, ◌<◌}
 use native.Mathlib.Omega.{arith}
 use native.Mathlib.Numerals.{add-one}
 use lib.Dec.{eqb}
 use borrow.Author.Tests.{ne_eqb, eq-eqb}
 use Rattle.tokens.specs.Ahead.{RestOfWord, Shown, Still, Blank}
 use lib.ListN.{length, get_or, take, drop, drop_of_length-le}
-use lib.Seq.{drop-cons, get_or-drop, drop-drop, take-add}
+use lib.Seq.{drop-cons, drop-drop, take-add}
 use Rattle.rules.specs.Bytes.{Bytes, ◌or◌}
 use Rattle.texts.specs.Tokens.{Token, token, ends_line, is_white, is_comment, is_mark, between, from, part}
 use Rattle.texts.specs.Tokens as Tokens

@@ -1,8 +1,8 @@
 -- What the scanner says of the words ahead.
 -- Assumes nothing: these are definitions.
-use Rattle.std.specs.Prelude.{◌≡◌, List, [], ◌∷◌, ◌++◌, ℕ, ◌≤◌, ◌<◌, true, false, length, drop, get_or}
+use Rattle.std.specs.Prelude.{◌≡◌, [], ◌∷◌, ◌++◌, ℕ, ◌≤◌, ◌<◌, false, length, drop, get_or}
 use Rattle.rules.specs.Bytes.{Bytes}
-use Rattle.texts.specs.Tokens.{Token, token, is_white, is_comment, inside, from, part}
+use Rattle.texts.specs.Tokens.{token, is_white, is_comment, inside, from, part}
 use Rattle.tokens.specs.declared.Next.{Next}
 use Rattle.tokens.specs.declared.Next.TheVariants.{Word, End}
 

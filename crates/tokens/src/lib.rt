@@ -1,10 +1,12 @@
 // The words of a text, one after the other, from a position that moves forward only.
+#![tactic(auto)]
+
 ghost use Rattle.std.specs.Prelude.{◌≡◌, true, ◌∷◌, ◌≤◌, ◌<◌, length, drop};
 ghost use Rattle.texts.specs.Tokens.{ends_line, is_white, is_mark, is_part, between, comment, from, part};
 ghost use Rattle.tokens.specs.Ahead.{Ahead, RestOfWord, Still, Blank};
 
 // The next word: where it begins and ends. Or there is none.
-#[derive(Drop)]
+#[derive(Clone, Copy)]
 pub enum Next {
     Word(usize, usize),
     End,
@@ -135,7 +137,7 @@ pub fn word_from(s: &[u8], at: usize) -> Next
 }
 
 // A text that is being read, and the place where the reader is. (02 b: "A position in the lent text that moves forward only".)
-#[derive(Drop)]
+#[derive(Clone, Copy)]
 pub struct Reader<'a> {
     pub src: &'a [u8],
     pub at: usize,

@@ -1,7 +1,7 @@
 -- What watchrun decides by numbers alone: document 01, 'What watchrun prints'.
 -- Assumes nothing: these are definitions.
-use Rattle.std.specs.Prelude.{Bool, ℕ, ◌-◌, ◌*◌, eqb, leb, ltb}
-use Rattle.rules.specs.Bytes.{Bytes, if◌then◌else◌, ◌and◌}
+use Rattle.std.specs.Prelude.{Bool, ℕ, ◌-◌, ◌*◌, eqb, leb, ltb, if◌then◌else◌}
+use Rattle.rules.specs.Bytes.{Bytes, ◌and◌}
 use Rattle.rules.specs.Layout.{edition, count_in, input_length}
 use Rattle.rules.specs.Answers.{code_of}
 use Rattle.rules.specs.declared.Refusal.{Refusal}

@@ -1,5 +1,7 @@
 // What watchrun decides by numbers: how much of the blocks is taken, how much is read for a turn, whether that is a record, the place of a refusal,
 // and the work in all.
+#![tactic(auto)]
+
 ghost use Rattle.std.specs.Prelude.{◌≡◌, ◌+◌, ◌≤◌, ◌<◌, length};
 ghost use Rattle.turns.specs.Decided.{blocks_taken, blocks_left, wanted as wantedAfter, is_record, placed_at};
 

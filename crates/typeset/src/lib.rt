@@ -1,4 +1,6 @@
 // Printing a program: its text in a room that is lent.
+#![tactic(auto)]
+
 ghost use Rattle.std.specs.Prelude.{◌≡◌};
 ghost use Rattle.rules.specs.Layout.{nodes};
 ghost use Rattle.rules.specs.Accepted.{Accepted};

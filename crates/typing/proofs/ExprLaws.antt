@@ -1,10 +1,11 @@
 -- An expression of each kind: its children, its type and the smallest wrong place below it.
 -- Assumes nothing.
+use Rattle.std.specs.Prelude.{if◌then◌else◌}
 use mathlib.Core.Path.{◌≡◌, refl, ap, ◌∙◌}
 use mathlib.Core.Bool.{Bool, true, false}
 use Prim.Native.Nat.{ℕ}
 use lib.Dec.{eqb}
-use Rattle.rules.specs.Bytes.{Bytes, ◌and◌, if◌then◌else◌}
+use Rattle.rules.specs.Bytes.{Bytes, ◌and◌}
 use Rattle.rules.specs.Layout.{kind_at, type_at, a_at, b_at, c_at}
 use Rattle.rules.specs.Values.{bool_t, maybe_of, is_plain, type_of, value_from}
 use Rattle.rules.specs.Operations.{operand_type, result_type}

@@ -1,4 +1,6 @@
 // Code 7: the type of each node and the smallest node whose own rule breaks, in one recursion over children.
+#![tactic(auto)]
+
 ghost use Rattle.std.specs.Prelude.{◌≡◌, Bool, ◌-◌, ◌≤◌, ◌<◌, eqb};
 ghost use Rattle.rules.specs.Bytes.{◌and◌};
 ghost use Rattle.rules.specs.Values.{bool_t, maybe_of, is_plain, type_in};
@@ -19,7 +21,7 @@ use table::{LAST, declared, node};
 use values::{MAYBE_INT, is_plain, type_in};
 
 // The type of the root, and the smallest wrong place.
-#[derive(Drop)]
+#[derive(Clone, Copy)]
 pub struct Typed {
     pub ty: u8,
     pub place: Place,

@@ -1,9 +1,10 @@
 -- Records with equal times that agree on the channels of a signal evaluate and update it alike, from any state and environment.
 -- Assumes nothing.
+use Rattle.std.specs.Prelude.{if◌then◌else◌}
 use mathlib.Core.Path.{◌≡◌, refl, ap, ◌∙◌}
 use Prim.Native.Nat.{ℕ}
 use lib.Dec.{eqb}
-use Rattle.rules.specs.Bytes.{Bytes, if◌then◌else◌}
+use Rattle.rules.specs.Bytes.{Bytes}
 use Rattle.rules.specs.Values.{int_t}
 use Rattle.rules.specs.Layout.{most_nodes, channel_value, time_in, set_time, held, hold, is_clear, branch_in}
 use Rattle.rules.specs.Work.{◌plus◌, give, rule, ◌then◌, Updated, Next, Jump, Halted, stays, leave, ruleᵘ, ◌with◌, ◌thenᵘ◌}

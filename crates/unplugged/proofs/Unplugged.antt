@@ -1,6 +1,7 @@
 -- Channels that no input node names do not matter: two runs of one program, from one state, with equal output lengths, over equally many
 -- well-formed records with equal times, which agree on every channel that some input node names, cannot be told apart.
 -- Assumes nothing.
+use Rattle.std.specs.Prelude.{if◌then◌else◌}
 use mathlib.Core.Path.{◌≡◌, refl, sym, ap, ◌∙◌}
 use mathlib.Core.Bool.{Bool, true, false, not}
 use Prim.Native.Nat.{ℕ, zero, suc, ◌+◌, ◌*◌, ◌/◌, ◌%◌, ◌<◌, ◌≤◌}
@@ -9,7 +10,7 @@ use native.Mathlib.Omega.{arith}
 use lib.Dec.{eqb, leb}
 use lib.ListN.{length}
 use borrow.Author.Tests.{eqb-true}
-use Rattle.rules.specs.Bytes.{Bytes, write_at, if◌then◌else◌, ◌and◌}
+use Rattle.rules.specs.Bytes.{Bytes, write_at, ◌and◌}
 use Rattle.rules.specs.Layout.{nodes, a_at, input_length, input_at, time_in, last_time, channel_value}
 use Rattle.rules.specs.Tree.{root}
 use Rattle.rules.specs.Update.{step_of}

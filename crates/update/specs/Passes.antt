@@ -1,7 +1,7 @@
 -- The cases of an until that a loop passes: their events are absent, and to update them does nothing.
 -- Assumes nothing: these are definitions.
-use Rattle.std.specs.Prelude.{◌≡◌, false, ℕ, zero, suc, ◌+◌, ◌%◌, ◌≤◌, ◌<◌, eqb, ltb, leb}
-use Rattle.rules.specs.Bytes.{Bytes, if◌then◌else◌}
+use Rattle.std.specs.Prelude.{◌≡◌, false, ℕ, zero, suc, ◌+◌, ◌%◌, ◌≤◌, ◌<◌, eqb, ltb, leb, if◌then◌else◌}
+use Rattle.rules.specs.Bytes.{Bytes}
 use Rattle.rules.specs.Layout.{kind_at, a_at, b_at, no_next}
 use Rattle.rules.specs.Tree.{signal_at}
 use Rattle.rules.specs.Work.{Updated, Next, Jump, Halted, ◌plus◌, afterᵘ}

@@ -1,5 +1,7 @@
 // Update: a signal goes one step on, in place on the lent state. The values of variables stand in lent slots, set and put back; the outcomes of
 // definitions in others, noted by the evaluation that comes before each update.
+#![tactic(auto)]
+
 ghost use Rattle.std.specs.Prelude.{◌≡◌, ◌<◌, length};
 ghost use Rattle.rules.specs.Bytes.{Bytes};
 ghost use Rattle.rules.specs.Values.{unpacked};
@@ -56,7 +58,7 @@ fn catches(
 }
 
 // How far a loop brings a walk: the case where it stands, what the events before counted, and how many they are.
-#[derive(Drop)]
+#[derive(Clone, Copy)]
 pub struct Passed {
     pub at: usize,
     pub seen: u64,
@@ -65,14 +67,14 @@ pub struct Passed {
 
 // A case that was looked at: what its event counted, if the case is quiet, else 0; and the event's outcome, if it was evaluated and the case is
 // not quiet, else 0.
-#[derive(Drop)]
+#[derive(Clone, Copy)]
 pub struct Looked {
     pub seen: u64,
     pub event: u64,
 }
 
 // Where a loop has brought a walk, and the outcome of the event of the case where it stands, if it was evaluated, else 0.
-#[derive(Drop)]
+#[derive(Clone, Copy)]
 pub struct Reached {
     pub passed: Passed,
     pub event: u64,

@@ -1,4 +1,6 @@
 // Values as one number: made by their constructors and packed, and unpacked.
+#![tactic(auto)]
+
 ghost use Rattle.std.specs.Prelude.{◌≡◌, ◌+◌, ◌*◌, ◌<◌};
 ghost use Rattle.rules.specs.Values.{is_plain, is_maybe, value_fits, value_from, packed, unpacked, type_in, present_in, word_in};
 

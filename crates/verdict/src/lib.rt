@@ -1,4 +1,6 @@
 // The verdict on a program: codes 1-8, lowest code first, then smallest place.
+#![tactic(auto)]
+
 ghost use Rattle.std.specs.Prelude.{◌≡◌, Bool, false, ◌-◌, ◌<◌};
 ghost use Rattle.rules.specs.Layout.{nodes};
 ghost use Rattle.rules.specs.Kinds.{is_signal};
@@ -18,7 +20,7 @@ use shape::first_shape;
 use typing::type_root;
 
 // The verdict, and of a program that has no fault the number of its nodes and its root's type.
-#[derive(Drop)]
+#[derive(Clone, Copy)]
 pub struct Judged {
     pub verdict: Verdict,
     pub count: usize,

@@ -1,4 +1,6 @@
 // The three public calls. Each answers for every byte string that it is handed: none has a requires.
+#![tactic(auto)]
+
 ghost use Rattle.std.specs.Prelude.{◌≡◌, ◌-◌, ◌<◌};
 ghost use Rattle.rules.specs.Layout.{nodes, cells as cells_of, checks_of};
 ghost use Rattle.rules.specs.Bound.{bound as boundOf};

@@ -1,8 +1,8 @@
 -- The value that a node gave while a signal was evaluated: its 8 bytes as one number, or what was noted before where the evaluation did not come to
 -- that node.
 -- Assumes nothing: these are definitions.
-use Rattle.std.specs.Prelude.{ℕ, eqb}
-use Rattle.rules.specs.Bytes.{Bytes, u64_at, if◌then◌else◌}
+use Rattle.std.specs.Prelude.{ℕ, eqb, if◌then◌else◌}
+use Rattle.rules.specs.Bytes.{Bytes, u64_at}
 use Rattle.rules.specs.Values.{value_bytes}
 use Rattle.rules.specs.Layout.{held, is_clear, branch_in}
 use Rattle.rules.specs.Tree.{Signal, input, time, ext, delay, let_signal, switch, group, until, Branches, no_branch, branch}

@@ -1,7 +1,7 @@
 -- The watched run: the plain run, and a second room with the values that the listed nodes gave.
 -- Assumes nothing: these are definitions.
-use Rattle.std.specs.Prelude.{ℕ, zero, suc, ◌+◌, ◌-◌, ◌*◌, ◌/◌, ◌%◌, List, [], ◌∷◌, ◌++◌, Bool, true, false, not, length, get_or, eqb, ltb, leb}
-use Rattle.rules.specs.Bytes.{Bytes, bytes_of, write_at, first, if◌then◌else◌, ◌and◌, ◌or◌}
+use Rattle.std.specs.Prelude.{ℕ, zero, suc, ◌+◌, ◌-◌, ◌*◌, ◌/◌, ◌%◌, List, [], ◌∷◌, ◌++◌, Bool, true, false, not, length, get_or, eqb, ltb, leb, if◌then◌else◌}
+use Rattle.rules.specs.Bytes.{Bytes, bytes_of, write_at, first, ◌and◌, ◌or◌}
 use Rattle.rules.specs.Layout.{most_nodes, nodes, kind_at, input_length, input_at}
 use Rattle.rules.specs.Kinds.{is_signal}
 use Rattle.rules.specs.Tree.{root}

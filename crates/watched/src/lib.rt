@@ -1,10 +1,12 @@
 // Watching signals inside a table: the values that listed nodes give while the root is evaluated. The answer of the call; definitions in specs/,
 // theorems in proofs/. They know nothing of the code.
+#![tactic(auto)]
+
 use rules::Ran;
 
 // What a watched run answers: as the plain run does; or why not: a list that has not 1 to 8 entries (17), or its first entry that is no signal
 // node or not above the one before (18).
-#[derive(Drop)]
+#[derive(Clone, Copy)]
 pub enum Watched {
     AsRun(Ran),
     ListLength,

@@ -1,5 +1,7 @@
 // Standard input: blocks, then records. The program is checked and started once, and each record costs its step. Here is reading, writing and
-// calling; how much is read, and what each line is, crates turns and printing answer.
+// calling; how much is read, and what each line is, crates turns and printing answer. What reads or writes is lent the runtime first.
+#![tactic(auto)]
+
 mod say;
 
 ghost use Rattle.std.specs.Prelude.{true, false, ◌≡◌, ◌+◌, ◌≤◌, length};
@@ -26,16 +28,16 @@ fn nothing_read() -> Place {
 }
 
 // Reads block 0, and the blocks that are left after it. A part block, or too few, is the check's to refuse.
-fn take_program(input: &mut [u8], program: &mut [u8]) -> Got
+fn take_program(rt: &impl Input, input: &mut [u8], program: &mut [u8]) -> Got
     requires { 512 ≤ length program.old }
 {
-    let head = feed::gather(nothing_read(), input, program, 0, BLOCK);
+    let head = feed::gather(rt, nothing_read(), input, program, 0, BLOCK);
     let after = head.place;
     if after.failed {
         return head;
     }
     let left = turns::blocks_left(program, head.count);
-    let tail = feed::gather(after, input, program, BLOCK, left);
+    let tail = feed::gather(rt, after, input, program, BLOCK, left);
     let last = tail.place;
     Got {
         place: last,
@@ -44,7 +46,7 @@ fn take_program(input: &mut [u8], program: &mut [u8]) -> Got
 }
 
 // After a turn: what is unread, the steps done and their work, and whether there is more to do.
-#[derive(Drop)]
+#[derive(Clone, Copy)]
 struct Next {
     at: usize,
     end: usize,
@@ -81,6 +83,7 @@ fn onward(place: Place, t: After) -> Next
 
 // The turn on what was read for it, and its line written. A write that fails ends the run.
 fn told(
+    rt: &(impl Print + Eprint),
     got: Got,
     rec: &[u8],
     here: Next,
@@ -99,7 +102,7 @@ fn told(
         program, index, rec, got.count, state, env, count, here.steps, here.total, &mut line, memo,
     );
     let n = t.length;
-    if !say::put(&line[..n]) {
+    if !say::put(rt, &line[..n]) {
         return stop();
     }
     onward(got.place, t)
@@ -107,6 +110,7 @@ fn told(
 
 // One turn: reads what is wanted for it, and writes its line. A read or a write that fails ends the run.
 fn step(
+    rt: &(impl Input + Print + Eprint),
     here: Next,
     program: &[u8],
     index: &[u16; 10080],
@@ -125,17 +129,18 @@ fn step(
         failed: false,
     };
     let mut rec = [0u8; 40];
-    let got = feed::gather(place, input, &mut rec, 0, turns::wanted(here.steps));
+    let got = feed::gather(rt, place, input, &mut rec, 0, turns::wanted(here.steps));
     let after = got.place;
     if after.failed {
-        say::unread();
+        say::unread(rt);
         return stop();
     }
-    told(got, &rec, here, program, index, state, env, count, memo)
+    told(rt, got, &rec, here, program, index, state, env, count, memo)
 }
 
 // One turn after the other, while there is more to do.
 fn steps(
+    rt: &(impl Input + Print + Eprint),
     place: Place,
     program: &[u8],
     index: &[u16; 10080],
@@ -155,13 +160,20 @@ fn steps(
         more: true,
     };
     while here.more {
-        here = step(here, program, index, state, env, input, count, memo);
+        here = step(rt, here, program, index, state, env, input, count, memo);
     }
 }
 
 // Starts an accepted program, and steps it: the table of its cells, the room for its variables and the slots of its definitions' outcomes are made
 // once.
-fn started(place: Place, program: &[u8], state: &mut [u8], input: &mut [u8], count: usize)
+fn started(
+    rt: &(impl Input + Print + Eprint),
+    place: Place,
+    program: &[u8],
+    state: &mut [u8],
+    input: &mut [u8],
+    count: usize,
+)
     requires { Accepted program.now × (count ≡ nodes program.now) }
 {
     let mut index: [u16; 10080] = [0; 10080];
@@ -171,7 +183,7 @@ fn started(place: Place, program: &[u8], state: &mut [u8], input: &mut [u8], cou
             let mut env: [u64; 1008] = [0; 1008];
             let mut memo: [u64; 1008] = [0; 1008];
             steps(
-                place, program, &index, state, &mut env, input, count, &mut memo,
+                rt, place, program, &index, state, &mut env, input, count, &mut memo,
             );
         }
         Started::Refused(_) => {}
@@ -180,6 +192,7 @@ fn started(place: Place, program: &[u8], state: &mut [u8], input: &mut [u8], cou
 
 // A program of so many cells runs in a state of that length.
 fn accepted(
+    rt: &(impl Input + Print + Eprint),
     place: Place,
     held: usize,
     program: &[u8],
@@ -190,19 +203,26 @@ fn accepted(
     requires { Accepted program.now × (count ≡ nodes program.now) × (held ≡ cells_of program.now) × (length state.old ≡ 8072) }
 {
     let n = cells::cell_at(held);
-    started(place, program, &mut state[..n], input, count);
+    started(rt, place, program, &mut state[..n], input, count);
 }
 
 // Checks what was read, prints the first line or the only one, and runs what is accepted.
-fn watched(place: Place, program: &[u8], state: &mut [u8], input: &mut [u8])
+fn watched(
+    rt: &(impl Input + Print + Eprint),
+    place: Place,
+    program: &[u8],
+    state: &mut [u8],
+    input: &mut [u8],
+)
     requires { length state.old ≡ 8072 }
 {
     let found = watch::check(program);
-    if !say::opening(found) {
+    if !say::opening(rt, found) {
         return;
     }
     match found {
         Checked::Accepted(n, held, _, _) => accepted(
+            rt,
             place,
             held as usize,
             program,
@@ -215,17 +235,18 @@ fn watched(place: Place, program: &[u8], state: &mut [u8], input: &mut [u8])
 }
 
 // Reads the blocks, and runs what they hold.
-fn main() {
+fn main(rt: HostRuntime) {
     let mut input = io::buffer();
     let mut program = [0u8; 12288];
     let mut state = [0u8; MOST_STATE];
-    let got = take_program(&mut input, &mut program);
+    let got = take_program(&rt, &mut input, &mut program);
     let place = got.place;
     if place.failed {
-        say::unread();
+        say::unread(&rt);
         return;
     }
     watched(
+        &rt,
         place,
         feed::first(&program, got.count),
         &mut state,

@@ -1,4 +1,6 @@
 // Which states are well-formed.
+#![tactic(auto)]
+
 ghost use Rattle.std.specs.Prelude.{◌≡◌, ◌-◌, ◌<◌, length};
 ghost use Rattle.rules.specs.Values.{type_in, middle_in};
 ghost use Rattle.rules.specs.Layout.{nodes, cells as cells_of, checks_of, state_length};

@@ -1,12 +1,10 @@
 -- The digits that `io::decimal` writes are those of `decimal`. Assumes nothing.
-use Prim.Native.Nat.{ℕ, zero, suc, ◌+◌, ◌*◌, ◌-◌, ◌/◌, ◌^◌, ◌≤◌, ◌<◌}
+use Prim.Native.Nat.{ℕ, zero, suc, ◌-◌, ◌/◌, ◌^◌, ◌≤◌, ◌<◌}
 use mathlib.Core.Path.{◌≡◌, refl, sym, ap, ◌∙◌, subst}
-use mathlib.Core.Bool.{cond}
-use mathlib.Core.List.{List, [], ◌∷◌, ◌++◌}
+use mathlib.Core.List.{List}
 use native.Mathlib.Nat.{pow-suc, one-le-pow, pow-le-pow_right, lt_of_not-le}
 use native.Mathlib.Omega.{arith}
-use lib.Dec.{ltb}
-use lib.ListN.{length, take}
+use lib.ListN.{take}
 use borrow.Author.Tests.{lt-ltb, le-ltb}
 use Rattle.io.specs.Digits.{last_digits, IsDigitCount}
 use Rattle.wire.specs.Text.{decimal, places, Put}
@@ -48,13 +46,15 @@ decimal_is n k w h = ap (λ (j : ℕ). last_digits 10 j n) (sym (places_is 19 n 
 -- a u32 has at most ten digits
 pub short : (n k : ℕ) → IsDigitCount 10 1 n k → n < 2 ^ 32 → k ≤ 10
 short n k w h =
-    let lt : k < 11 = lt_of_not-le (λ (le : 11 ≤ k). omega (arith, w.2 (omega arith), pow-le-pow_right {n = 10} (omega arith) {i = 10} {j = k - 1} (omega arith))) in
+    let lt : k < 11 =
+    lt_of_not-le (λ (le : 11 ≤ k). omega (arith, w.2 (omega arith), pow-le-pow_right {n = 10} (omega arith) {i = 10} {j = k - 1} (omega arith))) in
     omega arith
 
 -- a number of 16 bits has at most five
 pub shortest : (n k : ℕ) → IsDigitCount 10 1 n k → n < 2 ^ 16 → k ≤ 5
 shortest n k w h =
-    let lt : k < 6 = lt_of_not-le (λ (le : 6 ≤ k). omega (arith, w.2 (omega arith), pow-le-pow_right {n = 10} (omega arith) {i = 5} {j = k - 1} (omega arith))) in
+    let lt : k < 6 =
+    lt_of_not-le (λ (le : 6 ≤ k). omega (arith, w.2 (omega arith), pow-le-pow_right {n = 10} (omega arith) {i = 5} {j = k - 1} (omega arith))) in
     omega arith
 
 -- the fewest digits of a u32, put into a line, are its decimal

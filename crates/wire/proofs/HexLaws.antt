@@ -1,5 +1,5 @@
 -- One byte more in hex. Assumes nothing.
-use Prim.Native.Nat.{ℕ, suc, ◌+◌, ◌*◌, ◌/◌, ◌%◌, ◌≤◌, ◌<◌}
+use Prim.Native.Nat.{ℕ, suc, ◌+◌, ◌*◌, ◌/◌, ◌%◌, ◌<◌}
 use mathlib.Core.Path.{◌≡◌, refl, sym, ap, ◌∙◌}
 use mathlib.Core.List.{List, [], ◌∷◌, ◌++◌, append_assoc}
 use native.Mathlib.Numerals.{add-one}
@@ -24,7 +24,8 @@ two text k h l lt =
 
 -- a turn of `hex`
 pub pair : (s text : List ℕ) (i b : ℕ) {h l : ℕ} → i < length s → 2 * i + 1 < length text → take (2 * i) text ≡ hexes (take i s)
-    → h ≡ hex_digit_ascii (b / 16) → l ≡ hex_digit_ascii (b % 16) → b ≡ get_or s i 0 → take (2 * (i + 1)) (set (set text (2 * i) h) (2 * i + 1) l) ≡ hexes (take (i + 1) s)
+    → h ≡ hex_digit_ascii (b / 16) → l ≡ hex_digit_ascii (b % 16) → b ≡ get_or s i 0
+    → take (2 * (i + 1)) (set (set text (2 * i) h) (2 * i + 1) l) ≡ hexes (take (i + 1) s)
 pair s text i b {h} {l} in-s in-text so_far high low at =
     let e : 2 * (i + 1) ≡ suc (suc (2 * i)) = omega arith in
     ap (λ (k : ℕ). take k (set (set text (2 * i) h) (2 * i + 1) l)) e

@@ -4,7 +4,7 @@ ghost use Rattle.std.specs.Prelude.{◌≤◌};
 use crate::Request;
 
 // A number that was read, and the index after the byte that ended it.
-#[derive(Drop)]
+#[derive(Clone, Copy)]
 struct Found {
     value: u32,
     next: usize,

@@ -1,4 +1,6 @@
 // The requests and the answers of the programs as bytes: header lines, answer lines, numbers in decimal.
+#![tactic(auto)]
+
 mod answer;
 mod digits;
 mod guess;
@@ -15,7 +17,7 @@ pub use text::{put, put_field, put_number};
 
 // A request by its header line: the call and the lengths of its lent memory; of a chain's room, mend's list and a pairing, how many entries they
 // have. (A line has 64 bytes: a watch's state and list are shorter than 65,536.)
-#[derive(Drop)]
+#[derive(Clone, Copy)]
 pub enum Request {
     Check(u32),
     Start(u32, u32),

@@ -7,8 +7,9 @@ pub fn put(text: &[u8], line: &mut [u8], at: usize) -> usize
     requires { at + length text.now ≤ length line.old }
     ensures { Put at text.now line.old line.new result }
 {
-    let n = bytes::copy(text, &mut line[at..]);
-    at + n
+    let end = at + text.len();
+    line[at..end].copy_from_slice(text);
+    end
 }
 
 // Puts n in decimal at index `at` of line, and answers the index after it: at most 10 further.

@@ -1,9 +1,9 @@
 -- The quotient rounded toward zero, with its remainder, and the one rounded toward minus infinity: the same, or one less.
 -- Assumes nothing.
+use Rattle.std.specs.Prelude.{if◌then◌else◌}
 use Rattle.std.proofs.Common.{◌≡◌, ℕ, zero, suc, ◌+◌, ◌-◌, ◌*◌, ◌/◌, ◌%◌, ◌<◌, Bool, true, false, ltb, ℤ, pos, negsuc, ◌-ℤ◌, neg_ℤ, nat_abs, sym, refl, ap, ◌∙◌, true≢false, mod-lt, div-add-mod', zero-mul, arith, ltb-false, ltb-true, le-ltb, lt-ltb}
 use native.Mathlib.Nat.{zero-div, zero-mod}
 use lib.Signed.{quot_z, rem_z, lt_z}
-use Rattle.rules.specs.Bytes.{if◌then◌else◌}
 use Rattle.rules.specs.Words.{floor_z}
 use Rattle.words.proofs.Floor.{part, part_before}
 

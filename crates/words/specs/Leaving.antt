@@ -1,8 +1,7 @@
 -- What leaving the range means (document 02, f).
 -- Assumes nothing: these are definitions and statements.
-use Rattle.std.specs.Prelude.{◌≡◌, ℕ, ◌<◌, ◌≤◌, Bool, true, false, ◌↔◌, nat_le, nat_lt}
+use Rattle.std.specs.Prelude.{◌≡◌, ℕ, ◌<◌, ◌≤◌, Bool, true, false, ◌↔◌, nat_le, nat_lt, if◌then◌else◌}
 use Rattle.std.specs.Int.Signed.{mag}
-use Rattle.rules.specs.Bytes.{if◌then◌else◌}
 use Rattle.rules.specs.Words.{wrap}
 use Rattle.rules.specs.Operations.{exact_of, leaves_range}
 

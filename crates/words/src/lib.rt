@@ -1,4 +1,6 @@
 // Arithmetic on 32-bit words, two's complement, held as unsigned numbers.
+#![tactic(auto)]
+
 ghost use Rattle.std.specs.Prelude.{◌≡◌, ◌<◌, ◌≤◌, ◌+ℤ◌, ◌-ℤ◌, ◌*ℤ◌, unsigned_abs};
 ghost use Rattle.rules.specs.Operations.{number_of, truth_of, leaves_range};
 ghost use Rattle.rules.specs.Words.{signed, word_of, outside, sum_of, difference_of, product_of, floor_z, quotient_of, is_less};
@@ -85,7 +87,7 @@ pub fn divide(x: u32, y: u32) -> Value
 }
 
 // A sum, a difference or a product, wrapped, and whether it left the range.
-#[derive(Drop)]
+#[derive(Clone, Copy)]
 pub struct Worked {
     pub word: u32,
     pub left: bool,

@@ -1,5 +1,6 @@
 -- Each number stands in the order of an accepted program's tree at most once.
 -- Assumes nothing.
+use Rattle.std.specs.Prelude.{if◌then◌else◌}
 use mathlib.Core.Path.{◌≡◌, refl, sym, ap, ◌∙◌}
 use mathlib.Core.List.{List, [], ◌∷◌, ◌++◌}
 use mathlib.Core.Bool.{Bool, true, false}
@@ -10,7 +11,7 @@ use native.Mathlib.Omega.{arith}
 use lib.Dec.{eqb}
 use lib.ListN.{length}
 use borrow.Author.Tests.{eqb-true, eq-eqb, ne_eqb}
-use Rattle.rules.specs.Bytes.{Bytes, if◌then◌else◌, ◌and◌, ◌or◌}
+use Rattle.rules.specs.Bytes.{Bytes, ◌and◌, ◌or◌}
 use Rattle.rules.specs.Layout.{nodes, kind_at, a_at, b_at, c_at}
 use Rattle.rules.specs.declared.Field.{Field}
 use Rattle.rules.specs.Kinds.{row, is_signal, is_expression, is_branch, is_case, fields_of}

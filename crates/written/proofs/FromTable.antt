@@ -1,5 +1,6 @@
 -- The tree of a program of right format and shape: its records are right, and each node, variable and case carries the table's type.
 -- Assumes nothing.
+use Rattle.std.specs.Prelude.{if◌then◌else◌}
 use mathlib.Core.Path.{◌≡◌, refl, sym, ap, ◌∙◌, subst}
 use mathlib.Core.Bool.{Bool, true, false, not}
 use Prim.Native.Nat.{ℕ, zero, suc, ◌+◌, ◌-◌, ◌*◌, ◌≤◌, ◌<◌}
@@ -7,7 +8,7 @@ use native.Mathlib.Nat.{not-suc-le-zero}
 use native.Mathlib.Omega.{arith}
 use lib.Dec.{eqb, leb}
 use borrow.Author.Tests.{eqb-true, eqb-false, eq-eqb, ne_eqb, leb-true, lt-leb}
-use Rattle.rules.specs.Bytes.{Bytes, byte_at, u16_at, u32_at, first, ◌and◌, ◌or◌, if◌then◌else◌}
+use Rattle.rules.specs.Bytes.{Bytes, byte_at, u16_at, u32_at, first, ◌and◌, ◌or◌}
 use Rattle.rules.specs.Values.{is_type, is_plain, is_maybe, type_of, value_from, value_fits, unit_t, bool_t, maybe_of}
 use Rattle.rules.specs.Layout.{nodes, record_at, kind_at, type_at, a_at, b_at, c_at, word_at}
 use Rattle.rules.specs.Format.{type_field_wrong, node_wrong}

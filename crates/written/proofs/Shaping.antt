@@ -1,5 +1,6 @@
 -- Codes 4 and 5 at the nodes of a part: each record is right, its children are smaller and of the right sort, and each but the last is named once.
 -- Assumes nothing.
+use Rattle.std.specs.Prelude.{if◌then◌else◌}
 use mathlib.Core.Path.{◌≡◌, refl, sym, ap, ◌∙◌}
 use mathlib.Core.Bool.{Bool, true, false, not}
 use Prim.Native.Nat.{ℕ, zero, suc, ◌+◌, ◌-◌, ◌*◌, ◌<◌, ◌≤◌}
@@ -7,7 +8,7 @@ use native.Mathlib.Decide.{dec_lt}
 use native.Mathlib.Omega.{arith}
 use lib.Dec.{eqb, ltb, leb}
 use borrow.Author.Tests.{lt-ltb, le-ltb, le-leb, lt-leb, eq-eqb, ne_eqb, eqb-true, leb-true, leb-false, ltb-true, ltb-false}
-use Rattle.rules.specs.Bytes.{Bytes, ◌and◌, ◌or◌, if◌then◌else◌}
+use Rattle.rules.specs.Bytes.{Bytes, ◌and◌, ◌or◌}
 use Rattle.rules.specs.Layout.{kind_at, type_at, a_at, b_at, c_at, word_at, no_next}
 use Rattle.rules.specs.Node.{IsNode}
 use Rattle.rules.specs.Kinds.{is_kind, fields_of}

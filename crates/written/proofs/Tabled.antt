@@ -1,5 +1,6 @@
 -- The table of a part has the right format and shape: codes 1-5 do not occur.
 -- Assumes nothing.
+use Rattle.std.specs.Prelude.{if◌then◌else◌}
 use mathlib.Core.Path.{◌≡◌, refl, sym, ap, ◌∙◌}
 use mathlib.Core.List.{List, [], ◌∷◌, ◌++◌}
 use mathlib.Core.Bool.{Bool, true, false, not}
@@ -9,7 +10,7 @@ use native.Mathlib.Omega.{arith}
 use lib.Dec.{eqb, ltb, leb}
 use lib.ListN.{length, take, drop}
 use borrow.Author.Tests.{lt-ltb, le-ltb, le-leb, eq-eqb, ne_eqb}
-use Rattle.rules.specs.Bytes.{Bytes, byte_at, u16_at, u32_at, u64_at, first_from, first, ◌and◌, ◌or◌, if◌then◌else◌}
+use Rattle.rules.specs.Bytes.{Bytes, byte_at, u16_at, u32_at, u64_at, first_from, first, ◌and◌, ◌or◌}
 use Rattle.rules.specs.Layout.{blocks, block_at, records, record_at, kind_at, nodes, place_or, number_in, count_in, edition_in, edition, check_in}
 use Rattle.rules.specs.Kinds.{is_kind, is_signal, is_branch, is_case, is_expression, fields_of}
 use Rattle.rules.specs.Format.{length_wrong, sum_wrong, number_wrong, record_wrong, node_wrong, may_end, is_zero, after_end, check_of}

@@ -1,7 +1,7 @@
 -- A tree written as a table: each node's record from the tree's own constructor, numbers by position, children first in field order.
 -- Assumes nothing: these are definitions.
-use Rattle.std.specs.Prelude.{ℕ, suc, ◌+◌, List, [], ◌∷◌, eqb}
-use Rattle.rules.specs.Bytes.{Bytes, if◌then◌else◌}
+use Rattle.std.specs.Prelude.{ℕ, suc, ◌+◌, List, [], ◌∷◌, eqb, if◌then◌else◌}
+use Rattle.rules.specs.Bytes.{Bytes}
 use Rattle.rules.specs.Layout.{no_next, cells_before}
 use Rattle.rules.specs.Values.{type_of}
 use Rattle.rules.specs.Size.{size_e, size_s, size_b, size_c}

@@ -7,7 +7,7 @@
 //! safe. Nothing is allocated and `std` is not used; a call needs at most 512 KiB of stack.
 //!
 //! The archive is for x86-64 Linux. `build.rs` finds it by COUPLERFINCH_ARCHIVE, or in the
-//! repository's `target/staticlib`, where `rt staticlib couplerfinch` writes it.
+//! repository's `crates/couplerfinch/out`, where `tools/proved archive` (or `rt lib`) writes it.
 //!
 //! ```no_run
 //! # fn next_record() -> Option<[u8; couplerfinch::RECORD]> { None }

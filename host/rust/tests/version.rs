@@ -8,5 +8,5 @@ const SAYS: &str = include_str!("../../../crates/tables/src/say.rt");
 fn versions_are_equal() {
     let version = env!("CARGO_PKG_VERSION");
     assert!(HEADER.contains(&format!("#define COUPLERFINCH_VERSION \"{version}\"\n")));
-    assert!(SAYS.contains(&format!("put(b\"couplerfinch {version}\\n\")")));
+    assert!(SAYS.contains(&format!("put(rt, b\"couplerfinch {version}\\n\")")));
 }

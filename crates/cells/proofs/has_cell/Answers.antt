@@ -1,0 +1,17 @@
+use mathlib.Core.Path.{refl}
+use borrow.Author.Tests.{ne_eqb}
+use Rattle.rules.specs.Bytes.{◌or◌}
+use Rattle.rules.specs.Layout.{has_cell}
+use Rattle.cells.proofs.has_cell.Goals as goal
+
+pub returns-then-k-eq4 : goal.returns-then-k-eq4
+unfolding has_cell ◌or◌
+returns-then-k-eq4 c = rw c.if-k-eq4.true refl
+
+pub returns-then-k-eq6 : goal.returns-then-k-eq6
+unfolding has_cell ◌or◌
+returns-then-k-eq6 c = rw (ne_eqb _ 4 c.if-k-eq4.false, c.if-k-eq6.true) refl
+
+pub returns : goal.returns
+unfolding has_cell ◌or◌
+returns c = rw (ne_eqb _ 4 c.if-k-eq4.false, ne_eqb _ 6 c.if-k-eq6.false) refl

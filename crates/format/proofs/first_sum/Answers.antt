@@ -1,0 +1,35 @@
+use Prim.Native.Nat.{◌-◌}
+use native.Mathlib.Omega.{arith}
+use Rattle.rules.specs.Layout.{blocks, records}
+use Rattle.rules.specs.Format.{sum_wrong}
+use Rattle.rules.proofs.First.{first_starts}
+use Rattle.format.proofs.SearchLaws.{found, passed, none_left}
+use Rattle.format.proofs.SumLaws.{most_bytes}
+use Rattle.format.proofs.first_sum.Goals as goal
+
+pub loop-j-init : goal.loop-j-init
+loop-j-init c = (omega arith, first_starts _ _)
+
+pub sum_wrong-requires : goal.sum_wrong-requires
+unfolding blocks records
+sum_wrong-requires c = omega arith
+
+pub overflow_cast-result : goal.overflow_cast-result
+overflow_cast-result c = omega (arith, most_bytes _ c.requires)
+
+pub returns-then-sum_wrong : goal.returns-then-sum_wrong
+unfolding blocks records
+returns-then-sum_wrong c = found _ _ _ c.loop-j.invariant.1 _ c.loop-j-test.true c.sum_wrong.ensures c.if-sum_wrong.true
+
+pub overflow_add-j : goal.overflow_add-j
+overflow_add-j c = omega arith
+
+pub loop-j-smaller : goal.loop-j-smaller
+loop-j-smaller c = omega arith
+
+pub loop-j-preserved : goal.loop-j-preserved
+loop-j-preserved c = (omega arith, passed _ _ _ c.loop-j.invariant.1 _ c.loop-j-test.true c.sum_wrong.ensures c.if-sum_wrong.false)
+
+pub returns : goal.returns
+unfolding blocks records
+returns c = none_left _ _ _ c.loop-j.invariant.1 c.loop-j-test.false

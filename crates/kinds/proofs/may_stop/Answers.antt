@@ -1,0 +1,91 @@
+use Rattle.rules.specs.Shape.{may_stop}
+use borrow.Author.Rules.{rules}
+use Rattle.kinds.proofs.may_stop.Goals as goal
+
+pub enum_told-1 : goal.enum_told-1
+unfolding may_stop
+enum_told-1 c = search rules
+
+pub enum_told-in-Channel : goal.enum_told-in-Channel
+unfolding may_stop
+enum_told-in-Channel c = search rules
+
+pub enum_told-in-PresentByte : goal.enum_told-in-PresentByte
+unfolding may_stop
+enum_told-in-PresentByte c = search rules
+
+pub enum_told-in-Signal : goal.enum_told-in-Signal
+unfolding may_stop
+enum_told-in-Signal c = search rules
+
+pub enum_told-in-Expression : goal.enum_told-in-Expression
+unfolding may_stop
+enum_told-in-Expression c = search rules
+
+pub enum_told-in-FirstBranch : goal.enum_told-in-FirstBranch
+unfolding may_stop
+enum_told-in-FirstBranch c = search rules
+
+pub enum_told-in-NextBranch : goal.enum_told-in-NextBranch
+unfolding may_stop
+enum_told-in-NextBranch c = search rules
+
+pub enum_told-in-FirstCase : goal.enum_told-in-FirstCase
+unfolding may_stop
+enum_told-in-FirstCase c = search rules
+
+pub enum_told-in-NextCase : goal.enum_told-in-NextCase
+unfolding may_stop
+enum_told-in-NextCase c = search rules
+
+pub enum_told-in-Binder : goal.enum_told-in-Binder
+unfolding may_stop
+enum_told-in-Binder c = search rules
+
+pub enum_told-in-Target : goal.enum_told-in-Target
+unfolding may_stop
+enum_told-in-Target c = search rules
+
+pub returns-in-Unused : goal.returns-in-Unused
+unfolding may_stop
+returns-in-Unused c = search rules
+
+pub returns-in-Channel : goal.returns-in-Channel
+unfolding may_stop
+returns-in-Channel c = search rules
+
+pub returns-in-PresentByte : goal.returns-in-PresentByte
+unfolding may_stop
+returns-in-PresentByte c = search rules
+
+pub returns-in-Signal : goal.returns-in-Signal
+unfolding may_stop
+returns-in-Signal c = search rules
+
+pub returns-in-Expression : goal.returns-in-Expression
+unfolding may_stop
+returns-in-Expression c = search rules
+
+pub returns-in-FirstBranch : goal.returns-in-FirstBranch
+unfolding may_stop
+returns-in-FirstBranch c = search rules
+
+pub returns-in-NextBranch : goal.returns-in-NextBranch
+unfolding may_stop
+returns-in-NextBranch c = search rules
+
+pub returns-in-FirstCase : goal.returns-in-FirstCase
+unfolding may_stop
+returns-in-FirstCase c = search rules
+
+pub returns-in-NextCase : goal.returns-in-NextCase
+unfolding may_stop
+returns-in-NextCase c = search rules
+
+pub returns-in-Binder : goal.returns-in-Binder
+unfolding may_stop
+returns-in-Binder c = search rules
+
+pub returns-in-Target : goal.returns-in-Target
+unfolding may_stop
+returns-in-Target c = search rules

@@ -1,0 +1,16 @@
+use mathlib.Core.Path.{sym, ◌∙◌}
+use Rattle.starting.proofs.StartLaws.{counted}
+use Rattle.peeking.proofs.CallLaws.{entry_refused, entries_run}
+use Rattle.peeking.proofs.watch_entries.Goals as goal
+
+pub list_fault-off-requires : goal.list_fault-off-requires
+list_fault-off-requires c = ((counted _ _ c.requires.0 c.requires.1).shaped, c.requires.1, c.requires.2)
+
+pub watch_listed-requires : goal.watch_listed-requires
+watch_listed-requires c = (c.requires.0, c.requires.1, c.requires.2)
+
+pub returns-in-At : goal.returns-in-At
+returns-in-At c = entry_refused _ _ _ _ _ _ _ (sym c.list_fault-off.ensures ∙ c.in-At.is)
+
+pub returns-in-Nowhere : goal.returns-in-Nowhere
+returns-in-Nowhere c = entries_run _ _ _ _ _ _ _ (sym c.list_fault-off.ensures ∙ c.in-Nowhere.is) c.watch_listed.ensures.0 c.watch_listed.ensures.1

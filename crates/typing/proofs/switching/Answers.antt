@@ -1,0 +1,5 @@
+use Rattle.typing.proofs.RuleLaws.{over_three, maybe_right}
+use Rattle.typing.proofs.switching.Goals as goal
+
+pub returns : goal.returns
+returns c = over_three c.args.i (maybe_right c.args.t c.is_maybe.ensures c.type_in.ensures c.type_in-2.ensures c.type_in-3.ensures c.both-right.ensures) c.place_in-x_at.ensures c.place_in-e_at.ensures c.place_in-y_at.ensures c.sooner-others.ensures c.type_in-4.ensures c.under.ensures c.typed_at.ensures

@@ -1,9 +1,0 @@
-use borrow.Author.Rules.{rules}
-use Rattle.watch.proofs.refused.Statement.{statement}
-use Rattle.watch.proofs.refused.Tie as tie
-
-returns : tie.Need-returns
-returns c = search rules
-
-pub refused-spec : {M : Type 1} → statement M
-refused-spec = tie.close (tie.spec returns)

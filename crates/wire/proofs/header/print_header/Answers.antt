@@ -1,0 +1,12 @@
+use Rattle.wire.proofs.PutLaws.{behind, line_is}
+use Rattle.wire.specs.Lines.{printing_line}
+use native.Mathlib.Omega.{arith}
+use Rattle.wire.proofs.header.print_header.Goals as goal
+
+pub returns : goal.returns
+unfolding printing_line
+returns c =
+    let one = behind c.put-a.ensures c.put_field-b.ensures.put in
+    let two = behind one c.put_field.ensures.put in
+    let line = line_is two (omega arith) in
+    record { prefix_len = line.0; line_after = line.1 }

@@ -4,8 +4,8 @@
 
 ghost use Rattle.beheld.specs.Beheld.{SaysDemand, PlainDemand, LooseDemand};
 
-use rules::Ran;
-use watched::Watched;
+use rules::{Ran, Stopped};
+use watched::ListFault;
 
 // Watch a list of records run.
 pub fn watch(
@@ -15,7 +15,7 @@ pub fn watch(
     list: &[u16],
     output: &mut [u8],
     shown: &mut [u8],
-) -> Watched
+) -> Result<Result<Ran, Stopped>, ListFault>
     ensures { SaysDemand program.now state.old records.now list.now output.old shown.old result state.new output.new shown.new }
 {
     peeking::watched(program, state, records, list, output, shown)
@@ -24,8 +24,8 @@ pub fn watch(
 // The answers of a watched run and of a plain one.
 #[derive(Clone, Copy)]
 pub struct Beside {
-    pub watched: Watched,
-    pub ran: Ran,
+    pub watched: Result<Result<Ran, Stopped>, ListFault>,
+    pub ran: Result<Ran, Stopped>,
 }
 
 // Watch a list of records run, and run it on copies of state and output.
@@ -52,8 +52,8 @@ pub fn watch_and_run(
 // The answers of two watched runs.
 #[derive(Clone, Copy)]
 pub struct Both {
-    pub one: Watched,
-    pub other: Watched,
+    pub one: Result<Result<Ran, Stopped>, ListFault>,
+    pub other: Result<Result<Ran, Stopped>, ListFault>,
 }
 
 // Watch two lists of records run, on two copies of a state.

@@ -1,5 +1,7 @@
 -- The second room of a watched run is its rows, written into the room that it is lent.
 -- Assumes nothing.
+use Rattle.std.specs.Prelude.{Ok, Err}
+use Rattle.rules.specs.Verdicts.{finished_with}
 use mathlib.Core.Path.{◌≡◌, refl, sym, ap, ◌∙◌}
 use mathlib.Core.List.{[], ◌∷◌, ◌++◌}
 use Prim.Native.Nat.{ℕ, zero, suc, ◌+◌, ◌*◌, ◌<◌, ◌≤◌}
@@ -15,9 +17,6 @@ use Rattle.rules.specs.Calls.{record_verdict, first_wrapped}
 use Rattle.rules.specs.declared.Value.{Value}
 use Rattle.rules.specs.declared.Tally.{Tally}
 use Rattle.rules.specs.declared.Refusal.{Refusal}
-use Rattle.rules.specs.declared.Verdict.TheVariants.{Fine, Refuse}
-use Rattle.rules.specs.declared.Ran.{Ran}
-use Rattle.rules.specs.declared.Ran.TheVariants.{Finished}
 use Rattle.rooms.specs.Walk.{Walk, walk, showing}
 use Rattle.rooms.proofs.WalkLaws.{SameRecord, by_record, walk_next, walk_stops, walk_stuck, write_both, not_finished}
 use Rattle.watched.specs.Gave.{gave_s}
@@ -32,31 +31,31 @@ row_long p rec st (x ∷ xs) =
     length-append (bytes_of 8 (gave_s rec st (unbound most_nodes) (root p) x 0)) (shown p rec st xs) ∙ omega (arith, row_long p rec st xs)
 
 module _ (p recs : Bytes) (l : List16) (left done : ℕ) (st : Bytes) where
-  rows_next : {v : Value} {st₁ : Bytes} {w : Tally} → record_verdict done st (input_at recs done) ≡ Fine → step_of p (input_at recs done) st ≡ Made v st₁ w
+  rows_next : {v : Value} {st₁ : Bytes} {w : Tally} → record_verdict done st (input_at recs done) ≡ Ok tt → step_of p (input_at recs done) st ≡ Made v st₁ w
       → rows p recs l (suc left) done st ≡ shown p (input_at recs done) st l ++ rows p recs l left (suc done) st₁
   unfolding rows
   rows_next e f = rw (e, rows, f)
 
-  rows_stop : {r : Refusal} → record_verdict done st (input_at recs done) ≡ Refuse r → rows p recs l (suc left) done st ≡ []
+  rows_stop : {r : Refusal} → record_verdict done st (input_at recs done) ≡ Err r → rows p recs l (suc left) done st ≡ []
   unfolding rows
   rows_stop e = rw (e, rows)
 
-  rows_stuck : record_verdict done st (input_at recs done) ≡ Fine → step_of p (input_at recs done) st ≡ NotMade → rows p recs l (suc left) done st ≡ []
+  rows_stuck : record_verdict done st (input_at recs done) ≡ Ok tt → step_of p (input_at recs done) st ≡ NotMade → rows p recs l (suc left) done st ≡ []
   unfolding rows
   rows_stuck e f = rw (e, rows, f)
 
   module _ (room : Bytes) where
-    shown_next : {v : Value} {st₁ : Bytes} {w : Tally} → record_verdict done st (input_at recs done) ≡ Fine → step_of p (input_at recs done) st ≡ Made v st₁ w
+    shown_next : {v : Value} {st₁ : Bytes} {w : Tally} → record_verdict done st (input_at recs done) ≡ Ok tt → step_of p (input_at recs done) st ≡ Made v st₁ w
         → shown_from p recs l (suc left) done st room
         ≡ shown_from p recs l left (suc done) st₁ (write_at room (8 * length l * done) (shown p (input_at recs done) st l))
     unfolding shown_from
     shown_next e f = rw (e, shown_from, f)
 
-    shown_stops : {r : Refusal} → record_verdict done st (input_at recs done) ≡ Refuse r → shown_from p recs l (suc left) done st room ≡ room
+    shown_stops : {r : Refusal} → record_verdict done st (input_at recs done) ≡ Err r → shown_from p recs l (suc left) done st room ≡ room
     unfolding shown_from
     shown_stops e = rw (e, shown_from)
 
-    shown_stuck : record_verdict done st (input_at recs done) ≡ Fine → step_of p (input_at recs done) st ≡ NotMade
+    shown_stuck : record_verdict done st (input_at recs done) ≡ Ok tt → step_of p (input_at recs done) st ≡ NotMade
         → shown_from p recs l (suc left) done st room ≡ room
     unfolding shown_from
     shown_stuck e f = rw (e, shown_from, f)
@@ -103,7 +102,7 @@ rows_agree (suc left) p recs₁ recs₂ l done st a b =
 
 -- Of a walk that is finished there is a row for each record.
 pub rows_whole : (left : ℕ) (p recs : Bytes) (l : List16) (done work mark : ℕ) (st : Bytes) {steps total first : ℕ}
-    → (walk p recs left done work mark st).answer ≡ Finished steps total first → length (rows p recs l left done st) ≡ 8 * length l * left
+    → (walk p recs left done work mark st).answer ≡ finished_with steps total first → length (rows p recs l left done st) ≡ 8 * length l * left
 unfolding rows showing
 rows_whole zero p recs l done work mark st e = omega arith
 rows_whole (suc left) p recs l done work mark st e =

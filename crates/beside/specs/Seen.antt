@@ -1,15 +1,14 @@
 -- Two watched runs that cannot be told apart.
 -- Assumes nothing: these are definitions.
-use Rattle.std.specs.Prelude.{◌≡◌, ℕ}
+use Rattle.std.specs.Prelude.{◌≡◌, ℕ, Ok}
+use Rattle.rules.specs.Verdicts.{finished_with}
 use Rattle.rules.specs.Bytes.{Bytes, write_at}
 use Rattle.rules.specs.Calls.{RunOutcome}
-use Rattle.rules.specs.declared.Ran.TheVariants.{Finished}
-use Rattle.watched.specs.declared.Watched.TheVariants.{AsRun}
 use Rattle.watched.specs.Watch.{WatchOutcome}
 
 -- A watched run's answer (with it steps, work and mark), state and output are a plain run's.
 pub record Plainly (o : WatchOutcome) (r : RunOutcome) : Type 0 where
-  pub answers : o.answer ≡ AsRun r.answer
+  pub answers : o.answer ≡ Ok r.answer
   pub states : o.state ≡ r.state
   pub outputs : o.output ≡ r.output
 
@@ -24,5 +23,5 @@ pub record SameWatched (out₁ out₂ room₁ room₂ : Bytes) (o₁ o₂ : Watc
   pub noted : Bytes
   pub noted₁ : o₁.room ≡ write_at room₁ 0 noted
   pub noted₂ : o₂.room ≡ write_at room₂ 0 noted
-  pub whole : (steps work mark : ℕ) → o₁.answer ≡ AsRun (Finished steps work mark) → (o₁.output ≡ o₂.output) × (o₁.room ≡ o₂.room)
+  pub whole : (steps work mark : ℕ) → o₁.answer ≡ Ok (finished_with steps work mark) → (o₁.output ≡ o₂.output) × (o₁.room ≡ o₂.room)
   pub equal_rooms : out₁ ≡ out₂ → room₁ ≡ room₂ → (o₁.output ≡ o₂.output) × (o₁.room ≡ o₂.room)

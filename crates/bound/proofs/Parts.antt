@@ -2,7 +2,7 @@
 -- Assumes nothing.
 use mathlib.Core.Path.{◌≡◌, sym, subst}
 use mathlib.Core.Bool.{Bool}
-use Prim.Native.Nat.{ℕ, ◌+◌, ◌*◌, ◌≤◌, ◌<◌}
+use Prim.Native.Nat.{ℕ, ◌*◌, ◌≤◌, ◌<◌}
 use native.Mathlib.Omega.{arith}
 use native.Mathlib.Nat.{mul-le-mul}
 use Rattle.rules.specs.Bytes.{Bytes}
@@ -11,7 +11,7 @@ use Rattle.rules.specs.Tree.{expr_at, signal_at, branches_at, cases_at}
 use Rattle.rules.specs.Bound.{bound_e, bound_s, bound_sb, bound_sc, bound_u, bound_ub, bound_uc}
 use Rattle.rules.proofs.Bounds.{bound_e≤, bound_s≤, bound_sb≤, bound_sc≤, bound_u≤, bound_ub≤, bound_uc≤}
 use Rattle.rules.proofs.Kids.{Child}
-use Rattle.bound.specs.SmallTree.{nodes_e, nodes_s, nodes_b, nodes_c, eval_in, update_in, SmallTree, Most, BoundsOf}
+use Rattle.bound.specs.SmallTree.{nodes_e, nodes_s, nodes_b, nodes_c, eval_in, update_in, SmallTree, BoundsOf}
 
 -- A child that is small.
 pub record Part (sort : ℕ → Bool) (size : Bytes → ℕ → ℕ) (p : Bytes) (n x : ℕ) : Type 0 where

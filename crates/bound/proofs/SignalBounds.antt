@@ -7,7 +7,7 @@ use Rattle.rules.specs.Bytes.{Bytes}
 use Rattle.rules.specs.Layout.{kind_at, a_at, b_at, c_at}
 use Rattle.rules.specs.Kinds.{is_expression, is_signal, is_branch, is_case}
 use Rattle.rules.specs.Tree.{expr_at, signal_at, branches_at, cases_at}
-use Rattle.rules.specs.Size.{size_e, size_s, size_b, size_c}
+use Rattle.rules.specs.Size.{size_s, size_b, size_c}
 use Rattle.rules.specs.Bound.{bound_e, bound_s, bound_sb, bound_sc, bound_u, bound_ub, bound_uc}
 use Rattle.rules.proofs.Nodes.{signal_input, signal_time}
 use Rattle.rules.proofs.Signals.{ext_kid, delay_kid, let_kids, switch_kids, group_kids, until_kids, branch_kid, branch_next, case_kid, case_next, ext_tree, delay_tree, let_tree, switch_tree, group_tree, until_tree, branch_law, branch_end, branch_on, case_law, case_end, case_on}

@@ -13,10 +13,11 @@ ghost use Rattle.bound.specs.SmallTree.{nodes_e, nodes_s, nodes_b, nodes_c, eval
 use table::{LAST, node};
 
 // The bounds of a signal's evaluation and of its update as one number, so that a recursion answers both in a register.
+// (The contract of bound_s says its answer by such a number.)
 fn bounds(eval: u32, update: u32) -> u64
     ensures { (eval_in result ≡ eval) × (update_in result ≡ update) }
 {
-    (eval as u64) + 4294967296 * (update as u64)
+    u64::from(eval) + 4294967296 * u64::from(update)
 }
 
 // The bound of its evaluation.
@@ -37,7 +38,7 @@ fn update_in(m: u64) -> u32
 fn larger(m: u32, n: u32) -> u32
     ensures { result ≡ max m n }
 {
-    if n <= m { m } else { n }
+    m.max(n)
 }
 
 // One rule over one part.

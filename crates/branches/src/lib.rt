@@ -18,8 +18,5 @@ pub fn has_branch(p: &[u8], index: &[u16; 10080], j: usize, k: usize) -> bool
     if k > j {
         return false;
     }
-    if kind_by(p, index, k) != 9 {
-        return false;
-    }
-    number_of(index, k) == j
+    kind_by(p, index, k) == 9 && number_of(index, k) == j
 }

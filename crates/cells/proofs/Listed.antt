@@ -1,6 +1,6 @@
 -- Who names a branch: the group whose first it is, or the branch whose next it is, and no other node.
 -- Assumes nothing.
-use Rattle.std.specs.Prelude.{if◌then◌else◌}
+use Rattle.std.specs.Prelude.{if◌then◌else◌, None}
 use mathlib.Core.Path.{◌≡◌, refl, sym, ap, subst, ◌∙◌}
 use mathlib.Core.Bool.{Bool, true, false}
 use Prim.Native.Nat.{ℕ, zero, suc, ◌+◌, ◌-◌, ◌≤◌, ◌<◌}
@@ -15,7 +15,6 @@ use Rattle.rules.specs.Shape.{is_child, names, names_in, named_below, named, sha
 use Rattle.rules.specs.Shaped.{NodeOf}
 use Rattle.rules.specs.declared.Field.{Field}
 use Rattle.rules.specs.declared.Field.TheVariants.{Unused, Channel, PresentByte, Signal, Expression, FirstBranch, NextBranch, FirstCase, NextCase, Binder, Target}
-use Rattle.rules.specs.declared.Place.TheVariants.{Nowhere}
 use Rattle.rules.specs.declared.TypeField.{TypeField}
 use Rattle.rules.specs.declared.Fields.{Fields}
 use Rattle.rules.proofs.Static.{and_both, not_both}
@@ -196,7 +195,7 @@ module _ (p : Bytes) where
       (λ d. omega (arith, d, w.inside))
 
   -- and where the shape is right each node but the last is named once.
-  pub listed_once : first (shape_wrong p) (nodes p) ≡ Nowhere → NodeOf is_signal p (nodes p - 1) → ListedOnce p
+  pub listed_once : first (shape_wrong p) (nodes p) ≡ None → NodeOf is_signal p (nodes p - 1) → ListedOnce p
   unfolding first shape_wrong
   listed_once e r n w =
       let h = branch_not_last n r w in

@@ -7,7 +7,7 @@ use native.Mathlib.Omega.{arith}
 use lib.ListN.{length, length-set, get_or, set}
 use lib.Seq.{get_or-set_same, get_or-set_other}
 use Rattle.rules.specs.Bytes.{Bytes, u16_at}
-use Rattle.rules.specs.Layout.{nodes, most_nodes, record_at, block_at, kind_at, type_at, a_at, b_at, c_at, word_at}
+use Rattle.rules.specs.Layout.{nodes, most_nodes, record_at, block_at, type_at, a_at, b_at, c_at}
 use Rattle.rules.specs.Values.{packed, value_from}
 use Rattle.rules.specs.Node.{IsNode}
 use Rattle.rules.specs.declared.Node.{Node}

@@ -10,7 +10,7 @@ ghost use Rattle.rules.specs.Shaped.{Shaped};
 ghost use Rattle.cells.specs.Indexed.{ListedOnce, Numbers, SignalsKept, ListedFrom, Listed, table_room, Stored, Spread, Row, Elsewhere, Indexed};
 
 use rules::Node;
-use table::{LAST, node, node_at, u32_at};
+use table::{LAST, half_at, node, node_at, u32_at};
 use values::pack_from;
 
 // Where the columns of the table begin, behind the numbers of 1,008 nodes: the kinds, the types, the fields a, b and c, and the values, four
@@ -27,19 +27,12 @@ const FIELDS_C: usize = 5040;
 
 const VALUES: usize = 6048;
 
-// A 32-bit number as a 64-bit one.
-fn wide(x: u32) -> u64
-    ensures { (result ≡ x) × (result < 4294967296) }
-{
-    x as u64
-}
-
 // The number of 8 bytes at a position.
 pub fn u64_at(s: &[u8], at: usize) -> u64
     requires { at + 8 ≤ length s.now }
     ensures { result ≡ u64_at s.now at }
 {
-    wide(u32_at(s, at)) + 4294967296 * wide(u32_at(s, at + 4))
+    u64::from(u32_at(s, at)) + 4294967296 * u64::from(u32_at(s, at + 4))
 }
 
 // A number written as so many bytes: one loop for every width.
@@ -48,20 +41,18 @@ pub fn put(s: &mut [u8], at: usize, x: u64, count: usize)
     ensures { s.new ≡ write_at s.old at (bytes_of count x) }
 {
     let mut left = x;
-    let mut k: usize = 0;
-    while k < count {
+    for k in 0..count {
         s[at + k] = (left % 256) as u8;
-        left = left / 256;
-        k += 1;
+        left /= 256;
     }
 }
 
-// A number written as 4 bytes.
+// A number written as 4 bytes. (This and the next are put at the two widths that crates above write: no loop of their own.)
 pub fn put32(s: &mut [u8], at: usize, x: u32)
     requires { at + 4 ≤ length s.old }
     ensures { s.new ≡ write_at s.old at (bytes_of 4 x) }
 {
-    put(s, at, wide(x), 4);
+    put(s, at, u64::from(x), 4);
 }
 
 // A number written as 8 bytes.
@@ -127,13 +118,7 @@ pub fn kind_of(p: &[u8], i: usize) -> u8
 fn has_cell(k: u8) -> bool
     ensures { result ≡ has_cell k }
 {
-    if k == 4 {
-        return true;
-    }
-    if k == 6 {
-        return true;
-    }
-    k == 7
+    matches!(k, 4 | 6 | 7)
 }
 
 // What the table has for node i: the number of its cell, or of the first branch of its list.
@@ -141,7 +126,7 @@ pub fn number_of(index: &[u16], i: usize) -> usize
     requires { i < length index.now }
     ensures { result ≡ get_or index.now i 0 }
 {
-    index[i] as usize
+    usize::from(index[i])
 }
 
 // The content of the cell of node i.
@@ -181,10 +166,8 @@ pub fn index_branches(p: &[u8], index: &mut [u16], count: usize)
     requires { Shaped p.now × ListedOnce p.now × (count ≡ nodes p.now) × (count ≤ length index.old) }
     ensures { Listed p.now index.new × SignalsKept p.now index.old index.new }
 {
-    let mut left = count;
-    while left > 0 {
-        left -= 1;
-        name_branch(p, index, left);
+    for i in (0..count).rev() {
+        name_branch(p, index, i);
     }
 }
 
@@ -194,29 +177,12 @@ pub fn count_cells(p: &[u8], count: usize) -> usize
     ensures { result ≡ cells_before p.now count }
 {
     let mut seen: usize = 0;
-    let mut i: usize = 0;
-    while i < count {
+    for i in 0..count {
         if has_cell(kind_of(p, i)) {
             seen += 1;
         }
-        i += 1;
     }
     seen
-}
-
-// A byte as a 16-bit number.
-fn wide16(x: u8) -> u16
-    ensures { (result ≡ x) × (result < 256) }
-{
-    x as u16
-}
-
-// The number of 2 bytes at a position.
-fn short_at(p: &[u8], at: usize) -> u16
-    requires { at + 2 ≤ length p.now }
-    ensures { (result ≡ u16_at p.now at) × (result < 65536) }
-{
-    wide16(p[at]) + 256 * wide16(p[at + 1])
 }
 
 // A number put into the table.
@@ -247,13 +213,13 @@ fn put_row(p: &[u8], index: &mut [u16], i: usize)
 {
     let n = node(p, i);
     let at = node_at(p, i);
-    let b = short_at(p, at + 4);
-    let v = pack_from(n.ty, b as usize, n.word);
-    store(index, KINDS + i, wide16(n.kind));
-    store(index, TYPES + i, wide16(n.ty));
-    store(index, FIELDS_A + i, short_at(p, at + 2));
+    let b = half_at(p, at + 4);
+    let v = pack_from(n.ty, usize::from(b), n.word);
+    store(index, KINDS + i, u16::from(n.kind));
+    store(index, TYPES + i, u16::from(n.ty));
+    store(index, FIELDS_A + i, half_at(p, at + 2));
     store(index, FIELDS_B + i, b);
-    store(index, FIELDS_C + i, short_at(p, at + 6));
+    store(index, FIELDS_C + i, half_at(p, at + 6));
     store_value(index, VALUES + 4 * i, v);
 }
 
@@ -262,10 +228,8 @@ fn index_rows(p: &[u8], index: &mut [u16], count: usize)
     requires { Shaped p.now × (count ≡ nodes p.now) × (table_room ≤ length index.old) × Listed p.now index.old × Numbers p.now index.old }
     ensures { Indexed p.now index.new }
 {
-    let mut i: usize = 0;
-    while i < count {
+    for i in 0..count {
         put_row(p, index, i);
-        i += 1;
     }
 }
 
@@ -275,13 +239,11 @@ pub fn index_cells(p: &[u8], index: &mut [u16], count: usize) -> usize
     ensures { Indexed p.now index.new × (result ≡ cells_before p.now count) }
 {
     let mut seen: usize = 0;
-    let mut i: usize = 0;
-    while i < count {
+    for i in 0..count {
         index[i] = seen as u16;
         if has_cell(kind_of(p, i)) {
             seen += 1;
         }
-        i += 1;
     }
     index_branches(p, index, count);
     index_rows(p, index, count);
@@ -293,7 +255,7 @@ fn column(index: &[u16], at: usize) -> usize
     requires { at < length index.now }
     ensures { (result ≡ get_or index.now at 0) × (result < 65536) }
 {
-    index[at] as usize
+    usize::from(index[at])
 }
 
 // The fields of node i, by the table. (The word, which values have from the table, is read from the record.)

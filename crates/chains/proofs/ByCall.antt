@@ -1,5 +1,7 @@
 -- The call beside the check of the same program; and any two calls that keep the promise are one.
 -- Assumes nothing.
+use Rattle.std.specs.Prelude.{Ok, None, Err}
+use Rattle.rules.specs.Verdicts.{Verdict, accepted_with}
 use mathlib.Core.Path.{◌≡◌, refl, sym, ap, subst, ◌∙◌}
 use mathlib.Core.List.{List, [], ◌∷◌}
 use Prim.Native.Nat.{ℕ, ◌<◌}
@@ -9,15 +11,9 @@ use Rattle.rules.specs.Bytes.{Bytes}
 use Rattle.rules.specs.Layout.{a_at, most_nodes}
 use Rattle.rules.specs.Answers.{code_of}
 use Rattle.rules.specs.Calls.{program_verdict, check_answer, check_call}
-use Rattle.rules.specs.declared.Place.TheVariants.{At, Nowhere}
 use Rattle.rules.specs.declared.Refusal.{Refusal}
 use Rattle.rules.specs.declared.Refusal.TheVariants.{ProgramLength, CheckSum, BlockNumber, RecordFault, ShapeFault, ScopeFault, TypeFault, NotReady, StateFault, RecordsLength, OutputLength, InputFault, TimeBack, OtherProgram}
-use Rattle.rules.specs.declared.Verdict.{Verdict}
-use Rattle.rules.specs.declared.Verdict.TheVariants.{Fine, Refuse}
-use Rattle.rules.specs.declared.Checked.{Checked}
-use Rattle.rules.specs.declared.Checked.TheVariants.{Accepted}
-use Rattle.chains.specs.declared.Explained.{Explained}
-use Rattle.chains.specs.declared.Explained.TheVariants.{Chain, NoLet, RoomLength}
+use Rattle.chains.specs.declared.NoChain.TheVariants.{NoLet, RoomLength}
 use Rattle.chains.specs.Chain.{chain_of}
 use Rattle.chains.specs.Explain.{ExplainOutcome, let_of, filled, explain_let, explain_at, explain_outcome, explain_call}
 use Rattle.chains.specs.Explains.{Explaining, Told, AsAsked}
@@ -29,24 +25,24 @@ pub one_explain : {f g : Bytes → List ℕ → ExplainOutcome} → Explaining f
 one_explain a b p room = a.as_ruled p room ∙ sym (b.as_ruled p room)
 
 -- What check answers is its verdict.
-refused_verdict : (p : Bytes) (r : Refusal) → check_call p ≡ Checked.Refused r → program_verdict p ≡ Refuse r
+refused_verdict : (p : Bytes) (r : Refusal) → check_call p ≡ Err r → program_verdict p ≡ Err r
 unfolding check_call check_answer
 refused_verdict p r e = go (program_verdict p) e
   where
-    go : (v : Verdict) → check_answer p v ≡ Checked.Refused r → v ≡ Refuse r
-    go Fine e = cc
-    go (Refuse q) e = cc
+    go : (v : Verdict) → check_answer p v ≡ Err r → v ≡ Err r
+    go (Ok _) e = cc
+    go (Err q) e = cc
 
-fine_verdict : (p : Bytes) (n cells bound type : ℕ) → check_call p ≡ Accepted n cells bound type → program_verdict p ≡ Fine
+fine_verdict : (p : Bytes) (n cells bound type : ℕ) → check_call p ≡ accepted_with n cells bound type → program_verdict p ≡ Ok tt
 unfolding check_call check_answer
 fine_verdict p n cells bound type e = go (program_verdict p) e
   where
-    go : (v : Verdict) → check_answer p v ≡ Accepted n cells bound type → v ≡ Fine
-    go Fine e = refl
-    go (Refuse q) e = cc
+    go : (v : Verdict) → check_answer p v ≡ accepted_with n cells bound type → v ≡ Ok tt
+    go (Ok _) e = refl
+    go (Err q) e = cc
 
 -- A code below 8 names no let.
-none_below : (r : Refusal) → code_of r < 8 → let_of r ≡ Nowhere
+none_below : (r : Refusal) → code_of r < 8 → let_of r ≡ None
 none_below ProgramLength h = refl
 none_below (CheckSum j) h = refl
 none_below (BlockNumber j) h = refl
@@ -63,10 +59,10 @@ none_below (TimeBack j) h = refl
 none_below OtherProgram h = refl
 
 -- A program that code 8 refuses at x.
-at_let : (p : Bytes) (room : List ℕ) (x : ℕ) → program_verdict p ≡ Refuse (NotReady x) → explain_call p room ≡ explain_let p room x
+at_let : (p : Bytes) (room : List ℕ) (x : ℕ) → program_verdict p ≡ Err (NotReady x) → explain_call p room ≡ explain_let p room x
 at_let p room x e = refused_so p room (NotReady x) e ∙ a_let p room (NotReady x) x refl
 
-told : (p : Bytes) (room : List ℕ) (x : ℕ) → program_verdict p ≡ Refuse (NotReady x) → length room ≡ most_nodes → Told p x (explain_call p room)
+told : (p : Bytes) (room : List ℕ) (x : ℕ) → program_verdict p ≡ Err (NotReady x) → length room ≡ most_nodes → Told p x (explain_call p room)
 unfolding filled
 told p room x e l =
     let w = (explainable p (NotReady x) x e refl).named_so in
@@ -77,7 +73,7 @@ told p room x e l =
       not_ready = w.not_ready;
       rest = h.rest;
       first = h.first;
-      answered = ap (λ (q : ExplainOutcome). q.answer) o ∙ ap (λ (ns : List ℕ). Chain x (length ns)) h.is;
+      answered = ap (λ (q : ExplainOutcome). q.answer) o ∙ ap (λ (ns : List ℕ). Ok (record { of = x; entries = length ns })) h.is;
       written = ap (λ (q : ExplainOutcome). q.room) o ∙ ap filled h.is;
     }
 

@@ -1,6 +1,7 @@
 -- The verdict that a let is not ready: codes 1-7 found nothing, and the let is one that has a chain.
 -- Assumes nothing.
-use Rattle.std.specs.Prelude.{if◌then◌else◌}
+use Rattle.std.specs.Prelude.{if◌then◌else◌, Option, Some, None, Ok, Err, ℕ}
+use Rattle.rules.specs.Verdicts.{Verdict}
 use mathlib.Core.Path.{◌≡◌, refl, sym, ap, ◌∙◌}
 use mathlib.Core.Bool.{Bool, true, false}
 use Prim.Native.Nat.{ℕ, ◌-◌}
@@ -15,12 +16,8 @@ use Rattle.rules.specs.Typing.{type_fault}
 use Rattle.rules.specs.Ready.{ready_fault}
 use Rattle.rules.specs.Accepted.{Formed}
 use Rattle.rules.specs.Calls.{◌otherwise◌, refuse_if, refuse_at, program_verdict}
-use Rattle.rules.specs.declared.Place.{Place}
-use Rattle.rules.specs.declared.Place.TheVariants.{At, Nowhere}
 use Rattle.rules.specs.declared.Refusal.{Refusal}
 use Rattle.rules.specs.declared.Refusal.TheVariants.{ProgramLength, CheckSum, BlockNumber, RecordFault, ShapeFault, ScopeFault, TypeFault, NotReady}
-use Rattle.rules.specs.declared.Verdict.{Verdict}
-use Rattle.rules.specs.declared.Verdict.TheVariants.{Fine, Refuse}
 use Rattle.rules.proofs.Verdicts.{if_fine, at_fine}
 use Rattle.rules.proofs.Established.{shaped, root_signal}
 use Rattle.rules.proofs.Rooted.{some_node}
@@ -28,40 +25,40 @@ use Rattle.chains.specs.Explain.{let_of}
 use Rattle.chains.proofs.Exactly.{Named, named_let}
 
 -- The let that a verdict names.
-let_in : Verdict → Place
-let_in Fine = Nowhere
-let_in (Refuse r) = let_of r
+let_in : Verdict → Option ℕ
+let_in (Ok _) = None
+let_in (Err r) = let_of r
 
-nowhere_at : {A : Type 0} {n : ℕ} → Nowhere ≡ At n → A
+nowhere_at : {A : Type 0} {n : ℕ} → None ≡ Some n → A
 nowhere_at e = absurd (let z : ◌≡◌ {A = ℕ} 0 1 = cc in omega arith)
 
 -- A verdict that names no let comes before one that does: it is fine.
-skip : (v w : Verdict) {n : ℕ} → let_in v ≡ Nowhere → let_in (v otherwise w) ≡ At n → (v ≡ Fine) × (let_in w ≡ At n)
+skip : (v w : Verdict) {n : ℕ} → let_in v ≡ None → let_in (v otherwise w) ≡ Some n → (v ≡ Ok tt) × (let_in w ≡ Some n)
 unfolding let_in ◌otherwise◌
-skip Fine w z e = (refl, e)
-skip (Refuse r) w z e = nowhere_at (sym z ∙ e)
+skip (Ok _) w z e = (refl, e)
+skip (Err r) w z e = nowhere_at (sym z ∙ e)
 
-none_if : (b : Bool) (r : Refusal) → let_of r ≡ Nowhere → let_in (refuse_if b r) ≡ Nowhere
+none_if : (b : Bool) (r : Refusal) → let_of r ≡ None → let_in (refuse_if b r) ≡ None
 unfolding let_in refuse_if
 none_if true r e = e
 none_if false r e = refl
 
-none_at : (reason : ℕ → Refusal) (q : Place) → ((n : ℕ) → let_of (reason n) ≡ Nowhere) → let_in (refuse_at reason q) ≡ Nowhere
+none_at : (reason : ℕ → Refusal) (q : Option ℕ) → ((n : ℕ) → let_of (reason n) ≡ None) → let_in (refuse_at reason q) ≡ None
 unfolding let_in refuse_at
-none_at reason (At n) e = e n
-none_at reason Nowhere e = refl
+none_at reason (Some n) e = e n
+none_at reason None e = refl
 
-last : (q : Place) {n : ℕ} → let_in (refuse_at NotReady q) ≡ At n → q ≡ At n
+last : (q : Option ℕ) {n : ℕ} → let_in (refuse_at NotReady q) ≡ Some n → q ≡ Some n
 unfolding let_in refuse_at
-last (At m) e = e
-last Nowhere e = nowhere_at e
+last (Some m) e = e
+last None e = nowhere_at e
 
 -- What the verdict establishes of the program and of the let.
 pub record Explainable (p : Bytes) (n : ℕ) : Type 0 where
   pub shaped_so : Shaped p
   pub named_so : Named p n
 
-pub explainable : (p : Bytes) (r : Refusal) (n : ℕ) → program_verdict p ≡ Refuse r → let_of r ≡ At n → Explainable p n
+pub explainable : (p : Bytes) (r : Refusal) (n : ℕ) → program_verdict p ≡ Err r → let_of r ≡ Some n → Explainable p n
 unfolding program_verdict let_in
 explainable p r n e q =
     let a = skip (refuse_if (length_wrong p) ProgramLength) _ (none_if _ _ refl) (ap let_in e ∙ q) in

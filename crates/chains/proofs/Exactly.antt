@@ -1,5 +1,6 @@
 -- For each let a chain exists exactly when it is not ready; the function's is the first; and code 8 names such a let.
 -- Assumes nothing.
+use Rattle.std.specs.Prelude.{Some}
 use mathlib.Core.Path.{◌≡◌, refl, sym, ap, subst, ◌∙◌}
 use mathlib.Core.Bool.{Bool, true, false}
 use mathlib.Core.List.{List, [], ◌∷◌}
@@ -12,7 +13,6 @@ use Rattle.rules.specs.Kinds.{is_signal}
 use Rattle.rules.specs.Shaped.{Shaped, NodeOf}
 use Rattle.rules.specs.Tree.{signal_at, root}
 use Rattle.rules.specs.Ready.{needs_s, ready_fault}
-use Rattle.rules.specs.declared.Place.TheVariants.{At}
 use Rattle.rules.proofs.Static.{not_both}
 use Rattle.rules.proofs.Kids.{Child}
 use Rattle.rules.proofs.Signals.{let_kids}
@@ -75,7 +75,7 @@ pub record Named (p : Bytes) (n : ℕ) : Type 0 where
   pub not_ready : NotReady p n
   pub explained : HasChain p n
 
-pub named_let : (p : Bytes) (n : ℕ) → NodeOf is_signal p (nodes p - 1) → ready_fault p ≡ At n → Named p n
+pub named_let : (p : Bytes) (n : ℕ) → NodeOf is_signal p (nodes p - 1) → ready_fault p ≡ Some n → Named p n
 unfolding ready_fault root
 named_let p n w e =
     let u : Unready p n = place_unready p (nodes p - 1) n w e in

@@ -1,6 +1,6 @@
 -- The place that readiness gives is a let of the table that is not ready.
 -- Assumes nothing.
-use Rattle.std.specs.Prelude.{if◌then◌else◌}
+use Rattle.std.specs.Prelude.{if◌then◌else◌, Option, Some, None, ℕ}
 use mathlib.Core.Path.{◌≡◌, refl, sym, ap, subst, ◌∙◌}
 use mathlib.Core.Bool.{Bool, true, false}
 use Prim.Native.Nat.{ℕ, zero, suc, min, ◌-◌, ◌≤◌, ◌<◌}
@@ -15,8 +15,6 @@ use Rattle.rules.specs.Shaped.{NodeOf}
 use Rattle.rules.specs.Places.{sooner, wrong_if}
 use Rattle.rules.specs.Tree.{signal_at, branches_at, cases_at}
 use Rattle.rules.specs.Ready.{needs_s, ready_s, ready_b, ready_c}
-use Rattle.rules.specs.declared.Place.{Place}
-use Rattle.rules.specs.declared.Place.TheVariants.{At, Nowhere}
 use Rattle.rules.proofs.Nodes.{signal_input, signal_time}
 use Rattle.rules.proofs.Kids.{Child}
 use Rattle.rules.proofs.Signals.{ext_tree, delay_kid, delay_tree, let_kids, let_tree, switch_kids, switch_tree, group_kids, group_tree, until_kids, until_tree, branch_kid, branch_next, branch_end, branch_on, case_kid, case_next, case_end, case_on}
@@ -24,30 +22,30 @@ use Rattle.rules.proofs.ByKind.{SignalKind, is_input, is_time, is_ext, is_delay,
 use Rattle.chains.specs.Explains.{IsLet, NotReady}
 
 -- No place is not a place.
-not_at : {A : Type 0} {n : ℕ} → Nowhere ≡ At n → A
+not_at : {A : Type 0} {n : ℕ} → None ≡ Some n → A
 not_at e = absurd (let z : ◌≡◌ {A = ℕ} 0 1 = cc in omega arith)
 
 -- The number of a place.
-number : Place → ℕ
-number (At n) = n
-number Nowhere = 0
+number : Option ℕ → ℕ
+number (Some n) = n
+number None = 0
 
-smaller_at : (m k n : ℕ) → At (min m k) ≡ At n → (A : Type 0) → (At m ≡ At n → A) → (At k ≡ At n → A) → A
+smaller_at : (m k n : ℕ) → Some (min m k) ≡ Some n → (A : Type 0) → (Some m ≡ Some n → A) → (Some k ≡ Some n → A) → A
 smaller_at m k n e A f g = go (leb m k) refl
   where
     go : (b : Bool) → leb m k ≡ b → A
-    go true h = f (ap At (sym (min-eq_left (leb-true m k h))) ∙ e)
-    go false h = g (ap At (sym (min-eq_left (let z : k ≤ m = omega (arith, leb-false m k h) in z))) ∙ ap At (min_comm k m) ∙ e)
+    go true h = f (ap Some (sym (min-eq_left (leb-true m k h))) ∙ e)
+    go false h = g (ap Some (sym (min-eq_left (let z : k ≤ m = omega (arith, leb-false m k h) in z))) ∙ ap Some (min_comm k m) ∙ e)
 
 -- The smaller of two places is one of them.
-by_sooner : (q r : Place) {A : Type 0} {n : ℕ} → sooner q r ≡ At n → (q ≡ At n → A) → (r ≡ At n → A) → A
+by_sooner : (q r : Option ℕ) {A : Type 0} {n : ℕ} → sooner q r ≡ Some n → (q ≡ Some n → A) → (r ≡ Some n → A) → A
 unfolding sooner
-by_sooner Nowhere r e f g = g e
-by_sooner (At m) Nowhere e f g = f e
-by_sooner (At m) (At k) {A} {n} e f g = smaller_at m k n e A f g
+by_sooner None r e f g = g e
+by_sooner (Some m) None e f g = f e
+by_sooner (Some m) (Some k) {A} {n} e f g = smaller_at m k n e A f g
 
 -- A rule that is broken at a place.
-by_wrong : (t : Bool) (m : ℕ) {n : ℕ} → wrong_if t m ≡ At n → (t ≡ true) × (m ≡ n)
+by_wrong : (t : Bool) (m : ℕ) {n : ℕ} → wrong_if t m ≡ Some n → (t ≡ true) × (m ≡ n)
 unfolding wrong_if number
 by_wrong true m e = (refl, ap number e)
 by_wrong false m e = not_at e
@@ -60,24 +58,24 @@ pub record Unready (p : Bytes) (n : ℕ) : Type 0 where
 
 module _ (p : Bytes) where
   record Found (i : ℕ) : Type 0 where
-    signals : NodeOf is_signal p i → (n : ℕ) → ready_s (signal_at p i) ≡ At n → Unready p n
-    branches : NodeOf is_branch p i → (n : ℕ) → ready_b (branches_at p i) ≡ At n → Unready p n
-    cases : NodeOf is_case p i → (n : ℕ) → ready_c (cases_at p i) ≡ At n → Unready p n
+    signals : NodeOf is_signal p i → (n : ℕ) → ready_s (signal_at p i) ≡ Some n → Unready p n
+    branches : NodeOf is_branch p i → (n : ℕ) → ready_b (branches_at p i) ≡ Some n → Unready p n
+    cases : NodeOf is_case p i → (n : ℕ) → ready_c (cases_at p i) ≡ Some n → Unready p n
 
   module _ (i : ℕ) (ih : (m : ℕ) → m < i → Found m) (n : ℕ) where
-    sub : {m : ℕ} → Child is_signal p i m → ready_s (signal_at p m) ≡ At n → Unready p n
+    sub : {m : ℕ} → Child is_signal p i m → ready_s (signal_at p m) ≡ Some n → Unready p n
     sub {m} c e = (ih m c.less).signals c.node n e
 
-    brs : {m : ℕ} → Child is_branch p i m → ready_b (branches_at p m) ≡ At n → Unready p n
+    brs : {m : ℕ} → Child is_branch p i m → ready_b (branches_at p m) ≡ Some n → Unready p n
     brs {m} c e = (ih m c.less).branches c.node n e
 
-    cs : {m : ℕ} → Child is_case p i m → ready_c (cases_at p m) ≡ At n → Unready p n
+    cs : {m : ℕ} → Child is_case p i m → ready_c (cases_at p m) ≡ Some n → Unready p n
     cs {m} c e = (ih m c.less).cases c.node n e
 
     here : NodeOf is_signal p i → kind_at p i ≡ 5 → (needs_s i (signal_at p (a_at p i)) ≡ true) × (i ≡ n) → Unready p n
     here w k h = subst (Unready p) h.1 (record { node = w; kind = k; needed = h.0 })
 
-    signal_at_lem : NodeOf is_signal p i → SignalKind (kind_at p i) → ready_s (signal_at p i) ≡ At n → Unready p n
+    signal_at_lem : NodeOf is_signal p i → SignalKind (kind_at p i) → ready_s (signal_at p i) ≡ Some n → Unready p n
     unfolding ready_s
     signal_at_lem w (is_input e) h = not_at (sym (ap ready_s (signal_input p i e)) ∙ h)
     signal_at_lem w (is_time e) h = not_at (sym (ap ready_s (signal_time p i e)) ∙ h)
@@ -96,14 +94,14 @@ module _ (p : Bytes) where
         let k = until_kids p i w e in
         by_sooner _ _ (sym (ap ready_s (until_tree p i w e)) ∙ h) (sub k.0) (cs k.1)
 
-    branch_at : NodeOf is_branch p i → ready_b (branches_at p i) ≡ At n → Unready p n
+    branch_at : NodeOf is_branch p i → ready_b (branches_at p i) ≡ Some n → Unready p n
     unfolding ready_s
     branch_at w h =
         choose (b_at p i) 65535
         (λ e. by_sooner _ _ (sym (ap ready_b (branch_end p i w e)) ∙ h) (sub (branch_kid p i w)) not_at)
         (λ d. by_sooner _ _ (sym (ap ready_b (branch_on p i w d)) ∙ h) (sub (branch_kid p i w)) (brs (branch_next p i w d)))
 
-    case_at : NodeOf is_case p i → ready_c (cases_at p i) ≡ At n → Unready p n
+    case_at : NodeOf is_case p i → ready_c (cases_at p i) ≡ Some n → Unready p n
     unfolding ready_s
     case_at w h =
         choose (b_at p i) 65535
@@ -120,5 +118,5 @@ module _ (p : Bytes) where
         cases = λ w n. case_at i ih n w;
       }
 
-pub place_unready : (p : Bytes) (i n : ℕ) → NodeOf is_signal p i → ready_s (signal_at p i) ≡ At n → Unready p n
+pub place_unready : (p : Bytes) (i n : ℕ) → NodeOf is_signal p i → ready_s (signal_at p i) ≡ Some n → Unready p n
 place_unready p i n w e = (found p (suc i) i (omega arith)).signals w n e

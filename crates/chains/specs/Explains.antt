@@ -1,20 +1,19 @@
 -- The theorems' statements: "for each let such a chain exists exactly when it is not ready", and the call's chain is the first one.
 -- Assumes nothing: these are definitions.
-use Rattle.std.specs.Prelude.{◌≡◌, true, List, ◌∷◌, ◌++◌, ℕ, ◌-◌, ◌<◌, length, replicate}
+use Rattle.rules.specs.Verdicts.{accepted_with}
+use Rattle.std.specs.Prelude.{◌≡◌, true, List, ◌∷◌, ◌++◌, ℕ, ◌-◌, ◌<◌, length, replicate, Ok, Err}
 use Rattle.rules.specs.Bytes.{Bytes}
 use Rattle.rules.specs.Layout.{nodes, kind_at, a_at, no_next, most_nodes}
 use Rattle.rules.specs.Answers.{code_of}
 use Rattle.rules.specs.Calls.{check_call}
 use Rattle.rules.specs.declared.Refusal.{Refusal}
-use Rattle.rules.specs.declared.Checked.{Checked}
-use Rattle.rules.specs.declared.Checked.TheVariants.{Accepted}
 use Rattle.rules.specs.Tree.{signal_at}
 use Rattle.rules.specs.Ready.{needs_s}
 use Rattle.chains.specs.Chain.{Which, chain_of}
 use Rattle.chains.specs.Leads.{Leads, FirstChain}
 use Rattle.chains.specs.Explain.{ExplainOutcome, explain_call}
-use Rattle.chains.specs.declared.Explained.{Explained}
-use Rattle.chains.specs.declared.Explained.TheVariants.{Chain, NoLet, RoomLength}
+use Rattle.chains.specs.declared.NoChain.{NoChain}
+use Rattle.chains.specs.declared.NoChain.TheVariants.{NoLet, RoomLength}
 
 -- Node x is a let of the program.
 pub record IsLet (p : Bytes) (x : ℕ) : Type 0 where
@@ -48,14 +47,14 @@ pub record Told (p : Bytes) (x : ℕ) (o : ExplainOutcome) : Type 0 where
   pub not_ready : NotReady p x
   pub rest : List ℕ
   pub first : FirstChain p x (a_at p x) rest
-  pub answered : o.answer ≡ Chain x (length (a_at p x ∷ rest))
+  pub answered : o.answer ≡ Ok (record { of = x; entries = length (a_at p x ∷ rest) })
   pub written : o.room ≡ (a_at p x ∷ rest) ++ replicate (most_nodes - length (a_at p x ∷ rest)) no_next
 
 -- The call beside the check of the same program: "codes 1-7 as in the check, then 25 if there is no let to explain, then 26 if the room for
 -- node numbers is not exactly 1,008 entries"; "the let is the one that code 8 names".
 pub record AsAsked (p : Bytes) (room : List ℕ) : Type 0 where
-  pub early : (r : Refusal) → check_call p ≡ Checked.Refused r → code_of r < 8 → explain_call p room ≡ record { answer = Explained.Refused r; room = room }
-  pub no_let : (n cells bound type : ℕ) → check_call p ≡ Accepted n cells bound type → explain_call p room ≡ record { answer = NoLet; room = room }
-  pub wrong_room : (x : ℕ) → check_call p ≡ Checked.Refused (Refusal.NotReady x) → (length room ≡ most_nodes → ⊥)
-      → explain_call p room ≡ record { answer = RoomLength; room = room }
-  pub explained : (x : ℕ) → check_call p ≡ Checked.Refused (Refusal.NotReady x) → length room ≡ most_nodes → Told p x (explain_call p room)
+  pub early : (r : Refusal) → check_call p ≡ Err r → code_of r < 8 → explain_call p room ≡ record { answer = Err (NoChain.Refused r); room = room }
+  pub no_let : (n cells bound type : ℕ) → check_call p ≡ accepted_with n cells bound type → explain_call p room ≡ record { answer = Err NoLet; room = room }
+  pub wrong_room : (x : ℕ) → check_call p ≡ Err (Refusal.NotReady x) → (length room ≡ most_nodes → ⊥)
+      → explain_call p room ≡ record { answer = Err RoomLength; room = room }
+  pub explained : (x : ℕ) → check_call p ≡ Err (Refusal.NotReady x) → length room ≡ most_nodes → Told p x (explain_call p room)

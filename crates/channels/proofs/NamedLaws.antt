@@ -1,25 +1,39 @@
--- A search over the places from the last one on, and eight bits.
+-- A search over the places, and eight bits.
 -- Assumes nothing.
-use mathlib.Core.Path.{◌≡◌, refl, sym, ap, ◌∙◌}
+use mathlib.Core.Path.{◌≡◌, refl, ap, ◌∙◌}
 use mathlib.Core.Bool.{Bool, true, false}
-use Prim.Native.Nat.{ℕ, zero, suc, ◌+◌, ◌-◌, ◌*◌, ◌<◌}
+use Rattle.std.proofs.Common.{List, [], ◌∷◌, ◌++◌, ◌||◌}
+use Rattle.std.specs.List.{list_any, range_with_len}
+use Rattle.std.proofs.lemmas.List.Folds.{list_any-append}
+use Prim.Native.Nat.{ℕ, zero, suc, ◌+◌, ◌*◌}
 use native.Mathlib.Omega.{arith}
 use Rattle.rules.specs.Bytes.{Bytes, ◌or◌}
 use Rattle.rules.specs.Layout.{nodes}
 use Rattle.channels.specs.Named.{input_of, some_below, named, bit_of, named_channels}
 
-module _ (test : ℕ → Bool) where
-  -- The last place first: where the test holds there, it holds somewhere.
-  pub here : (i : ℕ) → 0 < i → test (i - 1) ≡ true → some_below test i ≡ true
-  unfolding some_below ◌or◌
-  here zero h e = absurd (omega arith)
-  here (suc i) h e = let k : suc i - 1 ≡ i = omega arith in rw (sym (ap test k) ∙ e)
+-- One place more in a range.
+range_more : (a n : ℕ) → range_with_len a (suc n) ≡ range_with_len a n ++ (a + n) ∷ []
+range_more a zero = let e : a ≡ a + 0 = omega arith in ap (λ (x : ℕ). x ∷ []) e
+range_more a (suc n) =
+    let e : (a + 1) + n ≡ a + suc n = omega arith in
+    ap (λ (xs : List ℕ). a ∷ xs) (range_more (a + 1) n ∙ ap (λ (x : ℕ). range_with_len (a + 1) n ++ x ∷ []) e)
 
-  -- Where it does not, only the places before count.
-  pub not_here : (i : ℕ) → 0 < i → test (i - 1) ≡ false → some_below test (i - 1) ≡ some_below test i
-  unfolding some_below ◌or◌
-  not_here zero h e = absurd (omega arith)
-  not_here (suc i) h e = let k : suc i - 1 ≡ i = omega arith in rw (k, sym (ap test k) ∙ e)
+swapped : (x y : Bool) → (x || (y || false)) ≡ (y or x)
+unfolding ◌or◌
+swapped true true = refl
+swapped true false = refl
+swapped false true = refl
+swapped false false = refl
+
+-- Some of the places below n passes: the search from the first on finds one where that from the last on does.
+pub any_below : (test : ℕ → Bool) (n : ℕ) → list_any test (range_with_len 0 n) ≡ some_below test n
+unfolding some_below
+any_below test zero = refl
+any_below test (suc n) =
+    let last : 0 + n ≡ n = omega arith in
+    ap (list_any test) (range_more 0 n) ∙ list_any-append test (range_with_len 0 n) ((0 + n) ∷ [])
+    ∙ swapped (list_any test (range_with_len 0 n)) (test (0 + n)) ∙ ap (λ (x : ℕ). test x or list_any test (range_with_len 0 n)) last
+    ∙ ap (λ (b : Bool). test n or b) (any_below test n)
 
 -- Eight bits, each of the first n nodes, are the program's where n is the count of its nodes.
 pub bits_are : (p : Bytes) {n b₀ b₁ b₂ b₃ b₄ b₅ b₆ b₇ : ℕ} → n ≡ nodes p

@@ -5,7 +5,6 @@ ghost use Rattle.std.specs.Prelude.{◌≡◌, ◌≤◌, ◌<◌};
 ghost use Rattle.rules.specs.Layout.{records, kind_at, a_at, nodes};
 ghost use Rattle.channels.specs.Named.{input_of, some_below, bit_of, named_channels};
 
-use kinds::both;
 use table::{record_at, u16_at};
 
 // The kind of record r.
@@ -31,12 +30,10 @@ fn count_nodes(p: &[u8]) -> usize
     ensures { (result ≡ nodes p.now) × (result ≤ records p.now) }
 {
     let count = 42 * (p.len() / 512);
-    let mut r: usize = 0;
-    while r < count {
+    for r in 0..count {
         if kind_at(p, r) == 0 {
             return r;
         }
-        r += 1;
     }
     count
 }
@@ -46,7 +43,8 @@ fn is_input_of(p: &[u8], k: usize, i: usize) -> bool
     requires { i < records p.now }
     ensures { result ≡ input_of p.now k i }
 {
-    both(kind_at(p, i) == 1, a_at(p, i) == k)
+    let is_input = kind_at(p, i) == 1;
+    is_input && a_at(p, i) == k
 }
 
 // Some of the first n nodes is such a node.
@@ -54,25 +52,19 @@ fn names(p: &[u8], n: usize, k: usize) -> bool
     requires { n ≤ records p.now }
     ensures { result ≡ some_below (input_of p.now k) n }
 {
-    let mut i: usize = n;
-    while 0 < i {
-        i -= 1;
-        if is_input_of(p, k, i) {
-            return true;
-        }
-    }
-    false
+    (0..n).any(|i| is_input_of(p, k, i))
 }
 
 // The bit of channel k.
+#[tactic(auto, unfolding(crate::specs::Named::bit_of))]
 fn bit(p: &[u8], n: usize, k: usize) -> u8
     requires { n ≤ records p.now }
     ensures { (result ≡ bit_of (some_below (input_of p.now k) n)) × (result ≤ 1) }
 {
-    if names(p, n, k) { 1 } else { 0 }
+    u8::from(names(p, n, k))
 }
 
-// A bit a channel: that of channel k is 1 exactly where some input node names channel k.
+// A bit a channel: that of channel k is 1 exactly where some input node names channel k. The sum is that of the definition named_channels.
 pub fn named_channels(p: &[u8]) -> u8
     ensures { result ≡ named_channels p.now }
 {

@@ -1,25 +1,25 @@
 -- The twelve numbers of the room that a caller lends for an answer: code, place, steps, work, nodes, cells, bound, type, wrapped, length,
 -- entries, node. Each call's are laid out from the paper's numbers of its answer (crates rules, chains, mends, rewritten, dropped, beside, texts),
 -- and those that an answer does not give are 0. Assumes nothing: these are definitions.
-use Rattle.std.specs.Prelude.{ℕ, List, [], ◌∷◌, eqb, get_or, if◌then◌else◌}
+use Rattle.rules.specs.Verdicts.{CheckAnswer, StartAnswer, RunAnswer}
+use Rattle.std.specs.Prelude.{ℕ, List, [], ◌∷◌, eqb, get_or, if◌then◌else◌, Result}
 use Rattle.rules.specs.Bytes.{◌or◌}
 use Rattle.rules.specs.Answers.{checked_numbers, started_numbers, ran_numbers}
-use Rattle.rules.specs.declared.Checked.{Checked}
-use Rattle.rules.specs.declared.Started.{Started}
-use Rattle.rules.specs.declared.Ran.{Ran}
 use Rattle.chains.specs.Explain.{explained_numbers}
-use Rattle.chains.specs.declared.Explained.{Explained}
+use Rattle.chains.specs.declared.Chain.{Chain}
+use Rattle.chains.specs.declared.NoChain.{NoChain}
 use Rattle.mends.specs.MendCall.{mended_numbers}
-use Rattle.mends.specs.declared.Mended.{Mended}
+use Rattle.mends.specs.declared.Unmended.{Unmended}
 use Rattle.rewritten.specs.TidyCall.{tidied_numbers}
-use Rattle.rewritten.specs.declared.Tidied.{Tidied}
+use Rattle.written.specs.declared.TableSize.{TableSize}
+use Rattle.rewritten.specs.declared.Untidied.{Untidied}
 use Rattle.dropped.specs.PairedCall.{paired_numbers}
-use Rattle.dropped.specs.declared.Paired.{Paired}
+use Rattle.dropped.specs.declared.Unpaired.{Unpaired}
 use Rattle.beside.specs.Numbers.{watched_numbers}
-use Rattle.watched.specs.declared.Watched.{Watched}
+use Rattle.watched.specs.declared.ListFault.{ListFault}
 use Rattle.texts.specs.Answers.{read_numbers, printed_numbers}
-use Rattle.texts.specs.declared.TextRead.{TextRead}
-use Rattle.texts.specs.declared.TextPrinted.{TextPrinted}
+use Rattle.texts.specs.declared.NoTable.{NoTable}
+use Rattle.texts.specs.declared.NoText.{NoText}
 
 -- Number k of an answer's numbers. Number 0 is the code, 0 where the call went through.
 abbrev pub number : List ℕ → ℕ → ℕ
@@ -77,63 +77,63 @@ abbrev pub printed_done : List ℕ → List ℕ
 printed_done ns = twelve 0 0 0 0 0 0 0 0 0 (number ns 1) 0 0
 
 -- The room after each call.
-abbrev pub checked_room : Checked → List ℕ
+abbrev pub checked_room : CheckAnswer → List ℕ
 checked_room a = laid_out checked_done (checked_numbers a)
 
-abbrev pub started_room : Started → List ℕ
+abbrev pub started_room : StartAnswer → List ℕ
 started_room a = laid_out started_done (started_numbers a)
 
-abbrev pub ran_room : Ran → List ℕ
+abbrev pub ran_room : RunAnswer → List ℕ
 ran_room a = laid_out ran_done (ran_numbers a)
 
-abbrev pub explained_room : Explained → List ℕ
+abbrev pub explained_room : Result Chain NoChain → List ℕ
 explained_room a = laid_out explained_done (explained_numbers a)
 
-abbrev pub mended_room : Mended → List ℕ
+abbrev pub mended_room : Result ℕ Unmended → List ℕ
 mended_room a = laid_out mended_done (mended_numbers a)
 
-abbrev pub tidied_room : Tidied → List ℕ
+abbrev pub tidied_room : Result TableSize Untidied → List ℕ
 tidied_room a = laid_out tidied_done (tidied_numbers a)
 
-abbrev pub paired_room : Paired → List ℕ
+abbrev pub paired_room : Result (Unit {0}) Unpaired → List ℕ
 paired_room a = laid_out paired_done (paired_numbers a)
 
-abbrev pub watched_room : Watched → List ℕ
+abbrev pub watched_room : Result RunAnswer ListFault → List ℕ
 watched_room a = laid_out ran_done (watched_numbers a)
 
-abbrev pub read_room : TextRead → List ℕ
+abbrev pub read_room : Result TableSize NoTable → List ℕ
 read_room a = laid_out read_done (read_numbers a)
 
-abbrev pub printed_room : TextPrinted → List ℕ
+abbrev pub printed_room : Result ℕ NoText → List ℕ
 printed_room a = laid_out printed_done (printed_numbers a)
 
 -- The code that a call answers besides.
-abbrev pub checked_code : Checked → ℕ
+abbrev pub checked_code : CheckAnswer → ℕ
 checked_code a = code (checked_numbers a)
 
-abbrev pub started_code : Started → ℕ
+abbrev pub started_code : StartAnswer → ℕ
 started_code a = code (started_numbers a)
 
-abbrev pub ran_code : Ran → ℕ
+abbrev pub ran_code : RunAnswer → ℕ
 ran_code a = code (ran_numbers a)
 
-abbrev pub explained_code : Explained → ℕ
+abbrev pub explained_code : Result Chain NoChain → ℕ
 explained_code a = code (explained_numbers a)
 
-abbrev pub mended_code : Mended → ℕ
+abbrev pub mended_code : Result ℕ Unmended → ℕ
 mended_code a = code (mended_numbers a)
 
-abbrev pub tidied_code : Tidied → ℕ
+abbrev pub tidied_code : Result TableSize Untidied → ℕ
 tidied_code a = code (tidied_numbers a)
 
-abbrev pub paired_code : Paired → ℕ
+abbrev pub paired_code : Result (Unit {0}) Unpaired → ℕ
 paired_code a = code (paired_numbers a)
 
-abbrev pub watched_code : Watched → ℕ
+abbrev pub watched_code : Result RunAnswer ListFault → ℕ
 watched_code a = code (watched_numbers a)
 
-abbrev pub read_code : TextRead → ℕ
+abbrev pub read_code : Result TableSize NoTable → ℕ
 read_code a = code (read_numbers a)
 
-abbrev pub printed_code : TextPrinted → ℕ
+abbrev pub printed_code : Result ℕ NoText → ℕ
 printed_code a = code (printed_numbers a)

@@ -11,13 +11,14 @@ ghost use Rattle.watched.specs.Watch.{watch_call};
 ghost use Rattle.texts.specs.Calls.{read_call, print_call};
 ghost use Rattle.couplerfinch.specs.Room.{steps_done, refused_room, checked_room, started_room, ran_room, explained_room, mended_room, tidied_room, paired_room, watched_room, read_room, printed_room, checked_code, started_code, ran_code, explained_code, mended_code, tidied_code, paired_code, watched_code, read_code, printed_code};
 
-use chains::Explained;
-use dropped::Paired;
-use mends::Mended;
-use rewritten::Tidied;
-use rules::{Checked, Ran, Started, code_of, place_of};
-use texts::{TextPrinted, TextRead};
-use watched::Watched;
+use chains::{Chain, NoChain};
+use dropped::Unpaired;
+use mends::Unmended;
+use rewritten::Untidied;
+use rules::{Checked, Ran, Refusal, Stopped, code_of, place_of};
+use texts::{NoTable, NoText};
+use watched::ListFault;
+use written::TableSize;
 
 // Whole steps done before a refusal.
 fn steps_done(code: u32, place: u32) -> u32
@@ -51,149 +52,162 @@ fn put_refused(code: u32, place: u32, work: u32, answer: &mut [u32; 12]) -> u32
 }
 
 // The answer of check, as numbers.
-fn put_checked(found: Checked, answer: &mut [u32; 12]) -> u32
+fn put_checked(found: Result<Checked, Refusal>, answer: &mut [u32; 12]) -> u32
     ensures { (result ≡ checked_code found) × (answer.new ≡ checked_room found) }
 {
     match found {
-        Checked::Accepted(nodes, cells, bound, ty) => {
-            *answer = [0, 0, 0, 0, nodes, cells, bound, ty as u32, 0, 0, 0, 0];
+        Ok(found) => {
+            *answer = [
+                0,
+                0,
+                0,
+                0,
+                found.nodes,
+                found.cells,
+                found.bound,
+                found.root as u32,
+                0,
+                0,
+                0,
+                0,
+            ];
             0
         }
-        Checked::Refused(r) => put_refused(code_of(r) as u32, place_of(r), 0, answer),
+        Err(r) => put_refused(code_of(r) as u32, place_of(r), 0, answer),
     }
 }
 
 // The answer of start, as numbers.
-fn put_started(found: Started, answer: &mut [u32; 12]) -> u32
+fn put_started(found: Result<(), Refusal>, answer: &mut [u32; 12]) -> u32
     ensures { (result ≡ started_code found) × (answer.new ≡ started_room found) }
 {
     match found {
-        Started::Ready => {
+        Ok(()) => {
             *answer = [0, 0, 0, 0, 0, 0, 0, 0, 0, 0, 0, 0];
             0
         }
-        Started::Refused(r) => put_refused(code_of(r) as u32, place_of(r), 0, answer),
+        Err(r) => put_refused(code_of(r) as u32, place_of(r), 0, answer),
     }
 }
 
 // The answer of run, as numbers.
-fn put_ran(found: Ran, answer: &mut [u32; 12]) -> u32
+fn put_ran(found: Result<Ran, Stopped>, answer: &mut [u32; 12]) -> u32
     ensures { (result ≡ ran_code found) × (answer.new ≡ ran_room found) }
 {
     match found {
-        Ran::Finished(steps, work, wrapped) => {
-            *answer = [0, 0, steps, work, 0, 0, 0, 0, wrapped, 0, 0, 0];
+        Ok(ran) => {
+            *answer = [0, 0, ran.steps, ran.work, 0, 0, 0, 0, ran.wrapped, 0, 0, 0];
             0
         }
-        Ran::Refused(r, work, wrapped) => put_stopped(
-            code_of(r) as u32,
-            place_of(r),
-            work,
-            wrapped,
+        Err(stop) => put_stopped(
+            code_of(stop.why) as u32,
+            place_of(stop.why),
+            stop.work,
+            stop.wrapped,
             answer,
         ),
     }
 }
 
 // The answer of explain, as numbers.
-fn put_explained(found: Explained, answer: &mut [u32; 12]) -> u32
+fn put_explained(found: Result<Chain, NoChain>, answer: &mut [u32; 12]) -> u32
     ensures { (result ≡ explained_code found) × (answer.new ≡ explained_room found) }
 {
     match found {
-        Explained::Chain(node, entries) => {
-            *answer = [0, 0, 0, 0, 0, 0, 0, 0, 0, 0, entries, node];
+        Ok(chain) => {
+            *answer = [0, 0, 0, 0, 0, 0, 0, 0, 0, 0, chain.entries, chain.of];
             0
         }
-        Explained::Refused(r) => put_refused(code_of(r) as u32, place_of(r), 0, answer),
-        Explained::NoLet => put_refused(25, 0, 0, answer),
-        Explained::RoomLength => put_refused(26, 0, 0, answer),
+        Err(NoChain::Refused(r)) => put_refused(code_of(r) as u32, place_of(r), 0, answer),
+        Err(NoChain::NoLet) => put_refused(25, 0, 0, answer),
+        Err(NoChain::RoomLength) => put_refused(26, 0, 0, answer),
     }
 }
 
 // The answer of mend, as numbers.
-fn put_mended(found: Mended, answer: &mut [u32; 12]) -> u32
+fn put_mended(found: Result<u32, Unmended>, answer: &mut [u32; 12]) -> u32
     ensures { (result ≡ mended_code found) × (answer.new ≡ mended_room found) }
 {
     match found {
-        Mended::Listed(entries) => {
+        Ok(entries) => {
             *answer = [0, 0, 0, 0, 0, 0, 0, 0, 0, 0, entries, 0];
             0
         }
-        Mended::Refused(r) => put_refused(code_of(r) as u32, place_of(r), 0, answer),
-        Mended::ListLength => put_refused(16, 0, 0, answer),
+        Err(Unmended::Refused(r)) => put_refused(code_of(r) as u32, place_of(r), 0, answer),
+        Err(Unmended::ListLength) => put_refused(16, 0, 0, answer),
     }
 }
 
 // The answer of tidy, as numbers.
-fn put_tidied(found: Tidied, answer: &mut [u32; 12]) -> u32
+fn put_tidied(found: Result<TableSize, Untidied>, answer: &mut [u32; 12]) -> u32
     ensures { (result ≡ tidied_code found) × (answer.new ≡ tidied_room found) }
 {
     match found {
-        Tidied::Table(nodes, length) => {
-            *answer = [0, 0, 0, 0, nodes, 0, 0, 0, 0, length, 0, 0];
+        Ok(size) => {
+            *answer = [0, 0, 0, 0, size.nodes, 0, 0, 0, 0, size.bytes, 0, 0];
             0
         }
-        Tidied::Refused(r) => put_refused(code_of(r) as u32, place_of(r), 0, answer),
-        Tidied::RoomShort => put_refused(19, 0, 0, answer),
+        Err(Untidied::Refused(r)) => put_refused(code_of(r) as u32, place_of(r), 0, answer),
+        Err(Untidied::RoomShort) => put_refused(19, 0, 0, answer),
     }
 }
 
 // The answer of paired, as numbers.
-fn put_paired(found: Paired, answer: &mut [u32; 12]) -> u32
+fn put_paired(found: Result<(), Unpaired>, answer: &mut [u32; 12]) -> u32
     ensures { (result ≡ paired_code found) × (answer.new ≡ paired_room found) }
 {
     match found {
-        Paired::Accepted => {
+        Ok(()) => {
             *answer = [0, 0, 0, 0, 0, 0, 0, 0, 0, 0, 0, 0];
             0
         }
-        Paired::OldRefused(r) => put_refused(code_of(r) as u32, place_of(r), 0, answer),
-        Paired::NewRefused(r) => put_refused(32 + code_of(r) as u32, place_of(r), 0, answer),
-        Paired::EditionsDiffer => put_refused(29, 0, 0, answer),
-        Paired::PairingLength => put_refused(27, 0, 0, answer),
-        Paired::EntryWrong(i) => put_refused(28, i, 0, answer),
+        Err(Unpaired::OldRefused(r)) => put_refused(code_of(r) as u32, place_of(r), 0, answer),
+        Err(Unpaired::NewRefused(r)) => put_refused(32 + code_of(r) as u32, place_of(r), 0, answer),
+        Err(Unpaired::EditionsDiffer) => put_refused(29, 0, 0, answer),
+        Err(Unpaired::PairingLength) => put_refused(27, 0, 0, answer),
+        Err(Unpaired::EntryWrong(i)) => put_refused(28, i, 0, answer),
     }
 }
 
 // The answer of watched, as numbers: a run's, or its list's refusal.
-fn put_watched(found: Watched, answer: &mut [u32; 12]) -> u32
+fn put_watched(found: Result<Result<Ran, Stopped>, ListFault>, answer: &mut [u32; 12]) -> u32
     ensures { (result ≡ watched_code found) × (answer.new ≡ watched_room found) }
 {
     match found {
-        Watched::AsRun(ran) => put_ran(ran, answer),
-        Watched::ListLength => put_stopped(17, 0, 0, 65535, answer),
-        Watched::ListEntry(j) => put_stopped(18, j, 0, 65535, answer),
+        Ok(ran) => put_ran(ran, answer),
+        Err(ListFault::ListLength) => put_stopped(17, 0, 0, 65535, answer),
+        Err(ListFault::ListEntry(j)) => put_stopped(18, j, 0, 65535, answer),
     }
 }
 
 // The answer of read, as numbers.
-fn put_read(found: TextRead, answer: &mut [u32; 12]) -> u32
+fn put_read(found: Result<TableSize, NoTable>, answer: &mut [u32; 12]) -> u32
     ensures { (result ≡ read_code found) × (answer.new ≡ read_room found) }
 {
     match found {
-        TextRead::Table(nodes, length) => {
-            *answer = [0, 0, 0, 0, nodes, 0, 0, 0, 0, length, 0, 0];
+        Ok(size) => {
+            *answer = [0, 0, 0, 0, size.nodes, 0, 0, 0, 0, size.bytes, 0, 0];
             0
         }
-        TextRead::BadWord(at) => put_refused(21, at, 0, answer),
-        TextRead::BadName(at) => put_refused(22, at, 0, answer),
-        TextRead::BadNumber(at) => put_refused(23, at, 0, answer),
-        TextRead::RoomShort => put_refused(24, 0, 0, answer),
-        TextRead::Refused(r) => put_refused(code_of(r) as u32, place_of(r), 0, answer),
+        Err(NoTable::BadWord(at)) => put_refused(21, at, 0, answer),
+        Err(NoTable::BadName(at)) => put_refused(22, at, 0, answer),
+        Err(NoTable::BadNumber(at)) => put_refused(23, at, 0, answer),
+        Err(NoTable::RoomShort) => put_refused(24, 0, 0, answer),
+        Err(NoTable::Refused(r)) => put_refused(code_of(r) as u32, place_of(r), 0, answer),
     }
 }
 
 // The answer of print, as numbers.
-fn put_printed(found: TextPrinted, answer: &mut [u32; 12]) -> u32
+fn put_printed(found: Result<u32, NoText>, answer: &mut [u32; 12]) -> u32
     ensures { (result ≡ printed_code found) × (answer.new ≡ printed_room found) }
 {
     match found {
-        TextPrinted::Text(length) => {
+        Ok(length) => {
             *answer = [0, 0, 0, 0, 0, 0, 0, 0, 0, length, 0, 0];
             0
         }
-        TextPrinted::Refused(r) => put_refused(code_of(r) as u32, place_of(r), 0, answer),
-        TextPrinted::RoomShort => put_refused(24, 0, 0, answer),
+        Err(NoText::Refused(r)) => put_refused(code_of(r) as u32, place_of(r), 0, answer),
+        Err(NoText::RoomShort) => put_refused(24, 0, 0, answer),
     }
 }
 

@@ -1,7 +1,7 @@
 -- In a well-formed state the update that puts only the current part to start is the update of the rules, of a signal that sits in its table of
 -- at most 1,023 nodes, is in scope, typed and ready, with every variable in scope bound.
 -- Assumes nothing.
-use Rattle.std.specs.Prelude.{if◌then◌else◌}
+use Rattle.std.specs.Prelude.{if◌then◌else◌, None}
 use mathlib.Core.Path.{◌≡◌, refl, ap, ◌∙◌}
 use mathlib.Core.List.{[], ◌∷◌}
 use mathlib.Core.Bool.{Bool, true}
@@ -25,8 +25,7 @@ use Rattle.rules.specs.Evaluate.{Env, bind, unbound, opened, eval_s}
 use Rattle.rules.specs.Update.{on_occurrence, on_event, caught, upd_s, upd_b, upd_c}
 use Rattle.rules.specs.Accepted.{Accepted}
 use Rattle.rules.specs.declared.Value.{Value}
-use Rattle.rules.specs.declared.Place.TheVariants.{Nowhere}
-use Rattle.rules.specs.declared.Evaluated.{Evaluated}
+use Rattle.rules.specs.Evaluated.{Evaluated}
 use Rattle.rules.proofs.Static.{both, kept, holds, and_both, not_both}
 use Rattle.promises.specs.Small.{Small}
 use Rattle.promises.specs.Valid.{Valid}
@@ -70,7 +69,7 @@ module _ (ed count cells : ℕ) (τ : ℕ → ℕ) (rec : Bytes) (hr : Small rec
 
     -- A signal's update.
     pub go_same : (s : Signal) → SitsS count cells τ s → ((k : ℕ) → times_s k s ≤ 1) → (Γ : Marks) (Δ : Offers) → Short Δ → (env : Env) → length env ≡ count
-        → scope_s ed Γ Δ s ≡ Nowhere → types_s s ≡ Nowhere → ready_s s ≡ Nowhere → AllKnown Γ τ env
+        → scope_s ed Γ Δ s ≡ None → types_s s ≡ None → ready_s s ≡ None → AllKnown Γ τ env
         → (st : Bytes) → Small st → length st ≡ cell_at cells → well_s st s ≡ true → go_s rec env s st ≡ upd_s rec env s st
     go_same (input n c) sits once Γ Δ short env l sc ty re kn st hs ls we = refl
     go_same (time n) sits once Γ Δ short env l sc ty re kn st hs ls we = refl
@@ -160,7 +159,7 @@ module _ (ed count cells : ℕ) (τ : ℕ → ℕ) (rec : Bytes) (hr : Small rec
 
     -- The branch that the content of cell k names, out of the rest of a group's: the group's other parts, with cells before, are at start.
     go_b_same : (brs : Branches) → SitsB count cells τ brs → (Γ : Marks) (Δ : Offers) → Short Δ → (env : Env) → length env ≡ count
-        → scope_b ed Γ Δ brs ≡ Nowhere → types_b brs ≡ Nowhere → ready_b brs ≡ Nowhere → AllKnown Γ τ env
+        → scope_b ed Γ Δ brs ≡ None → types_b brs ≡ None → ready_b brs ≡ None → AllKnown Γ τ env
         → (st : Bytes) → Small st → length st ≡ cell_at cells → (k : ℕ) (first : Signal) (all : Branches) (before : ℕ → ℕ)
         → ((j : ℕ) → is_cell j k + before j + times_b j brs ≤ 1)
         → ((st₁ : Bytes) → Small st₁ → Agree before st st₁ → reset_b all (reset_s first st₁) ≡ reset_b brs st₁)
@@ -199,7 +198,7 @@ module _ (ed count cells : ℕ) (τ : ℕ → ℕ) (rec : Bytes) (hr : Small rec
 
     -- The events of an until.
     go_c_same : (cs : Cases) → SitsC count cells τ cs → ((k : ℕ) → times_c k cs ≤ 1) → (Γ : Marks) (Δ : Offers) → Short Δ → (env : Env) → length env ≡ count
-        → scope_c ed Γ Δ cs ≡ Nowhere → types_c cs ≡ Nowhere → ready_c cs ≡ Nowhere → AllKnown Γ τ env
+        → scope_c ed Γ Δ cs ≡ None → types_c cs ≡ None → ready_c cs ≡ None → AllKnown Γ τ env
         → (st : Bytes) → Small st → length st ≡ cell_at cells → well_c st cs ≡ true → go_c rec env cs st ≡ upd_c rec env cs st
     go_c_same no_case sits once Γ Δ short env l sc ty re kn st hs ls we = refl
     go_c_same (case n event target t more) sits once Γ Δ short env l sc ty re kn st hs ls we =

@@ -1,5 +1,6 @@
 -- The targets of an until's cases in scope: each is the number of a branch, so it is one of 10 bits and the until takes the same case with it.
 -- Assumes nothing.
+use Rattle.std.specs.Prelude.{None}
 use mathlib.Core.Path.{◌≡◌, refl, ap, ◌∙◌}
 use mathlib.Core.List.{[], ◌∷◌}
 use mathlib.Core.Bool.{true, false}
@@ -13,7 +14,6 @@ use Rattle.rules.specs.Tree.{Branches, no_branch, branch, Cases, no_case, case}
 use Rattle.rules.specs.Scope.{Marks, Offers, onward, has_branch, is_offered, scope_s, scope_c}
 use Rattle.rules.specs.Evaluate.{Env, eval_s}
 use Rattle.rules.specs.Update.{occurs, first_present}
-use Rattle.rules.specs.declared.Place.TheVariants.{Nowhere}
 use Rattle.rules.proofs.Static.{both, holds, not_both}
 use Rattle.promises.specs.Sits.{SitsB}
 use Rattle.promises.proofs.ValidLaws.{or_cases}
@@ -60,7 +60,7 @@ unfolding shortly
 shortly_same target less = rw (lt-ltb target 1023 less) refl
 
 -- so the first present event of an until is the same one.
-pub soonest_same : (ed : ℕ) (rec st : Bytes) (env : Env) (Γ : Marks) (Δ : Offers) (cs : Cases) → Short Δ → scope_c ed Γ Δ cs ≡ Nowhere
+pub soonest_same : (ed : ℕ) (rec st : Bytes) (env : Env) (Γ : Marks) (Δ : Offers) (cs : Cases) → Short Δ → scope_c ed Γ Δ cs ≡ None
     → soonest rec st env cs ≡ first_present rec st env cs
 unfolding soonest first_present scope_s
 soonest_same ed rec st env Γ Δ no_case short sc = refl

@@ -12,8 +12,7 @@ use Rattle.rules.specs.Evaluate.{Env, bind, opened, eval_s}
 use Rattle.rules.specs.Reset.{reset_s}
 use Rattle.rules.specs.Update.{occurs, on_occurrence, on_event}
 use Rattle.rules.specs.declared.Value.{Value}
-use Rattle.rules.specs.declared.Occurrence.{Occurrence}
-use Rattle.rules.specs.declared.Occurrence.TheVariants.{Quiet}
+use Rattle.rules.specs.Occurrence.{Occurrence, Quiet}
 
 -- A target as a number of 10 bits: 1,023, which no branch has, stands for every number from there on.
 unfoldable pub shortly : ℕ → ℕ

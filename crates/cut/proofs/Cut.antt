@@ -1,7 +1,8 @@
 -- j): cutting a list of records at any record and running the two parts one after the other gives the same outputs, final state and summed
 -- work, and the first wrapped step of both.
 -- Assumes nothing.
-use Rattle.std.specs.Prelude.{if◌then◌else◌}
+use Rattle.std.specs.Prelude.{if◌then◌else◌, Ok, Err}
+use Rattle.rules.specs.Verdicts.{RunAnswer, Verdict, finished_with, refused_after}
 use mathlib.Core.Path.{◌≡◌, refl, sym, ap, ◌∙◌}
 use mathlib.Core.Bool.{Bool, true, false, not}
 use mathlib.Core.List.{[], ◌++◌, append_assoc, append-nil}
@@ -17,10 +18,6 @@ use Rattle.rules.specs.WellFormed.{well_formed}
 use Rattle.rules.specs.Accepted.{Accepted}
 use Rattle.rules.specs.Calls.{◌otherwise◌, refuse_if, program_verdict, lent_verdict, record_verdict, RunOutcome, no_step, run_from, run_outcome, run_call}
 use Rattle.rules.specs.Update.{step_of}
-use Rattle.rules.specs.declared.Verdict.{Verdict}
-use Rattle.rules.specs.declared.Verdict.TheVariants.{Fine, Refuse}
-use Rattle.rules.specs.declared.Ran.{Ran}
-use Rattle.rules.specs.declared.Ran.TheVariants.{Finished}
 use Rattle.rules.proofs.Static.{and_both}
 use Rattle.rules.proofs.Kids.{not_not}
 use Rattle.rules.proofs.Verdicts.{both_fine, if_fine, accepted, fine_verdict}
@@ -48,7 +45,7 @@ pub record Lent (p st recs out : Bytes) : Type 0 where
   pub few : length recs / input_length ≤ 4096
   pub room : length out ≡ 8 * (length recs / input_length)
 
-pub lent_fine : (p st recs out : Bytes) → lent_verdict p st recs out (fits recs) ≡ Fine → Lent p st recs out
+pub lent_fine : (p st recs out : Bytes) → lent_verdict p st recs out (fits recs) ≡ Ok tt → Lent p st recs out
 unfolding lent_verdict fits
 lent_fine p st recs out e =
     let a = both_fine _ _ e in
@@ -63,7 +60,7 @@ lent_fine p st recs out e =
       room = eqb-true _ _ (not_not _ (if_fine _ _ c.1));
     }
 
-pub fine_lent : (p st recs out : Bytes) → Lent p st recs out → lent_verdict p st recs out (fits recs) ≡ Fine
+pub fine_lent : (p st recs out : Bytes) → Lent p st recs out → lent_verdict p st recs out (fits recs) ≡ Ok tt
 unfolding lent_verdict fits ◌and◌ ◌otherwise◌ refuse_if
 fine_lent p st recs out l =
     rw (fine_verdict p l.accepts, state_fine p st l.well, eq-eqb _ _ l.even, le-leb _ _ l.few, eq-eqb _ _ l.room)
@@ -76,13 +73,13 @@ run_is p st recs out l =
     ap (run_outcome p st recs out) (fine_lent p st recs out l) ∙ run_walk (length recs / input_length) p recs 0 0 no_step st out
 
 -- A run that is not refused was lent what it should be.
-was_lent : (p st recs out : Bytes) (steps work mark : ℕ) → (run_call p st recs out).answer ≡ Finished steps work mark → Lent p st recs out
+was_lent : (p st recs out : Bytes) (steps work mark : ℕ) → (run_call p st recs out).answer ≡ finished_with steps work mark → Lent p st recs out
 unfolding run_call run_outcome fits
 was_lent p st recs out steps work mark = go (lent_verdict p st recs out (fits recs)) refl
   where
-    go : (v : Verdict) → lent_verdict p st recs out (fits recs) ≡ v → (run_outcome p st recs out v).answer ≡ Finished steps work mark → Lent p st recs out
-    go Fine e f = lent_fine p st recs out e
-    go (Refuse r) e f = absurd (not_finished f)
+    go : (v : Verdict) → lent_verdict p st recs out (fits recs) ≡ v → (run_outcome p st recs out v).answer ≡ finished_with steps work mark → Lent p st recs out
+    go (Ok _) e f = lent_fine p st recs out e
+    go (Err r) e f = absurd (not_finished f)
 
 -- A walk from a well-formed state leaves a well-formed state, and ends with no code below 12.
 record Ends (p : Bytes) (r : Walk) : Type 0 where
@@ -90,9 +87,9 @@ record Ends (p : Bytes) (r : Walk) : Type 0 where
   bytes : Small r.state
   answers : Made₁₂ r.answer
 
-made₁₂ : (p : Bytes) (left done work : ℕ) (a : Ran) → AnswersRun p left done work a → Made₁₂ a
-made₁₂ p left done work (Finished steps total mark) e = tt
-made₁₂ p left done work (Ran.Refused r total mark) e = e.0.0
+made₁₂ : (p : Bytes) (left done work : ℕ) (a : RunAnswer) → AnswersRun p left done work a → Made₁₂ a
+made₁₂ p left done work (Ok end) e = tt
+made₁₂ p left done work (Err stop) e = e.0.0
 
 walk_ends_well : (p st recs : Bytes) → Small p → Small st → Small recs → Accepted p → well_formed p st ≡ true → (n : ℕ) → Ends p (walk p recs n 0 0 no_step st)
 unfolding in_room
@@ -105,7 +102,7 @@ walk_ends_well p st recs hp hs hr acc well n =
 module _ (out₁ out₂ out : Bytes) (steps work mark : ℕ) (r₁ r₂ : Walk) (l₁ : length out₁ ≡ length r₁.written)
     (f₁ : length r₁.written ≡ 8 * steps) (c₂ : length r₂.written ≡ 8 * steps_in r₂.answer)
     (l₂ : length r₂.written ≤ length out₂) (l : length out ≡ length out₁ + length out₂)
-    (full : (steps₂ work₂ mark₂ : ℕ) → r₂.answer ≡ Finished steps₂ work₂ mark₂ → length out₂ ≡ length r₂.written) where
+    (full : (steps₂ work₂ mark₂ : ℕ) → r₂.answer ≡ finished_with steps₂ work₂ mark₂ → length out₂ ≡ length r₂.written) where
   -- What the whole's room holds after the two parts' bytes.
   rest_is : (bs : Bytes) → length bs ≡ length r₁.written → drop (length (r₁.written ++ r₂.written)) out ≡ drop (length bs + length r₂.written) out
   rest_is bs e = ap (λ (n : ℕ). drop n out) (let z : length (r₁.written ++ r₂.written) ≡ length bs + length r₂.written = omega (arith, length-append r₁.written r₂.written) in z)
@@ -142,7 +139,7 @@ module _ (out₁ out₂ out : Bytes) (steps work mark : ℕ) (r₁ r₂ : Walk) 
         state = ap (λ (o : RunOutcome). o.state) ec ∙ sym (ap (λ (o : RunOutcome). o.state) eb);
         answer = ap (λ (o : RunOutcome). o.answer) ec ∙ sym (ap (counted_on steps work mark) ab);
         written = r₂.written;
-        counted = c₂ ∙ sym (ap (λ (x : Ran). 8 * steps_in x) ab);
+        counted = c₂ ∙ sym (ap (λ (x : RunAnswer). 8 * steps_in x) ab);
         into₂ = ob ∙ second_is;
         into = oc ∙ whole_is ∙ (λ i. sym (oa ∙ first_is) i ++ (r₂.written ++ drop (length (sym (oa ∙ first_is) i) + length r₂.written) out));
         finished = λ steps₂ work₂ mark₂ e.
@@ -200,7 +197,7 @@ cut p st recs₁ recs₂ out₁ out₂ out steps work mark hp hs h₁ h₂ at =
     let r₁ : Walk = walk p recs₁ m 0 0 no_step st in
     let r₂ : Walk = walk p recs₂ n 0 0 no_step r₁.state in
     let a_is = run_is p st recs₁ out₁ l₁ in
-    let done : r₁.answer ≡ Finished steps work mark = sym (ap (λ (o : RunOutcome). o.answer) a_is) ∙ at.not_refused in
+    let done : r₁.answer ≡ finished_with steps work mark = sym (ap (λ (o : RunOutcome). o.answer) a_is) ∙ at.not_refused in
     let w₁ = whole m p recs₁ 0 0 no_step st steps work mark done in
     let e₁ = walk_ends_well p st recs₁ hp hs h₁ acc l₁.well m in
     let e₂ = walk_ends_well p r₁.state recs₂ hp e₁.bytes h₂ acc e₁.well n in

@@ -1,7 +1,9 @@
 -- A run of records is a run of the first of them and, from the state that it leaves, a run of the rest; and a run that counts from later on is
 -- the run that counts from the cut, with its steps, places and work summed.
 -- Assumes nothing.
-use Rattle.std.specs.Prelude.{if◌then◌else◌}
+use Rattle.std.specs.Prelude.{if◌then◌else◌, Ok, Err}
+use Rattle.rules.proofs.Same.{same_finished}
+use Rattle.rules.specs.Verdicts.{RunAnswer, Verdict, finished_with, refused_after}
 use mathlib.Core.Path.{◌≡◌, refl, sym, ap, ◌∙◌}
 use mathlib.Core.Bool.{Bool, true, false}
 use mathlib.Core.List.{[], ◌++◌, append_assoc}
@@ -21,10 +23,6 @@ use Rattle.rules.specs.declared.Value.{Value}
 use Rattle.rules.specs.declared.Tally.{Tally}
 use Rattle.rules.specs.declared.Refusal.{Refusal}
 use Rattle.rules.specs.declared.Refusal.TheVariants.{StateFault, InputFault, TimeBack}
-use Rattle.rules.specs.declared.Verdict.{Verdict}
-use Rattle.rules.specs.declared.Verdict.TheVariants.{Fine, Refuse}
-use Rattle.rules.specs.declared.Ran.{Ran}
-use Rattle.rules.specs.declared.Ran.TheVariants.{Finished}
 use Rattle.rooms.specs.Walk.{Walk, showing, walk}
 use Rattle.rooms.proofs.WalkLaws.{eight, walk_next, walk_stops, walk_stuck, by_record, not_finished}
 use Rattle.rules.proofs.Verdicts.{not_fine}
@@ -41,14 +39,12 @@ behind_showing v bs r =
 
 -- The first part's walk, and then the rest's.
 pub walk_split : (m n : ℕ) (p recs : Bytes) (done work mark : ℕ) (st : Bytes) (steps total first : ℕ)
-    → (walk p recs m done work mark st).answer ≡ Finished steps total first
+    → (walk p recs m done work mark st).answer ≡ finished_with steps total first
     → walk p recs (m + n) done work mark st
     ≡ behind (walk p recs m done work mark st).written (walk p recs n steps total first (walk p recs m done work mark st).state)
 unfolding walk behind showing
 walk_split zero n p recs done work mark st steps total first e =
-    let d : done ≡ steps = cc in
-    let t : work ≡ total = cc in
-    let f : mark ≡ first = cc in
+    let (d, t, f) = same_finished e in
     let z : 0 + n ≡ n = omega arith in
     λ i. walk p recs (z i) (d i) (t i) (f i) st
 walk_split (suc m) n p recs done work mark st steps total first e =
@@ -70,16 +66,16 @@ counting d w m r = record { answer = counted_on d w m r.answer; state = r.state;
 
 -- The verdict on a record: fine in both, or refused in both, the place counted from the cut or from the start.
 laterᵛ : ℕ → Verdict → Verdict
-laterᵛ d Fine = Fine
-laterᵛ d (Refuse r) = Refuse (later d r)
+laterᵛ d (Ok _) = Ok tt
+laterᵛ d (Err r) = Err (later d r)
 
 verdict_later : (d done : ℕ) (st rec : Bytes) → record_verdict (d + done) st rec ≡ laterᵛ d (record_verdict done st rec)
 unfolding record_verdict laterᵛ refuse_if ◌otherwise◌
 verdict_later d done st rec = go (input_wrong rec) (time_wrong st rec)
   where
     go : (a b : Bool)
-        → ((if a then Refuse (InputFault (d + done)) else Fine) otherwise (if b then Refuse (TimeBack (d + done)) else Fine))
-        ≡ laterᵛ d ((if a then Refuse (InputFault done) else Fine) otherwise (if b then Refuse (TimeBack done) else Fine))
+        → ((if a then Err (InputFault (d + done)) else Ok tt) otherwise (if b then Err (TimeBack (d + done)) else Ok tt))
+        ≡ laterᵛ d ((if a then Err (InputFault done) else Ok tt) otherwise (if b then Err (TimeBack done) else Ok tt))
     go true b = refl
     go false true = refl
     go false false = refl
@@ -141,24 +137,24 @@ walk_later (suc left) p recs recs₂ d w m same done work mark st k l =
     ∙ sym (ap (counting d w m) (walk_next p recs₂ left done work mark st e f)))
 
 -- A refused record's place is the number of steps done.
-refused_place : (done : ℕ) (st rec : Bytes) (r : Refusal) → record_verdict done st rec ≡ Refuse r → place_of r ≡ done
+refused_place : (done : ℕ) (st rec : Bytes) (r : Refusal) → record_verdict done st rec ≡ Err r → place_of r ≡ done
 unfolding record_verdict ◌otherwise◌ refuse_if
 refused_place done st rec r = go (input_wrong rec) (time_wrong st rec)
   where
-    known : (q : Refusal) → place_of q ≡ done → Refuse q ≡ Refuse r → place_of r ≡ done
+    known : (q : Refusal) → place_of q ≡ done → ◌≡◌ {A = Verdict} (Err q) (Err r) → place_of r ≡ done
     known q h e = let z : q ≡ r = cc in rw z at h
 
     go : (a b : Bool)
-        → ((if a then Refuse (InputFault done) else Fine) otherwise (if b then Refuse (TimeBack done) else Fine)) ≡ Refuse r
+        → ((if a then Err (InputFault done) else Ok tt) otherwise (if b then Err (TimeBack done) else Ok tt)) ≡ Err r
         → place_of r ≡ done
     go true b e = known (InputFault done) refl e
     go false true e = known (TimeBack done) refl e
     go false false e = absurd (not_fine (sym e))
 
 -- An answer that is no code below 12.
-abbrev pub Made₁₂ : Ran → Type 0
-Made₁₂ (Finished steps work mark) = Unit {0}
-Made₁₂ (Ran.Refused r work mark) = 12 ≤ code_of r
+abbrev pub Made₁₂ : RunAnswer → Type 0
+Made₁₂ (Ok end) = Unit {0}
+Made₁₂ (Err stop) = 12 ≤ code_of stop.why
 
 -- What is written is 8 bytes for each step that the answer tells of.
 counted_next : (done : ℕ) (v : Value) (r : Walk) → 8 * suc done + length r.written ≡ 8 * steps_in r.answer

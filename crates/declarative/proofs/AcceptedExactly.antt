@@ -1,6 +1,8 @@
 -- What check accepts is exactly what meets document 01's rules of format, shape, scope, types and readiness.
 -- Assumes nothing.
-use mathlib.Core.Path.{◌≡◌, refl, ap, subst, ◌∙◌}
+use Rattle.std.specs.Prelude.{Ok, Err}
+use Rattle.rules.specs.Verdicts.{Verdict, accepted_with}
+use mathlib.Core.Path.{◌≡◌, refl, ap, subst, ◌∙◌, sym}
 use mathlib.Core.List.{[]}
 use mathlib.Core.Bool.{true}
 use Prim.Native.Nat.{ℕ, ◌-◌}
@@ -16,13 +18,11 @@ use Rattle.rules.specs.Ready.{ready_fault}
 use Rattle.rules.specs.Accepted.{Accepted}
 use Rattle.rules.specs.Bound.{bound}
 use Rattle.rules.specs.Calls.{program_verdict, check_answer, check_call}
-use Rattle.rules.specs.declared.Checked.{Checked}
-use Rattle.rules.specs.declared.Verdict.{Verdict}
-use Rattle.rules.specs.declared.Verdict.TheVariants.{Fine, Refuse}
 use Rattle.rules.proofs.Static.{not_both}
 use Rattle.rules.proofs.Established.{root_signal}
 use Rattle.rules.proofs.Verdicts.{accepted, fine_verdict}
 use Rattle.rules.proofs.Rooted.{some_node, root_of}
+use Rattle.rules.proofs.Same.{same_accepted}
 use Rattle.declarative.specs.Contexts.{none}
 use Rattle.declarative.specs.TypedS.{TypedS}
 use Rattle.declarative.specs.Meets.{Meets}
@@ -63,7 +63,7 @@ typed_root p g w t =
     record { scoped = f.scoped; typed = f.typed; is = f.is }
 
 -- Accepted: it meets the rules.
-pub meets : (p : Bytes) → program_verdict p ≡ Fine → Meets p
+pub meets : (p : Bytes) → program_verdict p ≡ Ok tt → Meets p
 unfolding ready_fault
 meets p e =
     let a = accepted p e in
@@ -77,7 +77,7 @@ meets p e =
     }
 
 -- It meets the rules: accepted.
-pub accepts : (p : Bytes) → Meets p → program_verdict p ≡ Fine
+pub accepts : (p : Bytes) → Meets p → program_verdict p ≡ Ok tt
 unfolding ready_fault
 accepts p m =
     let f = format_each p m.formatted in
@@ -92,7 +92,7 @@ root_type p m =
     (typed_root p m.type (root_signal p f.length_right (shape_each p m.shaped) (some_node p f)) m.typed).is
 
 -- Accepted: it meets every sentence over the table.
-pub meets_table : (p : Bytes) → program_verdict p ≡ Fine → MeetsTable p
+pub meets_table : (p : Bytes) → program_verdict p ≡ Ok tt → MeetsTable p
 meets_table p e =
     let a = accepted p e in
     let w = root_of p a in
@@ -106,7 +106,7 @@ meets_table p e =
     }
 
 -- It meets every sentence over the table: accepted.
-pub table_accepts : (p : Bytes) → MeetsTable p → program_verdict p ≡ Fine
+pub table_accepts : (p : Bytes) → MeetsTable p → program_verdict p ≡ Ok tt
 table_accepts p m =
     let f = format_each p m.formatted in
     let e = shape_each p m.shaped in
@@ -122,13 +122,13 @@ table_accepts p m =
     })
 
 -- Check's answer follows the verdict.
-answers : (p : Bytes) → program_verdict p ≡ Fine → Accepts p
+answers : (p : Bytes) → program_verdict p ≡ Ok tt → Accepts p
 unfolding check_call check_answer
 answers p e = record { count = nodes p; cells = cells p; most = bound p; type = type_s (root p); answer = ap (check_answer p) e }
 
 -- What an answer that accepts says.
 record Answered (p : Bytes) (type : ℕ) : Type 0 where
-  fine : program_verdict p ≡ Fine
+  fine : program_verdict p ≡ Ok tt
   is : type ≡ type_s (root p)
 
 -- And the verdict follows check's answer.
@@ -136,9 +136,9 @@ answered : (p : Bytes) (a : Accepts p) → Answered p a.type
 unfolding check_call check_answer
 answered p a = go (program_verdict p) refl a.answer
   where
-    go : (v : Verdict) → program_verdict p ≡ v → check_answer p v ≡ Checked.Accepted a.count a.cells a.most a.type → Answered p a.type
-    go Fine f e = record { fine = f; is = cc }
-    go (Refuse r) f e = absurd (let z : ◌≡◌ {A = ℕ} 0 1 = cc in omega arith)
+    go : (v : Verdict) → program_verdict p ≡ v → check_answer p v ≡ accepted_with a.count a.cells a.most a.type → Answered p a.type
+    go (Ok _) f e = record { fine = f; is = sym (same_accepted e).3 }
+    go (Err r) f e = absurd (let z : ◌≡◌ {A = ℕ} 0 1 = cc in omega arith)
 
 -- Accepted exactly when, in both forms.
 pub accepted_exactly : (p : Bytes) → AcceptedExactly p

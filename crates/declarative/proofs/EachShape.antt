@@ -1,6 +1,6 @@
 -- No fault of shape exactly when every node is as document 01 says.
 -- Assumes nothing.
-use Rattle.std.specs.Prelude.{if◌then◌else◌}
+use Rattle.std.specs.Prelude.{if◌then◌else◌, None}
 use mathlib.Core.Path.{◌≡◌, refl}
 use mathlib.Core.Logic.{◌⊎◌, inl, inr}
 use mathlib.Core.Bool.{Bool, true, false, not}
@@ -14,7 +14,6 @@ use Rattle.rules.specs.Kinds.{is_signal, is_expression, is_branch, is_case}
 use Rattle.rules.specs.Shape.{is_child, may_be, may_stop, child_wrong, children_wrong, named, shape_wrong}
 use Rattle.rules.specs.declared.Field.{Field}
 use Rattle.rules.specs.declared.Field.TheVariants.{Unused, Channel, PresentByte, Signal, Expression, FirstBranch, NextBranch, FirstCase, NextCase, Binder, Target}
-use Rattle.rules.specs.declared.Place.TheVariants.{Nowhere}
 use Rattle.rules.proofs.Static.{and_both}
 use Rattle.rules.proofs.Kids.{or_none, not_not}
 use Rattle.rules.proofs.ByKind.{choose}
@@ -127,9 +126,9 @@ finds_shape p =
     finds_first (shape_wrong p) (nodes p) (ShapeRight p) (λ b h m i l. shape_right p m l (h m i l)) (λ b h m i l. right_shape p m l (h m i l))
 
 -- No fault: every node is right.
-pub each_shape : (p : Bytes) → first (shape_wrong p) (nodes p) ≡ Nowhere → WellShaped p
+pub each_shape : (p : Bytes) → first (shape_wrong p) (nodes p) ≡ None → WellShaped p
 each_shape p e = record { each = nowhere_right _ _ _ (finds_shape p) e }
 
 -- Every node is right: no fault.
-pub shape_each : (p : Bytes) → WellShaped p → first (shape_wrong p) (nodes p) ≡ Nowhere
+pub shape_each : (p : Bytes) → WellShaped p → first (shape_wrong p) (nodes p) ≡ None
 shape_each p w = right_nowhere _ _ _ (finds_shape p) w.each

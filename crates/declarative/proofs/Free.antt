@@ -1,6 +1,7 @@
 -- Places that are not below a bound: how a fault's place is taken apart and put together, and what a definition that finds the smallest place
 -- is to show.
 -- Assumes nothing.
+use Rattle.std.specs.Prelude.{Option, Some, None, ℕ}
 use mathlib.Core.Path.{◌≡◌, refl, sym, ap, subst, ◌∙◌}
 use mathlib.Core.Bool.{Bool, true, false}
 use Prim.Native.Nat.{ℕ, zero, suc, min, ◌+◌, ◌≤◌, ◌<◌}
@@ -10,8 +11,6 @@ use lib.Dec.{ltb}
 use borrow.Author.Tests.{ltb-true, ltb-false}
 use Rattle.rules.specs.Bytes.{first, first_from}
 use Rattle.rules.specs.Places.{sooner, wrong_if, wrong_unless}
-use Rattle.rules.specs.declared.Place.{Place}
-use Rattle.rules.specs.declared.Place.TheVariants.{At, Nowhere}
 use Rattle.rules.proofs.Static.{not_both}
 use Rattle.rules.proofs.ByKind.{choose}
 use Rattle.declarative.specs.Smallest.{Smallest}
@@ -25,41 +24,41 @@ side {A} j m f g = go (ltb j m) refl
     go false e = g (ltb-false j m e)
 
 -- The place, if there is one, is at least b.
-abbrev AtLeast : ℕ → Place → Type 0
-AtLeast b (At n) = b ≤ n
-AtLeast b Nowhere = Unit {0}
+abbrev AtLeast : ℕ → Option ℕ → Type 0
+AtLeast b (Some n) = b ≤ n
+AtLeast b None = Unit {0}
 
-pub record Free (b : ℕ) (q : Place) : Type 0 where
+pub record Free (b : ℕ) (q : Option ℕ) : Type 0 where
   pub least : AtLeast b q
 
 -- No place is below any bound; below 0 there is none.
-pub free_nowhere : {b : ℕ} → Free b Nowhere
+pub free_nowhere : {b : ℕ} → Free b None
 free_nowhere = record { least = tt }
 
-pub free_zero : (q : Place) → Free 0 q
-free_zero (At n) = record { least = omega arith }
-free_zero Nowhere = free_nowhere
+pub free_zero : (q : Option ℕ) → Free 0 q
+free_zero (Some n) = record { least = omega arith }
+free_zero None = free_nowhere
 
 -- The smaller of two places is so where both are.
-pub free_both : {b : ℕ} (q r : Place) → Free b (sooner q r) → Free b q × Free b r
+pub free_both : {b : ℕ} (q r : Option ℕ) → Free b (sooner q r) → Free b q × Free b r
 unfolding sooner
-free_both Nowhere r f = (free_nowhere, f)
-free_both (At m) Nowhere f = (f, free_nowhere)
-free_both {b} (At m) (At n) f =
+free_both None r f = (free_nowhere, f)
+free_both (Some m) None f = (f, free_nowhere)
+free_both {b} (Some m) (Some n) f =
     let h : b ≤ min m n = f.least in
     side m n
     (λ l. let e : min m n ≡ m = min-eq_left (omega arith) in (record { least = omega arith }, record { least = omega arith }))
     (λ l. let e : min m n ≡ n = min-eq_right l in (record { least = omega arith }, record { least = omega arith }))
 
 -- And the other way.
-pub free_sooner : {b : ℕ} {q r : Place} → Free b q → Free b r → Free b (sooner q r)
+pub free_sooner : {b : ℕ} {q r : Option ℕ} → Free b q → Free b r → Free b (sooner q r)
 unfolding sooner
 free_sooner {b} {q} {r} f g = go q r f g
   where
-    go : (q r : Place) → Free b q → Free b r → Free b (sooner q r)
-    go Nowhere r f g = g
-    go (At m) Nowhere f g = f
-    go (At m) (At n) f g =
+    go : (q r : Option ℕ) → Free b q → Free b r → Free b (sooner q r)
+    go None r f g = g
+    go (Some m) None f g = f
+    go (Some m) (Some n) f g =
         let h : b ≤ m = f.least in
         let i : b ≤ n = g.least in
         side m n
@@ -111,7 +110,7 @@ more_from {b} test left k f = go (test k) refl
   where
     go : (t : Bool) → test k ≡ t → (k < b → test k ≡ false) × (k < b → Free b (first_from test (suc k) left))
     go true e =
-        let g : Free b (At k) = rw (e, first_from) at f in
+        let g : Free b (Some k) = rw (e, first_from) at f in
         let h : b ≤ k = g.least in (λ l. absurd (omega arith), λ l. absurd (omega arith))
     go false e = (λ l. e, λ l. rw (e, first_from) at f)
 
@@ -131,7 +130,7 @@ free_from {b} test (suc left) k n f i l g =
 
 -- A place that a definition finds, and a rule of each place below count: below any bound no place is found exactly when all places there keep
 -- the rule.
-pub record Finds (q : Place) (Right : ℕ → Type 0) (count : ℕ) : Type 0 where
+pub record Finds (q : Option ℕ) (Right : ℕ → Type 0) (count : ℕ) : Type 0 where
   pub only_if : (b : ℕ) → Free b q → (m : ℕ) → m < b → m < count → Right m
   pub if₀ : (b : ℕ) → ((m : ℕ) → m < b → m < count → Right m) → Free b q
 
@@ -146,29 +145,29 @@ finds_first test count Right f g = record {
   if₀ = λ b h. from_free test count 0 (λ n i l k. g b h n i (omega arith));
 }
 
-module _ (q : Place) (Right : ℕ → Type 0) (count : ℕ) (found : Finds q Right count) where
+module _ (q : Option ℕ) (Right : ℕ → Type 0) (count : ℕ) (found : Finds q Right count) where
   -- Nowhere: every place keeps its rule.
-  pub nowhere_right : q ≡ Nowhere → (m : ℕ) → m < count → Right m
+  pub nowhere_right : q ≡ None → (m : ℕ) → m < count → Right m
   nowhere_right e m l = found.only_if count (subst (Free count) (sym e) free_nowhere) m l l
 
   -- And the other way.
-  pub right_nowhere : ((m : ℕ) → m < count → Right m) → q ≡ Nowhere
+  pub right_nowhere : ((m : ℕ) → m < count → Right m) → q ≡ None
   right_nowhere h = go q refl
     where
-      go : (r : Place) → q ≡ r → q ≡ Nowhere
-      go Nowhere e = e
-      go (At n) e =
-          let f : Free (suc n) (At n) = subst (Free (suc n)) e (found.if₀ (suc n) (λ m i l. h m l)) in
+      go : (r : Option ℕ) → q ≡ r → q ≡ None
+      go None e = e
+      go (Some n) e =
+          let f : Free (suc n) (Some n) = subst (Free (suc n)) e (found.if₀ (suc n) (λ m i l. h m l)) in
           let z : suc n ≤ n = f.least in
           absurd (omega arith)
 
   -- A place that is found is the smallest whose rule breaks.
-  pub found_smallest : (n : ℕ) → q ≡ At n → Smallest Right count n
+  pub found_smallest : (n : ℕ) → q ≡ Some n → Smallest Right count n
   found_smallest n e =
-      let own : Free n (At n) = record { least = omega arith } in
+      let own : Free n (Some n) = record { least = omega arith } in
       let below = found.only_if n (subst (Free n) (sym e) own) in
       let more : Free (suc n) q → ⊥ = λ f.
-      let g : Free (suc n) (At n) = subst (Free (suc n)) e f in
+      let g : Free (suc n) (Some n) = subst (Free (suc n)) e f in
       let z : suc n ≤ n = g.least in omega arith in
       let i : n < count = side n count (λ l. l) (λ l. absurd (more (found.if₀ (suc n) (λ m h j. below m (omega arith) j)))) in
       record {
@@ -179,17 +178,17 @@ module _ (q : Place) (Right : ℕ → Type 0) (count : ℕ) (found : Finds q Rig
       }
 
   -- And the other way.
-  pub smallest_found : (n : ℕ) → Smallest Right count n → q ≡ At n
+  pub smallest_found : (n : ℕ) → Smallest Right count n → q ≡ Some n
   smallest_found n s = go q refl
     where
       broken : Free (suc n) q → ⊥
       broken f = s.at_fault (found.only_if (suc n) f n (omega arith) s.inside)
 
-      go : (r : Place) → q ≡ r → q ≡ At n
-      go Nowhere e = absurd (broken (subst (Free (suc n)) (sym e) free_nowhere))
-      go (At m) e =
-          let f : Free n (At m) = subst (Free n) e (found.if₀ n (λ k h l. s.none_smaller k h)) in
+      go : (r : Option ℕ) → q ≡ r → q ≡ Some n
+      go None e = absurd (broken (subst (Free (suc n)) (sym e) free_nowhere))
+      go (Some m) e =
+          let f : Free n (Some m) = subst (Free n) e (found.if₀ n (λ k h l. s.none_smaller k h)) in
           let h : n ≤ m = f.least in
-          choose m n (λ z. e ∙ ap At z) λ d.
-          let g : Free (suc n) (At m) = record { least = omega (arith, d) } in
+          choose m n (λ z. e ∙ ap Some z) λ d.
+          let g : Free (suc n) (Some m) = record { least = omega (arith, d) } in
           absurd (broken (subst (Free (suc n)) (sym e) g))

@@ -1,13 +1,12 @@
 -- Putting "no fault" together: the converse of rules' Static.
 -- Assumes nothing.
+use Rattle.std.specs.Prelude.{Option, None, ℕ}
 use mathlib.Core.Path.{◌≡◌, refl}
 use mathlib.Core.Logic.{◌⊎◌, inl, inr}
 use mathlib.Core.Bool.{Bool, true, false}
 use Prim.Native.Nat.{ℕ}
 use Rattle.rules.specs.Bytes.{◌and◌, ◌or◌}
 use Rattle.rules.specs.Places.{sooner, wrong_if, wrong_unless}
-use Rattle.rules.specs.declared.Place.{Place}
-use Rattle.rules.specs.declared.Place.TheVariants.{Nowhere}
 
 -- A test of two that holds, holds in one of them.
 or_either : (a b : Bool) → (a or b) ≡ true → (a ≡ true) ⊎ (b ≡ true)
@@ -30,17 +29,17 @@ unfolding ◌or◌
 or_false e f = rw (e, f)
 
 -- Two places that are nowhere.
-pub sooner_nowhere : {q r : Place} → q ≡ Nowhere → r ≡ Nowhere → sooner q r ≡ Nowhere
+pub sooner_nowhere : {q r : Option ℕ} → q ≡ None → r ≡ None → sooner q r ≡ None
 unfolding sooner
 sooner_nowhere e f = rw (e, f)
 
 -- A test that does not hold is no fault.
-pub unbroken : (t : Bool) (n : ℕ) → (t ≡ true → ⊥) → wrong_if t n ≡ Nowhere
+pub unbroken : (t : Bool) (n : ℕ) → (t ≡ true → ⊥) → wrong_if t n ≡ None
 unfolding wrong_if
 unbroken true n h = absurd (h refl)
 unbroken false n h = refl
 
 -- A rule that holds is no fault.
-pub right : {t : Bool} (n : ℕ) → t ≡ true → wrong_unless t n ≡ Nowhere
+pub right : {t : Bool} (n : ℕ) → t ≡ true → wrong_unless t n ≡ None
 unfolding wrong_unless
 right n e = rw e

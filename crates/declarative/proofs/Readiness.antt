@@ -1,12 +1,12 @@
 -- The relation of needing at once is the definition's test, and a tree is ready exactly when it has no such fault.
 -- Assumes nothing.
+use Rattle.std.specs.Prelude.{None}
 use mathlib.Core.Path.{◌≡◌, refl, subst}
 use mathlib.Core.Bool.{Bool, true, false}
 use Prim.Native.Nat.{ℕ}
 use borrow.Author.Tests.{eqb-true, eq-eqb}
 use Rattle.rules.specs.Tree.{Expr, variable, constant, operation, negation, choice, just, taking, Signal, input, time, ext, delay, let_signal, switch, group, until, Branches, no_branch, branch, Cases, no_case, case}
 use Rattle.rules.specs.Ready.{needs_e, needs_s, needs_b, ready_s, ready_b, ready_c}
-use Rattle.rules.specs.declared.Place.TheVariants.{Nowhere}
 use Rattle.rules.proofs.Static.{not_both, both, kept, or_left, or_right}
 use Rattle.declarative.proofs.Joining.{by_either, sooner_nowhere, unbroken}
 use Rattle.declarative.specs.Needs.{NeedsE, is_it, operation_first, operation_second, not_part, if_test, if_yes, if_no, just_part, take_maybe, take_absent, take_present, NeedsS, ext_part, let_definition, let_body, switch_first, switch_second, group_body, group_branches, until_signal, NeedsB, branch_body, branch_next, ReadyS, input_ready, time_ready, ext_ready, delay_ready, let_ready, switch_ready, group_ready, until_ready, ReadyB, no_branch_ready, branch_ready, ReadyC, no_case_ready, case_ready}
@@ -86,7 +86,7 @@ unneeded x s e h = not_both (let z : false ≡ true = subst (λ (b : Bool). b �
 mutual
   unfolding ready_s
 
-  pub ready_s_lem : (s : Signal) → ready_s s ≡ Nowhere → ReadyS s
+  pub ready_s_lem : (s : Signal) → ready_s s ≡ None → ReadyS s
   ready_s_lem (input n c) h = input_ready
   ready_s_lem (time n) h = time_ready
   ready_s_lem (ext n e) h = ext_ready
@@ -102,11 +102,11 @@ mutual
   ready_s_lem (group n k body brs) h = let a = both _ _ h in group_ready (ready_s_lem body a.0) (ready_b_lem brs a.1)
   ready_s_lem (until n s cs) h = let a = both _ _ h in until_ready (ready_s_lem s a.0) (ready_c_lem cs a.1)
 
-  pub ready_b_lem : (brs : Branches) → ready_b brs ≡ Nowhere → ReadyB brs
+  pub ready_b_lem : (brs : Branches) → ready_b brs ≡ None → ReadyB brs
   ready_b_lem no_branch h = no_branch_ready
   ready_b_lem (branch n t body next) h = let a = both _ _ h in branch_ready (ready_s_lem body a.0) (ready_b_lem next a.1)
 
-  pub ready_c_lem : (cs : Cases) → ready_c cs ≡ Nowhere → ReadyC cs
+  pub ready_c_lem : (cs : Cases) → ready_c cs ≡ None → ReadyC cs
   ready_c_lem no_case h = no_case_ready
   ready_c_lem (case n event target t next) h = let a = both _ _ h in case_ready (ready_s_lem event a.0) (ready_c_lem next a.1)
 
@@ -114,7 +114,7 @@ mutual
 mutual
   unfolding ready_s
 
-  pub s_ready : {s : Signal} → ReadyS s → ready_s s ≡ Nowhere
+  pub s_ready : {s : Signal} → ReadyS s → ready_s s ≡ None
   s_ready input_ready = refl
   s_ready time_ready = refl
   s_ready ext_ready = refl
@@ -125,10 +125,10 @@ mutual
   s_ready (group_ready h g) = sooner_nowhere (s_ready h) (b_ready g)
   s_ready (until_ready h g) = sooner_nowhere (s_ready h) (c_ready g)
 
-  pub b_ready : {brs : Branches} → ReadyB brs → ready_b brs ≡ Nowhere
+  pub b_ready : {brs : Branches} → ReadyB brs → ready_b brs ≡ None
   b_ready no_branch_ready = refl
   b_ready (branch_ready h g) = sooner_nowhere (s_ready h) (b_ready g)
 
-  pub c_ready : {cs : Cases} → ReadyC cs → ready_c cs ≡ Nowhere
+  pub c_ready : {cs : Cases} → ReadyC cs → ready_c cs ≡ None
   c_ready no_case_ready = refl
   c_ready (case_ready h g) = sooner_nowhere (s_ready h) (c_ready g)

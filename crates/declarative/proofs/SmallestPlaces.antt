@@ -1,5 +1,7 @@
 -- Check's refusal is of the lowest code that has a fault, at the smallest place of one.
 -- Assumes nothing.
+use Rattle.std.specs.Prelude.{Option, Some, None, Ok, Err, ℕ}
+use Rattle.rules.specs.Verdicts.{Verdict, refused_after}
 use mathlib.Core.Path.{◌≡◌, refl, sym, ap, subst, ◌∙◌}
 use mathlib.Core.Logic.{◌⊎◌, inl, inr}
 use mathlib.Core.Bool.{Bool, true, false}
@@ -17,15 +19,8 @@ use Rattle.rules.specs.Typing.{type_fault}
 use Rattle.rules.specs.Ready.{needs_s, ready_fault}
 use Rattle.rules.specs.Accepted.{Formed}
 use Rattle.rules.specs.Calls.{◌otherwise◌, refuse_if, refuse_at, program_verdict, check_answer, check_call, start_outcome, start_call, lent_verdict, run_outcome, run_call, no_step}
-use Rattle.rules.specs.declared.Place.{Place}
-use Rattle.rules.specs.declared.Place.TheVariants.{At, Nowhere}
 use Rattle.rules.specs.declared.Refusal.{Refusal}
 use Rattle.rules.specs.declared.Refusal.TheVariants.{ProgramLength, CheckSum, BlockNumber, RecordFault, ShapeFault, ScopeFault, TypeFault, NotReady, StateFault, RecordsLength, OutputLength, InputFault, TimeBack, OtherProgram}
-use Rattle.rules.specs.declared.Verdict.{Verdict}
-use Rattle.rules.specs.declared.Verdict.TheVariants.{Fine, Refuse}
-use Rattle.rules.specs.declared.Checked.{Checked}
-use Rattle.rules.specs.declared.Started.{Started}
-use Rattle.rules.specs.declared.Ran.{Ran}
 use Rattle.rules.proofs.Static.{not_both}
 use Rattle.rules.proofs.Established.{root_signal}
 use Rattle.rules.proofs.Verdicts.{fine_verdict}
@@ -57,21 +52,21 @@ stage_if p true r next f g = record { told = f refl }
 stage_if p false r next f g = g refl
 
 -- The same of a fault that has a place.
-stage : (p : Bytes) (q : Place) (reason : ℕ → Refusal) (next : Verdict) → ((n : ℕ) → q ≡ At n → SaysOf p (reason n)) → (q ≡ Nowhere → Told p next)
+stage : (p : Bytes) (q : Option ℕ) (reason : ℕ → Refusal) (next : Verdict) → ((n : ℕ) → q ≡ Some n → SaysOf p (reason n)) → (q ≡ None → Told p next)
     → Told p (refuse_at reason q otherwise next)
 unfolding ◌otherwise◌ refuse_at
-stage p (At n) reason next f g = record { told = f n refl }
-stage p Nowhere reason next f g = g refl
+stage p (Some n) reason next f g = record { told = f n refl }
+stage p None reason next f g = g refl
 
 -- The last.
-stage_last : (p : Bytes) (q : Place) (reason : ℕ → Refusal) → ((n : ℕ) → q ≡ At n → SaysOf p (reason n)) → (q ≡ Nowhere → Told p Fine)
+stage_last : (p : Bytes) (q : Option ℕ) (reason : ℕ → Refusal) → ((n : ℕ) → q ≡ Some n → SaysOf p (reason n)) → (q ≡ None → Told p (Ok tt))
     → Told p (refuse_at reason q)
 unfolding refuse_at
-stage_last p (At n) reason f g = record { told = f n refl }
-stage_last p Nowhere reason f g = g refl
+stage_last p (Some n) reason f g = record { told = f n refl }
+stage_last p None reason f g = g refl
 
 -- The root of a program whose format and shape are right.
-root_is : (p : Bytes) → Formed p → first (shape_wrong p) (nodes p) ≡ Nowhere → NodeOf is_signal p (nodes p - 1)
+root_is : (p : Bytes) → Formed p → first (shape_wrong p) (nodes p) ≡ None → NodeOf is_signal p (nodes p - 1)
 root_is p f e = root_signal p f.length_right e (some_node p f)
 
 -- The verdict says what is so.
@@ -128,26 +123,26 @@ length_wrong_lem p h = go (length_wrong p) refl
 -- And what a verdict says is so of no other program: it is the program's verdict.
 told_verdict : (p : Bytes) (v : Verdict) → Says p v → program_verdict p ≡ v
 unfolding program_verdict ◌otherwise◌ refuse_if refuse_at
-told_verdict p Fine m = table_accepts p m
-told_verdict p (Refuse ProgramLength) h = rw (length_wrong_lem p h)
-told_verdict p (Refuse (CheckSum j)) f = rw (blocks_whole p f.whole, smallest_found _ _ _ (finds_sum p) j f.smallest)
-told_verdict p (Refuse (BlockNumber j)) f =
+told_verdict p (Ok _) m = table_accepts p m
+told_verdict p (Err ProgramLength) h = rw (length_wrong_lem p h)
+told_verdict p (Err (CheckSum j)) f = rw (blocks_whole p f.whole, smallest_found _ _ _ (finds_sum p) j f.smallest)
+told_verdict p (Err (BlockNumber j)) f =
     rw (
       blocks_whole p f.whole,
       right_nowhere _ _ _ (finds_sum p) f.sums,
       smallest_found _ _ _ (finds_number p) j f.smallest,
     )
-told_verdict p (Refuse (RecordFault r)) f =
+told_verdict p (Err (RecordFault r)) f =
     rw (
       blocks_whole p f.whole,
       right_nowhere _ _ _ (finds_sum p) f.sums,
       right_nowhere _ _ _ (finds_number p) f.numbers,
       smallest_found _ _ _ (finds_record p) r f.smallest,
     )
-told_verdict p (Refuse (ShapeFault n)) f =
+told_verdict p (Err (ShapeFault n)) f =
     let g = format_each p f.formatted in
     rw (g.length_right, g.sums_right, g.numbers_right, g.records_right, smallest_found _ _ _ (finds_shape p) n f.smallest)
-told_verdict p (Refuse (ScopeFault n)) f =
+told_verdict p (Err (ScopeFault n)) f =
     let g = format_each p f.formatted in
     let s = f.shaped in
     let w = root_is p g (shape_each p s) in
@@ -159,7 +154,7 @@ told_verdict p (Refuse (ScopeFault n)) f =
       shape_each p s,
       smallest_found _ _ _ (finds_scope p w s) n f.smallest,
     )
-told_verdict p (Refuse (TypeFault n)) f =
+told_verdict p (Err (TypeFault n)) f =
     let g = format_each p f.formatted in
     let s = f.shaped in
     let w = root_is p g (shape_each p s) in
@@ -172,7 +167,7 @@ told_verdict p (Refuse (TypeFault n)) f =
       right_nowhere _ _ _ (finds_scope p w s) f.scoped.each,
       smallest_found _ _ _ (finds_types p w s) n f.smallest,
     )
-told_verdict p (Refuse (NotReady n)) f =
+told_verdict p (Err (NotReady n)) f =
     let g = format_each p f.formatted in
     let s = f.shaped in
     let w = root_is p g (shape_each p s) in
@@ -186,26 +181,26 @@ told_verdict p (Refuse (NotReady n)) f =
       right_nowhere _ _ _ (finds_types p w s) f.typed.each,
       smallest_found _ _ _ (finds_ready p w s) n f.smallest,
     )
-told_verdict p (Refuse StateFault) f = absurd f
-told_verdict p (Refuse RecordsLength) f = absurd f
-told_verdict p (Refuse OutputLength) f = absurd f
-told_verdict p (Refuse (InputFault k)) f = absurd f
-told_verdict p (Refuse (TimeBack k)) f = absurd f
-told_verdict p (Refuse OtherProgram) f = absurd f
+told_verdict p (Err StateFault) f = absurd f
+told_verdict p (Err RecordsLength) f = absurd f
+told_verdict p (Err OutputLength) f = absurd f
+told_verdict p (Err (InputFault k)) f = absurd f
+told_verdict p (Err (TimeBack k)) f = absurd f
+told_verdict p (Err OtherProgram) f = absurd f
 
 -- Check's refusal says what is so.
-refusal_says : (p : Bytes) (r : Refusal) → check_call p ≡ Checked.Refused r → SaysOf p r
+refusal_says : (p : Bytes) (r : Refusal) → check_call p ≡ Err r → SaysOf p r
 unfolding check_call check_answer
 refusal_says p r e = go (program_verdict p) (verdict_told p).told e
   where
-    go : (v : Verdict) → Says p v → check_answer p v ≡ Checked.Refused r → SaysOf p r
-    go Fine m f = absurd (let z : ◌≡◌ {A = ℕ} 0 1 = cc in omega arith)
-    go (Refuse q) m f = let z : q ≡ r = cc in subst (SaysOf p) z m
+    go : (v : Verdict) → Says p v → check_answer p v ≡ Err r → SaysOf p r
+    go (Ok _) m f = absurd (let z : ◌≡◌ {A = ℕ} 0 1 = cc in omega arith)
+    go (Err q) m f = let z : q ≡ r = cc in subst (SaysOf p) z m
 
 -- And the other way.
-says_refusal : (p : Bytes) (r : Refusal) → SaysOf p r → check_call p ≡ Checked.Refused r
+says_refusal : (p : Bytes) (r : Refusal) → SaysOf p r → check_call p ≡ Err r
 unfolding check_call check_answer
-says_refusal p r s = ap (check_answer p) (told_verdict p (Refuse r) s)
+says_refusal p r s = ap (check_answer p) (told_verdict p (Err r) s)
 
 -- A scope fault is at a variable or a case.
 scope_place : (p : Bytes) (n : ℕ) → SaysOf p (ScopeFault n) → (kind_at p n ≡ 16) ⊎ (kind_at p n ≡ 10)
@@ -235,13 +230,13 @@ let_place p n f =
         }))
 
 -- What check refuses, start refuses,
-start_refuses : (p st : Bytes) (r : Refusal) → program_verdict p ≡ Refuse r → start_call p st ≡ record { answer = Started.Refused r; state = st }
+start_refuses : (p st : Bytes) (r : Refusal) → program_verdict p ≡ Err r → start_call p st ≡ record { answer = Err r; state = st }
 unfolding start_call start_outcome ◌otherwise◌
 start_refuses p st r e = rw e
 
 -- and run.
-run_refuses : (p st recs out : Bytes) (r : Refusal) → program_verdict p ≡ Refuse r
-    → run_call p st recs out ≡ record { answer = Ran.Refused r 0 no_step; state = st; output = out }
+run_refuses : (p st recs out : Bytes) (r : Refusal) → program_verdict p ≡ Err r
+    → run_call p st recs out ≡ record { answer = refused_after r 0 no_step; state = st; output = out }
 unfolding run_call run_outcome lent_verdict ◌otherwise◌
 run_refuses p st recs out r e = rw e
 
@@ -251,6 +246,6 @@ smallest_places p = record {
   refused = λ r. record { only_if = refusal_says p r; if₀ = says_refusal p r };
   variable_or_case = λ n e. scope_place p n (refusal_says p (ScopeFault n) e);
   a_let = λ n e. let_place p n (refusal_says p (NotReady n) e);
-  start = λ r e st. start_refuses p st r (told_verdict p (Refuse r) (refusal_says p r e));
-  run = λ r e st recs out. run_refuses p st recs out r (told_verdict p (Refuse r) (refusal_says p r e));
+  start = λ r e st. start_refuses p st r (told_verdict p (Err r) (refusal_says p r e));
+  run = λ r e st recs out. run_refuses p st recs out r (told_verdict p (Err r) (refusal_says p r e));
 }

@@ -1,5 +1,6 @@
 -- An expression has a derivation exactly when the definitions find no fault of scope and of type in it, and its type is the definition's.
 -- Assumes nothing.
+use Rattle.std.specs.Prelude.{Option, None, ℕ}
 use mathlib.Core.Path.{◌≡◌, refl, sym, ap, subst, ◌∙◌}
 use mathlib.Core.Bool.{true}
 use Prim.Native.Nat.{ℕ}
@@ -10,8 +11,6 @@ use Rattle.rules.specs.Operations.{operand_type, result_type}
 use Rattle.rules.specs.Tree.{Expr, variable, constant, operation, negation, choice, just, taking}
 use Rattle.rules.specs.Scope.{Marks, mark, scope_e}
 use Rattle.rules.specs.Typing.{just_type, type_e, types_e}
-use Rattle.rules.specs.declared.Place.{Place}
-use Rattle.rules.specs.declared.Place.TheVariants.{Nowhere}
 use Rattle.rules.proofs.Static.{both, holds, and_both}
 use Rattle.declarative.specs.Contexts.{Context, with, Has}
 use Rattle.declarative.specs.TypedE.{Takes, number, quotient, comparison, logical, TypedE, tp_variable, tp_constant, tp_operation, tp_not, tp_if, tp_just, tp_take}
@@ -20,9 +19,9 @@ use Rattle.declarative.proofs.Declares.{DeclaresE}
 use Rattle.declarative.proofs.Agreeing.{Variables, bound}
 
 -- No fault of scope or of type, and the type is g.
-pub record Faultless (scope types : Place) (type g : ℕ) : Type 0 where
-  pub scoped : scope ≡ Nowhere
-  pub typed : types ≡ Nowhere
+pub record Faultless (scope types : Option ℕ) (type g : ℕ) : Type 0 where
+  pub scoped : scope ≡ None
+  pub typed : types ≡ None
   pub is : type ≡ g
 
 -- What an operation takes and gives is what the definitions say.
@@ -47,7 +46,7 @@ unfolding just_type
 just_plain t e = simp e
 
 -- No fault: a derivation.
-pub complete_e : (τ : ℕ → ℕ) (M : Marks) (Γ : Context) (e : Expr) → DeclaresE τ e → Variables τ M Γ → scope_e M e ≡ Nowhere → types_e e ≡ Nowhere
+pub complete_e : (τ : ℕ → ℕ) (M : Marks) (Γ : Context) (e : Expr) → DeclaresE τ e → Variables τ M Γ → scope_e M e ≡ None → types_e e ≡ None
     → TypedE Γ e (type_e e)
 unfolding scope_e types_e type_e
 complete_e τ M Γ (variable n b t) d v s h = tp_variable (subst (λ (g : ℕ). Has b g Γ) (sym d) (v.given₀ b (holds _ _ s)))

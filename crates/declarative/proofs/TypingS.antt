@@ -1,5 +1,6 @@
 -- A signal, a list of branches and a list of cases have a derivation exactly when the definitions find no fault of scope and of type in them.
 -- Assumes nothing.
+use Rattle.std.specs.Prelude.{Option, None, ℕ}
 use mathlib.Core.Path.{◌≡◌, refl, sym, ap, subst, ◌∙◌}
 use mathlib.Core.List.{[], ◌∷◌}
 use mathlib.Core.Bool.{Bool, true}
@@ -9,8 +10,6 @@ use Rattle.rules.specs.Values.{maybe_of}
 use Rattle.rules.specs.Tree.{Signal, input, time, ext, delay, let_signal, switch, group, until, Branches, no_branch, branch, Cases, no_case, case}
 use Rattle.rules.specs.Scope.{Marks, mark, Offers, onward, scope_s, scope_b, scope_c}
 use Rattle.rules.specs.Typing.{type_s, bodies_have, types_s, types_b, types_c}
-use Rattle.rules.specs.declared.Place.{Place}
-use Rattle.rules.specs.declared.Place.TheVariants.{Nowhere}
 use Rattle.rules.proofs.Static.{both, holds, and_both}
 use Rattle.declarative.specs.Contexts.{Context, none, with, Has, beyond, offered}
 use Rattle.declarative.specs.TypedS.{TypedS, tp_input, tp_time, tp_ext, tp_delay, tp_signal', tp_switch, tp_continue, tp_until, TypedB, tp_no_branch, tp_branch, TypedC, tp_no_case, tp_case}
@@ -25,7 +24,7 @@ mutual
 
   -- A signal,
   pub complete_s : (ed : ℕ) (τ : ℕ → ℕ) (M : Marks) (O : Offers) (Γ Δ : Context) (s : Signal) → DeclaresS τ s → Variables τ M Γ → Continuations τ O Δ
-      → scope_s ed M O s ≡ Nowhere → types_s s ≡ Nowhere → TypedS ed Γ Δ s (type_s s)
+      → scope_s ed M O s ≡ None → types_s s ≡ None → TypedS ed Γ Δ s (type_s s)
   complete_s ed τ M O Γ Δ (input n c) d v o s h = tp_input refl
   complete_s ed τ M O Γ Δ (time n) d v o s h = tp_time
   complete_s ed τ M O Γ Δ (ext n e) d v o s h = tp_ext (complete_e τ M Γ e d v s h)
@@ -66,7 +65,7 @@ mutual
 
   -- a list of branches, all of whose bodies have the type,
   pub complete_b : (ed : ℕ) (τ : ℕ → ℕ) (M : Marks) (O : Offers) (Γ Δ : Context) (g : ℕ) (brs : Branches) → DeclaresB τ brs → Variables τ M Γ
-      → Continuations τ O Δ → scope_b ed M O brs ≡ Nowhere → types_b brs ≡ Nowhere → bodies_have g brs ≡ true → TypedB ed Γ Δ brs g
+      → Continuations τ O Δ → scope_b ed M O brs ≡ None → types_b brs ≡ None → bodies_have g brs ≡ true → TypedB ed Γ Δ brs g
   complete_b ed τ M O Γ Δ g no_branch d v o s h w = tp_no_branch
   complete_b ed τ M O Γ Δ g (branch n t body next) d v o s h w =
       let a = both _ _ s in
@@ -79,7 +78,7 @@ mutual
 
   -- a list of cases.
   pub complete_c : (ed : ℕ) (τ : ℕ → ℕ) (M : Marks) (O : Offers) (Γ Δ : Context) (cs : Cases) → DeclaresC τ cs → Variables τ M Γ
-      → Continuations τ O Δ → scope_c ed M O cs ≡ Nowhere → types_c cs ≡ Nowhere → TypedC ed Γ Δ cs
+      → Continuations τ O Δ → scope_c ed M O cs ≡ None → types_c cs ≡ None → TypedC ed Γ Δ cs
   complete_c ed τ M O Γ Δ no_case d v o s h = tp_no_case
   complete_c ed τ M O Γ Δ (case n event k t next) d v o s h =
       let a = both _ _ s in
@@ -92,9 +91,9 @@ mutual
       (complete_c ed τ M O Γ Δ next d.2 v o a'.1 b'.1)
 
 -- A list's bodies have the type.
-pub record FaultlessB (scope types : Place) (have : Bool) : Type 0 where
-  pub scoped : scope ≡ Nowhere
-  pub typed : types ≡ Nowhere
+pub record FaultlessB (scope types : Option ℕ) (have : Bool) : Type 0 where
+  pub scoped : scope ≡ None
+  pub typed : types ≡ None
   pub one : have ≡ true
 
 -- A derivation: no fault.
@@ -158,7 +157,7 @@ mutual
 
   -- a list of cases.
   pub sound_c : (ed : ℕ) (τ : ℕ → ℕ) (M : Marks) (O : Offers) {Γ Δ : Context} {cs : Cases} → TypedC ed Γ Δ cs → DeclaresC τ cs → Variables τ M Γ
-      → Continuations τ O Δ → (scope_c ed M O cs ≡ Nowhere) × (types_c cs ≡ Nowhere)
+      → Continuations τ O Δ → (scope_c ed M O cs ≡ None) × (types_c cs ≡ None)
   sound_c ed τ M O tp_no_case d v o = (refl, refl)
   sound_c ed τ M O (tp_case {n = n} {k = k} {g = g} i e r) d v o =
       let w = o.offers k g i in

@@ -1,16 +1,12 @@
 -- Which fault check answers: "Lowest code first, then smallest place." What each answer says of the bytes, code by code.
 -- Assumes nothing: these are definitions.
-use Rattle.std.specs.Prelude.{ℕ, ◌<◌, ◌≡◌, ◌⊎◌}
+use Rattle.std.specs.Prelude.{ℕ, ◌<◌, ◌≡◌, ◌⊎◌, Ok, Err}
+use Rattle.rules.specs.Verdicts.{Verdict, refused_after}
 use Rattle.rules.specs.Bytes.{Bytes}
 use Rattle.rules.specs.Layout.{blocks, records, nodes, kind_at, a_at}
 use Rattle.rules.specs.Calls.{check_call, start_call, run_call, no_step}
-use Rattle.rules.specs.declared.Checked.{Checked}
-use Rattle.rules.specs.declared.Started.{Started}
-use Rattle.rules.specs.declared.Ran.{Ran}
 use Rattle.rules.specs.declared.Refusal.{Refusal}
 use Rattle.rules.specs.declared.Refusal.TheVariants.{ProgramLength, CheckSum, BlockNumber, RecordFault, ShapeFault, ScopeFault, TypeFault, NotReady, StateFault, RecordsLength, OutputLength, InputFault, TimeBack, OtherProgram}
-use Rattle.rules.specs.declared.Verdict.{Verdict}
-use Rattle.rules.specs.declared.Verdict.TheVariants.{Fine, Refuse}
 use Rattle.declarative.specs.Formats.{WholeBlocks, SumRight, NumberRight, RecordRight, Formatted}
 use Rattle.declarative.specs.Shapes.{ShapeRight, WellShaped}
 use Rattle.declarative.specs.WayUp.{ScopeRight, InScope}
@@ -83,16 +79,16 @@ SaysOf p OtherProgram = ⊥
 
 -- A verdict that is fine says that every sentence over the table is met.
 abbrev pub Says : Bytes → Verdict → Type 0
-Says p Fine = MeetsTable p
-Says p (Refuse r) = SaysOf p r
+Says p (Ok _) = MeetsTable p
+Says p (Err r) = SaysOf p r
 
 -- Check refuses with a code and a place exactly when that is the lowest code with a fault and the smallest place of one. A scope fault is at a
 -- variable or a case; one of readiness is at a let whose definition needs its variable at once. What check refuses, start and run refuse with
 -- the same code and place, and the lent memory is as before.
 pub record SmallestPlaces (p : Bytes) : Type 0 where
-  pub refused : (r : Refusal) → Exactly (check_call p ≡ Checked.Refused r) (SaysOf p r)
-  pub variable_or_case : (n : ℕ) → check_call p ≡ Checked.Refused (ScopeFault n) → (kind_at p n ≡ 16) ⊎ (kind_at p n ≡ 10)
-  pub a_let : (n : ℕ) → check_call p ≡ Checked.Refused (NotReady n) → (kind_at p n ≡ 5) × NeedsAt p n (a_at p n)
-  pub start : (r : Refusal) → check_call p ≡ Checked.Refused r → (st : Bytes) → start_call p st ≡ record { answer = Started.Refused r; state = st }
-  pub run : (r : Refusal) → check_call p ≡ Checked.Refused r → (st recs out : Bytes)
-      → run_call p st recs out ≡ record { answer = Ran.Refused r 0 no_step; state = st; output = out }
+  pub refused : (r : Refusal) → Exactly (check_call p ≡ Err r) (SaysOf p r)
+  pub variable_or_case : (n : ℕ) → check_call p ≡ Err (ScopeFault n) → (kind_at p n ≡ 16) ⊎ (kind_at p n ≡ 10)
+  pub a_let : (n : ℕ) → check_call p ≡ Err (NotReady n) → (kind_at p n ≡ 5) × NeedsAt p n (a_at p n)
+  pub start : (r : Refusal) → check_call p ≡ Err r → (st : Bytes) → start_call p st ≡ record { answer = Err r; state = st }
+  pub run : (r : Refusal) → check_call p ≡ Err r → (st recs out : Bytes)
+      → run_call p st recs out ≡ record { answer = refused_after r 0 no_step; state = st; output = out }

@@ -7,38 +7,43 @@ ghost use Rattle.demands.specs.Third.{ThirdDemand};
 ghost use Rattle.demands.specs.Unplugged.{UnpluggedDemand};
 ghost use Rattle.demands.specs.Parts.{PartsDemand};
 
-use rules::{Checked, Ran, Refusal, Started};
+use rules::{Checked, Ran, Refusal, Stopped};
 
 // Check a program.
-pub fn check(program: &[u8]) -> Checked
+pub fn check(program: &[u8]) -> Result<Checked, Refusal>
     ensures { CheckDemands program.now result }
 {
     watch::check(program)
 }
 
 // Start a state.
-pub fn start(program: &[u8], state: &mut [u8]) -> Started
+pub fn start(program: &[u8], state: &mut [u8]) -> Result<(), Refusal>
     ensures { StartDemands program.now state.old result state.new }
 {
     watch::start(program, state)
 }
 
 // Run a list of records. (The answer is handed on case by case, so that wrong ones can be tried here.)
-pub fn run(program: &[u8], state: &mut [u8], records: &[u8], output: &mut [u8]) -> Ran
+pub fn run(
+    program: &[u8],
+    state: &mut [u8],
+    records: &[u8],
+    output: &mut [u8],
+) -> Result<Ran, Stopped>
     ensures { RunDemands program.now state.old records.now output.old result state.new output.new }
 {
     let answer = watch::run(program, state, records, output);
     match answer {
-        Ran::Finished(steps, work, mark) => Ran::Finished(steps, work, mark),
-        Ran::Refused(fault, work, mark) => Ran::Refused(fault, work, mark),
+        Ok(ran) => Ok(ran),
+        Err(stop) => Err(stop),
     }
 }
 
 // The answers of check and run.
 #[derive(Clone, Copy)]
 pub struct Asked {
-    pub checked: Checked,
-    pub ran: Ran,
+    pub checked: Result<Checked, Refusal>,
+    pub ran: Result<Ran, Stopped>,
 }
 
 // Check a program, and run a list of records on it.
@@ -56,8 +61,8 @@ pub fn check_and_run(program: &[u8], state: &mut [u8], records: &[u8], output: &
 // The answers of two runs.
 #[derive(Clone, Copy)]
 pub struct Two {
-    pub one: Ran,
-    pub other: Ran,
+    pub one: Result<Ran, Stopped>,
+    pub other: Result<Ran, Stopped>,
 }
 
 // Run two lists of records on two copies of a state.
@@ -83,9 +88,9 @@ pub fn run_both(
 // The answers of the runs of two parts, and of the whole.
 #[derive(Clone, Copy)]
 pub struct Three {
-    pub first: Ran,
-    pub second: Ran,
-    pub whole: Ran,
+    pub first: Result<Ran, Stopped>,
+    pub second: Result<Ran, Stopped>,
+    pub whole: Result<Ran, Stopped>,
 }
 
 // Run the two parts of a list of records one after the other, and the whole from a copy of the state.

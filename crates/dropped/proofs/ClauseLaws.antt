@@ -1,6 +1,6 @@
 -- An entry breaks no clause exactly when it is right; so the entry that code 28 names breaks one.
 -- Assumes nothing.
-use Rattle.std.specs.Prelude.{if◌then◌else◌}
+use Rattle.std.specs.Prelude.{if◌then◌else◌, Err}
 use mathlib.Core.Path.{◌≡◌, refl, ◌∙◌}
 use mathlib.Core.Bool.{Bool, true, false, not}
 use Prim.Native.Nat.{ℕ, suc, ◌-◌, ◌<◌, ◌≤◌}
@@ -13,7 +13,7 @@ use Rattle.rules.specs.Kinds.{fields_of}
 use Rattle.rules.specs.declared.Field.{Field}
 use Rattle.rules.specs.declared.Field.TheVariants.{Unused, Channel, PresentByte, Signal, Expression, FirstBranch, NextBranch, FirstCase, NextCase, Binder, Target}
 use Rattle.rules.proofs.Verdicts.{fine_verdict}
-use Rattle.dropped.specs.declared.Paired.TheVariants.{EntryWrong}
+use Rattle.dropped.specs.declared.Unpaired.TheVariants.{EntryWrong}
 use Rattle.dropped.specs.Pairing.{Pairing, old_of, reaches, field_right, entry_right}
 use Rattle.dropped.specs.PairedCall.{paired_call}
 use Rattle.dropped.specs.Clauses.{unless, earlier, next_broken, field_broken, fields_broken, node_broken, entry_broken, clause_of, clause_call}
@@ -126,7 +126,7 @@ pub record Tells (p q : Bytes) (l : Pairing) (i : ℕ) : Type 0 where
   pub broken : 1 ≤ clause_call p q l i
   pub before : (j : ℕ) → j < i → clause_call p q l j ≡ 0
 
-pub tells : (p q : Bytes) (l : Pairing) (i : ℕ) → paired_call p q l ≡ EntryWrong i → Tells p q l i
+pub tells : (p q : Bytes) (l : Pairing) (i : ℕ) → paired_call p q l ≡ Err (EntryWrong i) → Tells p q l i
 unfolding clause_call clause_of
 tells p q l i e =
     let w = wrong_entry p q l i e in

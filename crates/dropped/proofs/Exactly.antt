@@ -1,5 +1,6 @@
 -- No entry is wrong exactly when the rule holds; and then old and new answer alike.
 -- Assumes nothing.
+use Rattle.std.specs.Prelude.{Some, None, Option}
 use mathlib.Core.Path.{◌≡◌, refl, ap}
 use mathlib.Core.Bool.{Bool, true, false, not}
 use Prim.Native.Nat.{ℕ, zero, suc, ◌+◌, ◌-◌, ◌<◌, ◌≤◌}
@@ -10,7 +11,6 @@ use Rattle.rules.specs.Kinds.{is_signal, is_branch, is_case}
 use Rattle.rules.specs.Shaped.{Shaped, NodeOf}
 use Rattle.rules.specs.Accepted.{Accepted}
 use Rattle.rules.specs.Bound.{bound}
-use Rattle.rules.specs.declared.Place.TheVariants.{At, Nowhere}
 use borrow.Author.Tests.{eqb-true}
 use Rattle.rules.proofs.Kids.{not_not}
 use Rattle.rules.proofs.Established.{nowhere_from}
@@ -78,18 +78,18 @@ pub right_rule : (p q : Bytes) (π : ℕ → ℕ) → Accepted p → Accepted q 
 right_rule p q π pa qa h = less_rule p q π pa qa (pairing_less p q π pa qa h)
 
 -- No first place: the test fails everywhere.
-all_false : (test : ℕ → Bool) (left k : ℕ) → ((i : ℕ) → k ≤ i → i < k + left → test i ≡ false) → first_from test k left ≡ Nowhere
+all_false : (test : ℕ → Bool) (left k : ℕ) → ((i : ℕ) → k ≤ i → i < k + left → test i ≡ false) → first_from test k left ≡ None
 unfolding first_from
 all_false test zero k h = refl
 all_false test (suc left) k h = go (test k) (h k (omega arith) (omega arith)) (all_false test left (suc k) (λ i a b. h i (omega arith) (omega arith)))
   where
-    go : (b : Bool) → b ≡ false → first_from test (suc k) left ≡ Nowhere → elim b [ true ↦ At k | false ↦ first_from test (suc k) left ] ≡ Nowhere
+    go : (b : Bool) → b ≡ false → first_from test (suc k) left ≡ None → ◌≡◌ {A = Option ℕ} (elim b [ true ↦ Some k | false ↦ first_from test (suc k) left ]) None
     go b e f = rw e f
 
 -- Code 28 does not occur exactly when the rule holds.
 pub record PairedExactly (p q : Bytes) (pairing : Pairing) : Type 0 where
-  pub only_if : pairing_fault p q pairing ≡ Nowhere → Rule p q (old_of pairing)
-  pub if₀ : Rule p q (old_of pairing) → pairing_fault p q pairing ≡ Nowhere
+  pub only_if : pairing_fault p q pairing ≡ None → Rule p q (old_of pairing)
+  pub if₀ : Rule p q (old_of pairing) → pairing_fault p q pairing ≡ None
 
 pub paired_exactly : (p q : Bytes) (pairing : Pairing) → Accepted p → Accepted q → PairedExactly p q pairing
 unfolding pairing_fault entry_wrong first
@@ -104,7 +104,7 @@ pub record Tidier (p q : Bytes) : Type 0 where
   pub fewer : nodes q ≤ nodes p
   pub less : bound q ≤ bound p
 
-pub paired_alike : (p q : Bytes) (pairing : Pairing) → Small p → Small q → Accepted p → Accepted q → pairing_fault p q pairing ≡ Nowhere → Tidier p q
+pub paired_alike : (p q : Bytes) (pairing : Pairing) → Small p → Small q → Accepted p → Accepted q → pairing_fault p q pairing ≡ None → Tidier p q
 unfolding pairing_fault entry_wrong first
 paired_alike p q pairing hp hq pa qa e =
     let x = pairing_less p q (old_of pairing) pa qa λ i l. not_not _ (nowhere_from (entry_wrong p q pairing) (nodes q) 0 i e (omega arith) (omega arith)) in

@@ -1,5 +1,6 @@
 -- The rule, and the relation by which trees are compared, are the same.
 -- Assumes nothing.
+use Rattle.std.specs.Prelude.{None}
 use mathlib.Core.Path.{◌≡◌, refl, sym, ap, ◌∙◌}
 use mathlib.Core.Logic.{◌≢◌}
 use mathlib.Core.List.{[], ◌∷◌}
@@ -13,7 +14,6 @@ use Rattle.rules.specs.Layout.{edition, nodes, most_nodes}
 use Rattle.rules.specs.Tree.{Expr, Signal, input, time, ext, delay, let_signal, switch, group, until, Branches, no_branch, branch, Cases, no_case, case, root}
 use Rattle.rules.specs.Scope.{Marks, mark, is_marked, Offers, unmarked, onward, scope_fault, scope_e, scope_s, scope_b, scope_c}
 use Rattle.rules.specs.Accepted.{Accepted}
-use Rattle.rules.specs.declared.Place.TheVariants.{Nowhere}
 use Rattle.rules.proofs.Static.{both, holds}
 use Rattle.promises.proofs.SoundE.{mark_other}
 use Rattle.dropped.specs.Less.{LessE, LessS, LessB, LessC}
@@ -102,7 +102,7 @@ neither {a} {b} e f = rw (e, f) refl
 
 -- So a tree that is in scope there names it nowhere.
 module _ {π : ℕ → ℕ} (ed m : ℕ) where
-  unused_e : {e e' : Expr} → NamedE π e e' → (k : ℕ) → k ≤ m → FallsE k e → (Γ : Marks) → scope_e Γ e' ≡ Nowhere → Away π Γ m → uses_e m e ≡ false
+  unused_e : {e e' : Expr} → NamedE π e e' → (k : ℕ) → k ≤ m → FallsE k e → (Γ : Marks) → scope_e Γ e' ≡ None → Away π Γ m → uses_e m e ≡ false
   unfolding uses_e scope_e
   unused_e (NamedE.variables {n' = n'} {b = b} {b' = b'} a g) k i f Γ sc h =
       ne_eqb b m λ z. h b' (holds _ n' sc) (sym g ∙ z)
@@ -126,7 +126,7 @@ module _ {π : ℕ → ℕ} (ed m : ℕ) where
   mutual
     unfolding uses_s scope_s
 
-    unused_s : {s s' : Signal} → NamedS π s s' → (k : ℕ) → k ≤ m → FallsS k s → (Γ : Marks) (Δ : Offers) → scope_s ed Γ Δ s' ≡ Nowhere → Away π Γ m → uses_s m s ≡ false
+    unused_s : {s s' : Signal} → NamedS π s s' → (k : ℕ) → k ≤ m → FallsS k s → (Γ : Marks) (Δ : Offers) → scope_s ed Γ Δ s' ≡ None → Away π Γ m → uses_s m s ≡ false
     unused_s (NamedS.inputs a) k i f Γ Δ sc h = refl
     unused_s (NamedS.times a) k i f Γ Δ sc h = refl
     unused_s (NamedS.exts {n = n} a e) k i f Γ Δ sc h = unused_e e n (omega (arith, f.0)) f.1 Γ sc h
@@ -147,14 +147,14 @@ module _ {π : ℕ → ℕ} (ed m : ℕ) where
         let z = both _ _ sc in
         neither (unused_s s n (omega (arith, f.0)) f.1 Γ [] z.0 h) (unused_c cs n (omega (arith, f.0)) f.2 Γ Δ z.1 h)
 
-    unused_b : {s s' : Branches} → NamedB π s s' → (k : ℕ) → k ≤ m → FallsB k s → (Γ : Marks) (Δ : Offers) → scope_b ed Γ Δ s' ≡ Nowhere → Away π Γ m → uses_b m s ≡ false
+    unused_b : {s s' : Branches} → NamedB π s s' → (k : ℕ) → k ≤ m → FallsB k s → (Γ : Marks) (Δ : Offers) → scope_b ed Γ Δ s' ≡ None → Away π Γ m → uses_b m s ≡ false
     unused_b NamedB.no_branches k i f Γ Δ sc h = refl
     unused_b (NamedB.branches {n = n} {n' = n'} a b bs) k i f Γ Δ sc h =
         let z = both _ _ sc in
         neither (unused_s b n (omega (arith, f.0)) f.1 (mark Γ n') Δ z.0 (away_bind Γ n n' m a (omega (arith, f.0)) h))
         (unused_b bs n (omega (arith, f.0)) f.2 Γ Δ z.1 h)
 
-    unused_c : {s s' : Cases} → NamedC π s s' → (k : ℕ) → k ≤ m → FallsC k s → (Γ : Marks) (Δ : Offers) → scope_c ed Γ Δ s' ≡ Nowhere → Away π Γ m → uses_c m s ≡ false
+    unused_c : {s s' : Cases} → NamedC π s s' → (k : ℕ) → k ≤ m → FallsC k s → (Γ : Marks) (Δ : Offers) → scope_c ed Γ Δ s' ≡ None → Away π Γ m → uses_c m s ≡ false
     unused_c NamedC.no_cases k i f Γ Δ sc h = refl
     unused_c (NamedC.cases {n = n} a t e cs) k i f Γ Δ sc h =
         let z = both _ _ (both _ _ sc).1 in
@@ -217,7 +217,7 @@ module _ (ed : ℕ) where
   mutual
     unfolding scope_s
 
-    between : {π : ℕ → ℕ} {s s' : Signal} → LessS π s s' → (m : ℕ) → FallsS m s → (Γ : Marks) (Δ : Offers) → scope_s ed Γ Δ s' ≡ Nowhere → Above π Γ m → Between π m s s'
+    between : {π : ℕ → ℕ} {s s' : Signal} → LessS π s s' → (m : ℕ) → FallsS m s → (Γ : Marks) (Δ : Offers) → scope_s ed Γ Δ s' ≡ None → Above π Γ m → Between π m s s'
     between (LessS.inputs {n = n} {c = c} a) m f Γ Δ sc h = record { tree = input n c; drops = none; falls = tt; named = NamedS.inputs a }
     between (LessS.times {n = n} a) m f Γ Δ sc h = record { tree = time n; drops = none; falls = tt; named = NamedS.times a }
     between (LessS.exts {n = n} {e = e} a x) m f Γ Δ sc h = record { tree = ext n e; drops = none; falls = f; named = NamedS.exts a (less_named_e x) }
@@ -281,7 +281,7 @@ module _ (ed : ℕ) where
           named = NamedS.untils a r.named q.named;
         }
 
-    between_b : {π : ℕ → ℕ} {s s' : Branches} → LessB π s s' → (m : ℕ) → FallsB m s → (Γ : Marks) (Δ : Offers) → scope_b ed Γ Δ s' ≡ Nowhere → Above π Γ m → BetweenB π m s s'
+    between_b : {π : ℕ → ℕ} {s s' : Branches} → LessB π s s' → (m : ℕ) → FallsB m s → (Γ : Marks) (Δ : Offers) → scope_b ed Γ Δ s' ≡ None → Above π Γ m → BetweenB π m s s'
     between_b LessB.no_branches m f Γ Δ sc h = record { tree = no_branch; drops = none; falls = tt; named = NamedB.no_branches }
     between_b (LessB.branches {n = n} {n' = n'} {t = t} {next = next} a b bs) m f Γ Δ sc h =
         let z = both _ _ sc in
@@ -294,7 +294,7 @@ module _ (ed : ℕ) where
           named = NamedB.branches a r.named q.named;
         }
 
-    between_c : {π : ℕ → ℕ} {s s' : Cases} → LessC π s s' → (m : ℕ) → FallsC m s → (Γ : Marks) (Δ : Offers) → scope_c ed Γ Δ s' ≡ Nowhere → Above π Γ m → BetweenC π m s s'
+    between_c : {π : ℕ → ℕ} {s s' : Cases} → LessC π s s' → (m : ℕ) → FallsC m s → (Γ : Marks) (Δ : Offers) → scope_c ed Γ Δ s' ≡ None → Above π Γ m → BetweenC π m s s'
     between_c LessC.no_cases m f Γ Δ sc h = record { tree = no_case; drops = none; falls = tt; named = NamedC.no_cases }
     between_c (LessC.cases {n = n} {target = target} {t = t} {next = next} a g e cs) m f Γ Δ sc h =
         let z = both _ _ (both _ _ sc).1 in

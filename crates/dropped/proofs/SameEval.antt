@@ -1,6 +1,6 @@
 -- An evaluation of the new tree gives the value of the old one, wherever the old one gives a value.
 -- Assumes nothing.
-use Rattle.std.specs.Prelude.{if◌then◌else◌}
+use Rattle.std.specs.Prelude.{if◌then◌else◌, Option, Some, None, ℕ}
 use mathlib.Core.Path.{◌≡◌, refl, sym, ap, ◌∙◌}
 use mathlib.Core.Logic.{◌≢◌, ◌⊎◌, inl, inr}
 use mathlib.Core.List.{[], ◌∷◌}
@@ -22,13 +22,8 @@ use Rattle.rules.specs.Scope.{Marks, mark, is_marked, Offers, has_branch, onward
 use Rattle.rules.specs.Evaluate.{Env, bind, look, opened, operate, operated, negated, chosen, arm_of, lifted, taken, take_arm, eval_e, eval_s, eval_b}
 use Rattle.rules.specs.declared.Value.{Value}
 use Rattle.rules.specs.declared.Tally.{Tally}
-use Rattle.rules.specs.declared.Word.{Word}
-use Rattle.rules.specs.declared.Word.TheVariants.{Is, Not}
-use Rattle.rules.specs.declared.Opened.{Opened}
-use Rattle.rules.specs.declared.Opened.TheVariants.{Here, Gone, Amiss}
-use Rattle.rules.specs.declared.Evaluated.{Evaluated}
-use Rattle.rules.specs.declared.Evaluated.TheVariants.{Done, Stuck}
-use Rattle.rules.specs.declared.Place.TheVariants.{Nowhere}
+use Rattle.rules.specs.Opened.{Opened, Here, Gone, Amiss}
+use Rattle.rules.specs.Evaluated.{Evaluated, Done, Stuck}
 use Rattle.rules.proofs.Static.{both, holds, not_both, or_left, or_right}
 use Rattle.promises.specs.Sits.{SitsE, SitsS, SitsB}
 use Rattle.promises.proofs.ValidLaws.{or_cases}
@@ -86,10 +81,10 @@ pub either_same : (b : Bool) {r q s z : Evaluated} → SameE r q → SameE s z �
 either_same true h g = h
 either_same false h g = g
 
-arm_same : (x : Word) {r q s z : Evaluated} → SameE r q → SameE s z → SameE (arm_of x r s) (arm_of x q z)
+arm_same : (x : Option ℕ) {r q s z : Evaluated} → SameE r q → SameE s z → SameE (arm_of x r s) (arm_of x q z)
 unfolding arm_of
-arm_same (Is w) h g = either_same (is_true w) h g
-arm_same Not h g = stuck
+arm_same (Some w) h g = either_same (is_true w) h g
+arm_same None h g = stuck
 
 chosen_same : {c d r q s z : Evaluated} → SameE c d → SameE r q → SameE s z → SameE (chosen c r s) (chosen d q z)
 unfolding chosen
@@ -243,7 +238,7 @@ pick_same {π} n n' which {next} {next'} e bs f has A R r s q z h g = go (eqb n'
 
 module _ (count : ℕ) (τ τ' : ℕ → ℕ) (π : ℕ → ℕ) where
   pub eval_e_same : {e e' : Expr} → LessE π e e' → (m : ℕ) → FallsE m e → SitsE count τ e → SitsE count τ' e'
-      → (Γ : Marks) → scope_e Γ e' ≡ Nowhere → (env env' : Env) → length env ≡ count → length env' ≡ count → Envs π m Γ env env'
+      → (Γ : Marks) → scope_e Γ e' ≡ None → (env env' : Env) → length env ≡ count → length env' ≡ count → Envs π m Γ env env'
       → SameE (eval_e env e) (eval_e env' e')
   unfolding eval_e scope_e
   eval_e_same (variables {n' = n'} {b = b} {b' = b'} a g) m f s s' Γ sc env env' l l' h =
@@ -279,7 +274,7 @@ module _ (ed count cells cells' : ℕ) (τ τ' : ℕ → ℕ) (π : ℕ → ℕ)
     unfolding eval_s scope_s held is_clear branch_in has_branch
 
     pub eval_s_same : {s s' : Signal} (x : LessS π s s') → AlikeS st st' x → (m : ℕ) → FallsS m s → SitsS count cells τ s → SitsS count cells' τ' s'
-        → (Γ : Marks) (Δ : Offers) → scope_s ed Γ Δ s' ≡ Nowhere → (env env' : Env) → length env ≡ count → length env' ≡ count → Envs π m Γ env env'
+        → (Γ : Marks) (Δ : Offers) → scope_s ed Γ Δ s' ≡ None → (env env' : Env) → length env ≡ count → length env' ≡ count → Envs π m Γ env env'
         → SameE (eval_s rec st env s) (eval_s rec st' env' s')
     eval_s_same (inputs a) al m f s s' Γ Δ sc env env' l l' h = rule_same (self_same _)
     eval_s_same (times a) al m f s s' Γ Δ sc env env' l l' h = rule_same (self_same _)
@@ -310,7 +305,7 @@ module _ (ed count cells cells' : ℕ) (τ τ' : ℕ → ℕ) (π : ℕ → ℕ)
         rule_same (eval_s_same x al.0 _ f.1 s.0 s'.0 Γ [] (both _ _ sc).0 env env' l l' (envs_below f.0 h))
 
     pub eval_b_same : {s s' : Branches} (x : LessB π s s') → AlikeB st st' x → (m : ℕ) → FallsB m s → SitsB count cells τ s → SitsB count cells' τ' s'
-        → (Γ : Marks) (Δ : Offers) → scope_b ed Γ Δ s' ≡ Nowhere → (env env' : Env) → length env ≡ count → length env' ≡ count → Envs π m Γ env env'
+        → (Γ : Marks) (Δ : Offers) → scope_b ed Γ Δ s' ≡ None → (env env' : Env) → length env ≡ count → length env' ≡ count → Envs π m Γ env env'
         → (which : ℕ) (v : Value) → has_branch which s' ≡ true
         → SameE (eval_b rec st env (π which) v s) (eval_b rec st' env' which v s')
     eval_b_same no_branches al m f s s' Γ Δ sc env env' l l' h which v has = absurd (not_both has)

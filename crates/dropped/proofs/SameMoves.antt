@@ -1,6 +1,6 @@
 -- Updates of an old tree and of a new one with lets dropped, of all kinds.
 -- Assumes nothing.
-use Rattle.std.specs.Prelude.{if◌then◌else◌}
+use Rattle.std.specs.Prelude.{if◌then◌else◌, None}
 use mathlib.Core.Path.{◌≡◌, refl, sym, ◌∙◌}
 use mathlib.Core.List.{[], ◌∷◌}
 use mathlib.Core.Bool.{true}
@@ -18,7 +18,6 @@ use Rattle.rules.specs.Size.{is_cell, times_s, times_b, times_c}
 use Rattle.rules.specs.Evaluate.{Env, bind, eval_s}
 use Rattle.rules.specs.Update.{first_present, upd_s, upd_b, upd_c}
 use Rattle.rules.specs.declared.Value.{Value}
-use Rattle.rules.specs.declared.Place.TheVariants.{Nowhere}
 use Rattle.rules.proofs.Static.{both, holds, not_both}
 use Rattle.promises.specs.Small.{Small}
 use Rattle.promises.specs.Sits.{SitsS, SitsB, SitsC}
@@ -78,7 +77,7 @@ group_of (in_branch c c' e b has) f z h g = rw (c, c', e, b) (g _ _ has)
 module _ (ed count cells cells' : ℕ) (τ τ' : ℕ → ℕ) (π : ℕ → ℕ) (rec : Bytes) where
   -- The events of an until, in list order up to the first present one.
   first_same : {s s' : Cases} (x : LessC π s s') (st st' : Bytes) → AlikeC st st' x → (m : ℕ) → FallsC m s → SitsC count cells τ s → SitsC count cells' τ' s'
-      → (Γ : Marks) (Δ : Offers) → scope_c ed Γ Δ s' ≡ Nowhere → (env env' : Env) → length env ≡ count → length env' ≡ count → Envs π m Γ env env'
+      → (Γ : Marks) (Δ : Offers) → scope_c ed Γ Δ s' ≡ None → (env env' : Env) → length env ≡ count → length env' ≡ count → Envs π m Γ env env'
       → SameO π Δ (first_present rec st env s) (first_present rec st' env' s')
   unfolding first_present scope_s
   first_same no_cases st st' al m f s s' Γ Δ sc env env' l l' h = quiet
@@ -94,7 +93,7 @@ module _ (ed count cells cells' : ℕ) (τ τ' : ℕ → ℕ) (π : ℕ → ℕ)
 
     pub upd_s_same : {s s' : Signal} (x : LessS π s s') (m : ℕ) → FallsS m s → SitsS count cells τ s → SitsS count cells' τ' s'
         → ((j : ℕ) → times_s j s ≤ 1) → ((j : ℕ) → times_s j s' ≤ 1)
-        → (Γ : Marks) (Δ : Offers) → scope_s ed Γ Δ s' ≡ Nowhere → Lone π Δ (λ x. sum_s s (is x)) → (env env' : Env) → length env ≡ count → length env' ≡ count → Envs π m Γ env env'
+        → (Γ : Marks) (Δ : Offers) → scope_s ed Γ Δ s' ≡ None → Lone π Δ (λ x. sum_s s (is x)) → (env env' : Env) → length env ≡ count → length env' ≡ count → Envs π m Γ env env'
         → (st st' : Bytes) → Small st → Small st' → length st ≡ cell_at cells → length st' ≡ cell_at cells' → AlikeS st st' x
         → SameU π Δ (λ j. times_s j s) (λ j. times_s j s') (λ p q. AlikeS p q x) st st' (upd_s rec env s st) (upd_s rec env' s' st')
     upd_s_same (inputs a) m f s s' o o' Γ Δ sc lo env env' l l' h st st' hs hs' ls ls' al =
@@ -207,7 +206,7 @@ module _ (ed count cells cells' : ℕ) (τ τ' : ℕ → ℕ) (π : ℕ → ℕ)
 
     upd_b_same : {s s' : Branches} (x : LessB π s s') (m : ℕ) → FallsB m s → SitsB count cells τ s → SitsB count cells' τ' s'
         → ((j : ℕ) → times_b j s ≤ 1) → ((j : ℕ) → times_b j s' ≤ 1)
-        → (Γ : Marks) (Δ : Offers) → scope_b ed Γ Δ s' ≡ Nowhere → Lone π Δ (λ x. sum_bodies s (is x)) → (env env' : Env) → length env ≡ count → length env' ≡ count → Envs π m Γ env env'
+        → (Γ : Marks) (Δ : Offers) → scope_b ed Γ Δ s' ≡ None → Lone π Δ (λ x. sum_bodies s (is x)) → (env env' : Env) → length env ≡ count → length env' ≡ count → Envs π m Γ env env'
         → (st st' : Bytes) → Small st → Small st' → length st ≡ cell_at cells → length st' ≡ cell_at cells' → AlikeB st st' x
         → (which : ℕ) (v : Value) → has_branch which s' ≡ true
         → SameU π Δ (λ j. times_b j s) (λ j. times_b j s') (λ p q. AlikeB p q x) st st' (upd_b rec env (π which) v s st) (upd_b rec env' which v s' st')
@@ -231,7 +230,7 @@ module _ (ed count cells cells' : ℕ) (τ τ' : ℕ → ℕ) (π : ℕ → ℕ)
 
     upd_c_same : {s s' : Cases} (x : LessC π s s') (m : ℕ) → FallsC m s → SitsC count cells τ s → SitsC count cells' τ' s'
         → ((j : ℕ) → times_c j s ≤ 1) → ((j : ℕ) → times_c j s' ≤ 1)
-        → (Γ : Marks) (Δ : Offers) → scope_c ed Γ Δ s' ≡ Nowhere → Lone π [] (λ x. sum_c s (is x)) → (env env' : Env) → length env ≡ count → length env' ≡ count → Envs π m Γ env env'
+        → (Γ : Marks) (Δ : Offers) → scope_c ed Γ Δ s' ≡ None → Lone π [] (λ x. sum_c s (is x)) → (env env' : Env) → length env ≡ count → length env' ≡ count → Envs π m Γ env env'
         → (st st' : Bytes) → Small st → Small st' → length st ≡ cell_at cells → length st' ≡ cell_at cells' → AlikeC st st' x
         → SameU π [] (λ j. times_c j s) (λ j. times_c j s') (λ p q. AlikeC p q x) st st' (upd_c rec env s st) (upd_c rec env' s' st')
     upd_c_same no_cases m f s s' o o' Γ Δ sc lo env env' l l' h st st' hs hs' ls ls' al = leave_same (kept_self _ st hs) (kept_self _ st' hs') tt

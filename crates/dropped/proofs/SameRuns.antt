@@ -1,6 +1,7 @@
 -- From start, an old program and a new one with lets dropped answer every list of records with equal outputs and refusals after 8.
 -- Assumes nothing.
-use Rattle.std.specs.Prelude.{if◌then◌else◌}
+use Rattle.std.specs.Prelude.{if◌then◌else◌, Ok, Err}
+use Rattle.rules.specs.Verdicts.{Verdict, finished_with, refused_after}
 use mathlib.Core.Path.{◌≡◌, refl, sym, ap, ◌∙◌}
 use mathlib.Core.List.{◌++◌}
 use mathlib.Core.Bool.{Bool, true, false, not}
@@ -24,10 +25,6 @@ use Rattle.rules.specs.declared.Value.{Value}
 use Rattle.rules.specs.declared.Tally.{Tally}
 use Rattle.rules.specs.declared.Refusal.{Refusal}
 use Rattle.rules.specs.declared.Refusal.TheVariants.{InputFault, TimeBack, RecordsLength, OutputLength}
-use Rattle.rules.specs.declared.Verdict.{Verdict}
-use Rattle.rules.specs.declared.Verdict.TheVariants.{Fine, Refuse}
-use Rattle.rules.specs.declared.Ran.{Ran}
-use Rattle.rules.specs.declared.Ran.TheVariants.{Finished}
 use Rattle.rules.proofs.Once.{bound_small}
 use Rattle.rules.proofs.Rooted.{some_node, shaped_of}
 use Rattle.rules.proofs.Static.{and_both, not_both}
@@ -57,24 +54,24 @@ made_inv : {π : ℕ → ℕ} {p q : Bytes} {x : LessS π (root p) (root q)} {v 
 made_inv (made s) = (refl, s)
 
 next_run : (p recs : Bytes) (left done work mark : ℕ) (st out : Bytes) (m : StepMade p (input_at recs done) st)
-    → record_verdict done st (input_at recs done) ≡ Fine
+    → record_verdict done st (input_at recs done) ≡ Ok tt
     → run_from p recs (suc left) done work mark st out
     ≡ run_from p recs left (suc done) (work + m.tally.work) (first_wrapped mark done m.tally) m.state (write_at out (8 * done) (value_bytes m.output))
 unfolding run_from
 next_run p recs left done work mark st out m e = rw (e, run_from, m.made)
 
 stop_run : (p recs : Bytes) (left done work mark : ℕ) (st out : Bytes) (r : Refusal)
-    → record_verdict done st (input_at recs done) ≡ Refuse r
-    → run_from p recs (suc left) done work mark st out ≡ record { answer = Ran.Refused r work mark; state = st; output = out }
+    → record_verdict done st (input_at recs done) ≡ Err r
+    → run_from p recs (suc left) done work mark st out ≡ record { answer = refused_after r work mark; state = st; output = out }
 unfolding run_from
 stop_run p recs left done work mark st out r e = rw (e, run_from)
 
 end_run : (p recs : Bytes) (done work mark : ℕ) (st out : Bytes)
-    → run_from p recs zero done work mark st out ≡ record { answer = Finished done work mark; state = st; output = out }
+    → run_from p recs zero done work mark st out ≡ record { answer = finished_with done work mark; state = st; output = out }
 unfolding run_from
 end_run p recs done work mark st out = refl
 
-record_fine : (done : ℕ) (st rec : Bytes) → record_verdict done st rec ≡ Fine → input_wrong rec ≡ false
+record_fine : (done : ℕ) (st rec : Bytes) → record_verdict done st rec ≡ Ok tt → input_wrong rec ≡ false
 unfolding record_verdict
 record_fine done st rec e = if_fine _ _ (both_fine _ _ e).0
 
@@ -98,9 +95,9 @@ module _ {π : ℕ → ℕ} (p q recs : Bytes) (x : LessS π (root p) (root q)) 
           → SameRun (run_from p recs left (suc done) (work + m.tally.work) (first_wrapped mark done m.tally) m.state (write_at out (8 * done) (value_bytes m.output)))
           (run_from q recs left (suc done) (work' + m'.tally.work) (first_wrapped mark' done m'.tally) m'.state (write_at out (8 * done) (value_bytes m.output))))
           → SameRun (run_from p recs (suc left) done work mark st out) (run_from q recs (suc left) done work' mark' st' out)
-      go (Refuse r) e more =
+      go (Err r) e more =
           rw (stop_run p recs left done work mark st out r e, stop_run q recs left done work' mark' st' out r (sym same ∙ e)) (record { answers = refused; outputs = refl })
-      go Fine e more =
+      go (Ok _) e more =
           let t = in_time rec (record_fine done st rec e) in
           let m = step_goes_on p rec st pa sp w s.bytes (small_input recs done hr) t in
           let m' = step_goes_on q rec st' qa sq w' s.bytes' (small_input recs done hr) t in

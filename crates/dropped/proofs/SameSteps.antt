@@ -17,7 +17,7 @@ use Rattle.rules.specs.Update.{Stepped, Made, NotMade, updated, evaluated, step_
 use Rattle.rules.specs.Accepted.{Accepted}
 use Rattle.rules.specs.declared.Value.{Value}
 use Rattle.rules.specs.declared.Tally.{Tally}
-use Rattle.rules.specs.declared.Evaluated.{Evaluated}
+use Rattle.rules.specs.Evaluated.{Evaluated}
 use Rattle.rules.proofs.Static.{not_both}
 use Rattle.promises.specs.Small.{Small}
 use Rattle.promises.specs.Seated.{Seated}

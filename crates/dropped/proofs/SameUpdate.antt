@@ -24,12 +24,9 @@ use Rattle.rules.specs.Update.{laterᵒ, occurs_if, occurs, on_occurrence, caugh
 use Rattle.rules.specs.declared.Value.{Value}
 use Rattle.rules.specs.declared.Value.TheVariants.{Plain, Absent, Present}
 use Rattle.rules.specs.declared.Tally.{Tally}
-use Rattle.rules.specs.declared.Opened.{Opened}
-use Rattle.rules.specs.declared.Opened.TheVariants.{Here, Gone, Amiss}
-use Rattle.rules.specs.declared.Evaluated.{Evaluated}
-use Rattle.rules.specs.declared.Evaluated.TheVariants.{Done, Stuck}
-use Rattle.rules.specs.declared.Occurrence.{Occurrence}
-use Rattle.rules.specs.declared.Occurrence.TheVariants.{Took, Quiet}
+use Rattle.rules.specs.Opened.{Opened, Here, Gone, Amiss}
+use Rattle.rules.specs.Evaluated.{Evaluated, Done, Stuck}
+use Rattle.rules.specs.Occurrence.{Occurrence, Took, Quiet}
 use Rattle.rules.proofs.Static.{holds, not_both, and_both}
 use Rattle.promises.specs.Small.{Small}
 use Rattle.promises.specs.Sits.{SitsS, SitsB}

@@ -1,5 +1,6 @@
 -- What the rule leaves of an accepted program is in scope, typed and ready: with its format and shape right it is accepted.
 -- Assumes nothing.
+use Rattle.std.specs.Prelude.{None}
 use mathlib.Core.Path.{◌≡◌, sym, ap, ◌∙◌}
 use mathlib.Core.List.{[]}
 use mathlib.Core.Bool.{true}
@@ -15,7 +16,6 @@ use Rattle.rules.specs.Typing.{type_fault}
 use Rattle.rules.specs.Ready.{ready_fault}
 use Rattle.rules.specs.Tree.{Expr, Signal, Branches, Cases, root}
 use Rattle.rules.specs.Accepted.{Formed, Accepted}
-use Rattle.rules.specs.declared.Place.TheVariants.{Nowhere}
 use Rattle.rules.proofs.Static.{not_both, or_right}
 use Rattle.dropped.specs.Less.{LessE, LessS, LessB, LessC}
 use Rattle.dropped.specs.Uses.{uses_e, uses_s, uses_b, uses_c}
@@ -115,7 +115,7 @@ drops_unused none h u = u
 drops_unused (one x y) h u = drop_unused x (drops_less y h) (drops_unused y h u)
 
 -- A program of right format and shape that the rule leaves of an accepted one, with no two nodes paired with one: accepted.
-pub rule_accepted : (p q : Bytes) (π : ℕ → ℕ) → edition q ≡ edition p → Accepted p → Formed q → first (shape_wrong q) (nodes q) ≡ Nowhere → (c : ℕ) → c ≤ most_nodes → WithinS c (root q)
+pub rule_accepted : (p q : Bytes) (π : ℕ → ℕ) → edition q ≡ edition p → Accepted p → Formed q → first (shape_wrong q) (nodes q) ≡ None → (c : ℕ) → c ≤ most_nodes → WithinS c (root q)
     → ((i j : ℕ) → i < c → j < c → π i ≡ π j → i ≡ j) → Rule p q π → Accepted q
 unfolding scope_fault type_fault ready_fault unmarked rule_less is_offered
 rule_accepted p q π ed pa f s c few w inj r =

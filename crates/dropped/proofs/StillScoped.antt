@@ -1,5 +1,6 @@
 -- A tree with unused lets dropped is in scope where the old one is, if no two new nodes are paired with one old node.
 -- Assumes nothing.
+use Rattle.std.specs.Prelude.{Option, None, ℕ}
 use mathlib.Core.Path.{◌≡◌, refl, sym, ap, ◌∙◌}
 use mathlib.Core.Logic.{◌≢◌, ◌⊎◌, inl, inr}
 use mathlib.Core.List.{[], ◌∷◌}
@@ -15,8 +16,6 @@ use Rattle.rules.specs.Bytes.{◌or◌}
 use Rattle.rules.specs.Places.{sooner, wrong_unless}
 use Rattle.rules.specs.Tree.{Expr, Signal, Branches, Cases}
 use Rattle.rules.specs.Scope.{Marks, mark, is_marked, Offers, has_branch, is_offered, onward, scope_e, scope_s, scope_b, scope_c}
-use Rattle.rules.specs.declared.Place.{Place}
-use Rattle.rules.specs.declared.Place.TheVariants.{Nowhere}
 use Rattle.rules.proofs.Static.{both, holds, not_both, or_left, or_right}
 use Rattle.promises.proofs.ValidLaws.{or_cases}
 use Rattle.promises.proofs.SoundE.{mark_other}
@@ -24,11 +23,11 @@ use Rattle.dropped.specs.Uses.{uses_e, uses_s, uses_b, uses_c}
 use Rattle.dropped.specs.Apart.{WithinE, WithinS, WithinB, WithinC, UnusedS, UnusedB, UnusedC}
 use Rattle.dropped.specs.Less.{LessE, variables, constants, operations, negations, choices, justs, takings, LessS, inputs, times, exts, delays, lets, dropped, switches, groups, untils, LessB, no_branches, branches, LessC, no_cases, cases}
 
-neither : {a b : Place} → a ≡ Nowhere → b ≡ Nowhere → sooner a b ≡ Nowhere
+neither : {a b : Option ℕ} → a ≡ None → b ≡ None → sooner a b ≡ None
 unfolding sooner
 neither e f = rw (e, f) refl
 
-right_at : (t : Bool) (n : ℕ) → t ≡ true → wrong_unless t n ≡ Nowhere
+right_at : (t : Bool) (n : ℕ) → t ≡ true → wrong_unless t n ≡ None
 unfolding wrong_unless
 right_at t n e = rw e refl
 
@@ -63,7 +62,7 @@ module _ {π : ℕ → ℕ} (ed c : ℕ) (inj : (i j : ℕ) → i < c → j < c 
   marked_drop : (Γ Γ' : Marks) (uses : ℕ → Bool) (n : ℕ) → ((y : ℕ) → uses y ≡ true → π y ≢ n) → Marked Γ Γ' uses → Marked (mark Γ n) Γ' uses
   marked_drop Γ Γ' uses n f h y ly u i = h y ly u (sym (mark_other Γ n (π y) (f y u)) ∙ i)
 
-  scope_e_still : {e e' : Expr} → LessE π e e' → WithinE c e' → (Γ Γ' : Marks) → c ≤ length Γ' → Marked Γ Γ' (λ y. uses_e y e') → scope_e Γ e ≡ Nowhere → scope_e Γ' e' ≡ Nowhere
+  scope_e_still : {e e' : Expr} → LessE π e e' → WithinE c e' → (Γ Γ' : Marks) → c ≤ length Γ' → Marked Γ Γ' (λ y. uses_e y e') → scope_e Γ e ≡ None → scope_e Γ' e' ≡ None
   unfolding scope_e uses_e
   scope_e_still (variables {n = n} {n' = n'} {b = b} {b' = b'} a g) w Γ Γ' l h sc =
       right_at _ n' (h b' w (eq-eqb b' b' refl) (ap (is_marked Γ) (sym g) ∙ holds _ n sc))
@@ -125,7 +124,7 @@ module _ {π : ℕ → ℕ} (ed c : ℕ) (inj : (i j : ℕ) → i < c → j < c 
     unfolding scope_s uses_s
 
     pub scope_still : {s s' : Signal} (x : LessS π s s') → UnusedS x → WithinS c s' → (Γ Γ' : Marks) → c ≤ length Γ' → (Δ Δ' : Offers)
-        → Marked Γ Γ' (λ y. uses_s y s') → Offered Δ Δ' → scope_s ed Γ Δ s ≡ Nowhere → scope_s ed Γ' Δ' s' ≡ Nowhere
+        → Marked Γ Γ' (λ y. uses_s y s') → Offered Δ Δ' → scope_s ed Γ Δ s ≡ None → scope_s ed Γ' Δ' s' ≡ None
     scope_still (inputs a) u w Γ Γ' l Δ Δ' h o sc = refl
     scope_still (times a) u w Γ Γ' l Δ Δ' h o sc = refl
     scope_still (exts a e) u w Γ Γ' l Δ Δ' h o sc = scope_e_still e w Γ Γ' l h sc
@@ -158,7 +157,7 @@ module _ {π : ℕ → ℕ} (ed c : ℕ) (inj : (i j : ℕ) → i < c → j < c 
         (scope_c_still cs u.1 w.1 Γ Γ' l Δ Δ' (fewer Γ Γ' _ _ (λ v i. or_right _ _ i) h) o z.1)
 
     scope_b_still : {s s' : Branches} (x : LessB π s s') → UnusedB x → WithinB c s' → (Γ Γ' : Marks) → c ≤ length Γ' → (Δ Δ' : Offers)
-        → Marked Γ Γ' (λ y. uses_b y s') → Offered Δ Δ' → scope_b ed Γ Δ s ≡ Nowhere → scope_b ed Γ' Δ' s' ≡ Nowhere
+        → Marked Γ Γ' (λ y. uses_b y s') → Offered Δ Δ' → scope_b ed Γ Δ s ≡ None → scope_b ed Γ' Δ' s' ≡ None
     scope_b_still no_branches u w Γ Γ' l Δ Δ' h o sc = refl
     scope_b_still (branches {n = n} {n' = n'} a b bs) u w Γ Γ' l Δ Δ' h o sc =
         let z = both _ _ sc in
@@ -167,7 +166,7 @@ module _ {π : ℕ → ℕ} (ed c : ℕ) (inj : (i j : ℕ) → i < c → j < c 
         (scope_b_still bs u.1 w.2 Γ Γ' l Δ Δ' (fewer Γ Γ' _ _ (λ v i. or_right _ _ i) h) o z.1)
 
     scope_c_still : {s s' : Cases} (x : LessC π s s') → UnusedC x → WithinC c s' → (Γ Γ' : Marks) → c ≤ length Γ' → (Δ Δ' : Offers)
-        → Marked Γ Γ' (λ y. uses_c y s') → Offered Δ Δ' → scope_c ed Γ Δ s ≡ Nowhere → scope_c ed Γ' Δ' s' ≡ Nowhere
+        → Marked Γ Γ' (λ y. uses_c y s') → Offered Δ Δ' → scope_c ed Γ Δ s ≡ None → scope_c ed Γ' Δ' s' ≡ None
     scope_c_still no_cases u w Γ Γ' l Δ Δ' h o sc = refl
     scope_c_still (cases {n = n} {n' = n'} {target = target} {target' = target'} a g e cs) u w Γ Γ' l Δ Δ' h o sc =
         let z = both _ _ sc in

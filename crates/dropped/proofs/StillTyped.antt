@@ -1,6 +1,6 @@
 -- A tree with lets dropped is typed and ready where the old one is.
 -- Assumes nothing.
-use Rattle.std.specs.Prelude.{if◌then◌else◌}
+use Rattle.std.specs.Prelude.{if◌then◌else◌, Option, Some, None, ℕ}
 use mathlib.Core.Path.{◌≡◌, refl, sym, ap, ◌∙◌}
 use mathlib.Core.Bool.{Bool, true, false}
 use Prim.Native.Nat.{ℕ}
@@ -14,8 +14,6 @@ use Rattle.rules.specs.Places.{sooner, wrong_if, wrong_unless}
 use Rattle.rules.specs.Tree.{Expr, Signal, Branches, Cases}
 use Rattle.rules.specs.Typing.{just_type, type_e, type_s, types_e, types_s, types_b, types_c, bodies_have}
 use Rattle.rules.specs.Ready.{needs_e, needs_s, needs_b, ready_s, ready_b, ready_c}
-use Rattle.rules.specs.declared.Place.{Place}
-use Rattle.rules.specs.declared.Place.TheVariants.{At, Nowhere}
 use Rattle.rules.proofs.Static.{both, kept, or_right}
 use Rattle.dropped.specs.Less.{LessE, variables, constants, operations, negations, choices, justs, takings, LessS, inputs, times, exts, delays, lets, dropped, switches, groups, untils, LessB, no_branches, branches, LessC, no_cases, cases}
 use Rattle.dropped.proofs.OnePass.{or_join, to_false}
@@ -44,19 +42,19 @@ type_s_same (groups a b bs) = type_s_same b
 type_s_same (untils a s cs) = type_s_same s
 
 -- A rule that holds at another number too; two places that are nowhere.
-moved : (t u : Bool) (n n' : ℕ) → u ≡ t → wrong_unless t n ≡ Nowhere → wrong_unless u n' ≡ Nowhere
+moved : (t u : Bool) (n n' : ℕ) → u ≡ t → wrong_unless t n ≡ None → wrong_unless u n' ≡ None
 unfolding wrong_unless
 moved t u n n' e h = go t e h
   where
-    go : (t : Bool) → u ≡ t → (if t then Nowhere else At n) ≡ Nowhere → (if u then Nowhere else At n') ≡ Nowhere
+    go : (t : Bool) → u ≡ t → (if t then None else Some n) ≡ None → (if u then None else Some n') ≡ None
     go true z i = rw z refl
     go false z i = absurd (let w : ◌≡◌ {A = ℕ} 0 1 = cc in omega arith)
 
-neither : {a b : Place} → a ≡ Nowhere → b ≡ Nowhere → sooner a b ≡ Nowhere
+neither : {a b : Option ℕ} → a ≡ None → b ≡ None → sooner a b ≡ None
 unfolding sooner
 neither e f = rw (e, f) refl
 
-types_e_still : {π : ℕ → ℕ} {e e' : Expr} → LessE π e e' → types_e e ≡ Nowhere → types_e e' ≡ Nowhere
+types_e_still : {π : ℕ → ℕ} {e e' : Expr} → LessE π e e' → types_e e ≡ None → types_e e' ≡ None
 unfolding types_e
 types_e_still (variables a b) h = refl
 types_e_still (constants a) h = refl
@@ -104,7 +102,7 @@ bodies_same t t' e (branches a b bs) =
 mutual
   unfolding types_s
 
-  pub types_still : {π : ℕ → ℕ} {s s' : Signal} → LessS π s s' → types_s s ≡ Nowhere → types_s s' ≡ Nowhere
+  pub types_still : {π : ℕ → ℕ} {s s' : Signal} → LessS π s s' → types_s s ≡ None → types_s s' ≡ None
   types_still (inputs a) h = refl
   types_still (times a) h = refl
   types_still (exts a e) h = types_e_still e h
@@ -135,13 +133,13 @@ mutual
       let p = both _ _ h in
       neither (types_still s p.0) (types_c_still cs p.1)
 
-  types_b_still : {π : ℕ → ℕ} {s s' : Branches} → LessB π s s' → types_b s ≡ Nowhere → types_b s' ≡ Nowhere
+  types_b_still : {π : ℕ → ℕ} {s s' : Branches} → LessB π s s' → types_b s ≡ None → types_b s' ≡ None
   types_b_still no_branches h = refl
   types_b_still (branches a b bs) h =
       let p = both _ _ h in
       neither (types_still b p.0) (types_b_still bs p.1)
 
-  types_c_still : {π : ℕ → ℕ} {s s' : Cases} → LessC π s s' → types_c s ≡ Nowhere → types_c s' ≡ Nowhere
+  types_c_still : {π : ℕ → ℕ} {s s' : Cases} → LessC π s s' → types_c s ≡ None → types_c s' ≡ None
   types_c_still no_cases h = refl
   types_c_still (cases {n = n} {n' = n'} {t = t} a g e cs) h =
       let p = both _ _ h in
@@ -178,14 +176,14 @@ mutual
   needs_b_old no_branches x h = h
   needs_b_old (branches a b bs) x h = or_join _ _ _ _ (λ z. needs_old b x z) (λ z. needs_b_old bs x z) h
 
-still_unneeded : (u : Bool) (n' : ℕ) → u ≡ false → wrong_if u n' ≡ Nowhere
+still_unneeded : (u : Bool) (n' : ℕ) → u ≡ false → wrong_if u n' ≡ None
 unfolding wrong_if
 still_unneeded u n' e = rw e refl
 
 mutual
   unfolding ready_s
 
-  pub ready_still : {π : ℕ → ℕ} {s s' : Signal} → LessS π s s' → ready_s s ≡ Nowhere → ready_s s' ≡ Nowhere
+  pub ready_still : {π : ℕ → ℕ} {s s' : Signal} → LessS π s s' → ready_s s ≡ None → ready_s s' ≡ None
   ready_still (inputs a) h = refl
   ready_still (times a) h = refl
   ready_still (exts a e) h = refl
@@ -207,13 +205,13 @@ mutual
       let p = both _ _ h in
       neither (ready_still s p.0) (ready_c_still cs p.1)
 
-  ready_b_still : {π : ℕ → ℕ} {s s' : Branches} → LessB π s s' → ready_b s ≡ Nowhere → ready_b s' ≡ Nowhere
+  ready_b_still : {π : ℕ → ℕ} {s s' : Branches} → LessB π s s' → ready_b s ≡ None → ready_b s' ≡ None
   ready_b_still no_branches h = refl
   ready_b_still (branches a b bs) h =
       let p = both _ _ h in
       neither (ready_still b p.0) (ready_b_still bs p.1)
 
-  ready_c_still : {π : ℕ → ℕ} {s s' : Cases} → LessC π s s' → ready_c s ≡ Nowhere → ready_c s' ≡ Nowhere
+  ready_c_still : {π : ℕ → ℕ} {s s' : Cases} → LessC π s s' → ready_c s ≡ None → ready_c s' ≡ None
   ready_c_still no_cases h = refl
   ready_c_still (cases a g e cs) h =
       let p = both _ _ h in

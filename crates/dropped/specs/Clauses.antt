@@ -3,7 +3,8 @@
 -- field a, b, c, "is paired with a node reached from the old child of that field through the bodies of zero or more lets"; 7 "binder and target are
 -- paired with the old binder and target"; 8 "for the last entry, .. it is so reached from the old root".
 -- Assumes nothing: these are definitions.
-use Rattle.std.specs.Prelude.{ℕ, suc, ◌-◌, Bool, not, eqb, ltb, if◌then◌else◌}
+use Rattle.rules.specs.Verdicts.{Verdict}
+use Rattle.std.specs.Prelude.{ℕ, suc, ◌-◌, Bool, not, eqb, ltb, if◌then◌else◌, Option, Some, None, Ok, Err}
 use Rattle.rules.specs.Bytes.{Bytes, ◌and◌, ◌or◌}
 use Rattle.rules.specs.Layout.{nodes, kind_at, type_at, a_at, b_at, c_at, word_at, no_next}
 use Rattle.rules.specs.Kinds.{fields_of}
@@ -11,9 +12,24 @@ use Rattle.rules.specs.Calls.{program_verdict}
 use Rattle.rules.specs.declared.Field.{Field}
 use Rattle.rules.specs.declared.Field.TheVariants.{Unused, Channel, PresentByte, Signal, Expression, FirstBranch, NextBranch, FirstCase, NextCase, Binder, Target}
 use Rattle.rules.specs.declared.Fields.{Fields}
-use Rattle.rules.specs.declared.Verdict.{Verdict}
-use Rattle.rules.specs.declared.Verdict.TheVariants.{Fine, Refuse}
 use Rattle.dropped.specs.Pairing.{Pairing, old_of, reaches}
+use Rattle.dropped.specs.declared.Clause.{Clause}
+use Rattle.dropped.specs.declared.Clause.TheVariants.{OldNode, PlainFields, Next, ChildA, ChildB, ChildC, Named, Root}
+
+-- The number of a clause; 0 of none.
+abbrev pub number_of : Clause → ℕ
+number_of OldNode = 1
+number_of PlainFields = 2
+number_of Next = 3
+number_of ChildA = 4
+number_of ChildB = 5
+number_of ChildC = 6
+number_of Named = 7
+number_of Root = 8
+
+abbrev pub number_in : Option Clause → ℕ
+number_in None = 0
+number_in (Some clause) = number_of clause
 
 -- A clause, where its test fails; and the first of two clauses.
 unfoldable pub unless : Bool → ℕ → ℕ
@@ -64,9 +80,9 @@ entry_broken p q π i =
 
 -- What is told of an entry: 0 also where there is none to judge, since a program is refused or there is no such new node.
 unfoldable pub clause_of : Bytes → Bytes → Pairing → ℕ → Verdict → Verdict → ℕ
-clause_of p q pairing i (Refuse r) w = 0
-clause_of p q pairing i Fine (Refuse r) = 0
-clause_of p q pairing i Fine Fine = if ltb i (nodes q) then entry_broken p q (old_of pairing) i else 0
+clause_of p q pairing i (Err r) w = 0
+clause_of p q pairing i (Ok _) (Err r) = 0
+clause_of p q pairing i (Ok _) (Ok _) = if ltb i (nodes q) then entry_broken p q (old_of pairing) i else 0
 
 unfoldable pub clause_call : Bytes → Bytes → Pairing → ℕ → ℕ
 clause_call p q pairing i = clause_of p q pairing i (program_verdict p) (program_verdict q)

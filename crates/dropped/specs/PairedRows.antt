@@ -1,14 +1,12 @@
 -- Pairings, what the call answers, and which clause a wrong entry breaks, as rows.
 -- Assumes nothing: these are definitions.
-use Rattle.std.specs.Prelude.{ℕ, List, [], ◌∷◌}
+use Rattle.std.specs.Prelude.{ℕ, List, [], ◌∷◌, Result, Ok, Err, Option, Some, None}
 use Rattle.rules.specs.Bytes.{Bytes}
 use Rattle.rules.specs.Layout.{no_next}
 use Rattle.rules.specs.Samples.{program, program_two, input, ext, let_signal, let_continue, branch, variable, constant, add}
-use Rattle.rules.specs.declared.Place.{Place}
-use Rattle.rules.specs.declared.Place.TheVariants.{At, Nowhere}
 use Rattle.rules.specs.declared.Refusal.TheVariants.{ProgramLength}
-use Rattle.dropped.specs.declared.Paired.{Paired}
-use Rattle.dropped.specs.declared.Paired.TheVariants.{OldRefused, NewRefused, EditionsDiffer, PairingLength}
+use Rattle.dropped.specs.declared.Unpaired.{Unpaired}
+use Rattle.dropped.specs.declared.Unpaired.TheVariants.{OldRefused, NewRefused, EditionsDiffer, PairingLength}
 use Rattle.dropped.specs.PairedCall.{paired_call}
 use Rattle.dropped.specs.Pairing.{old_of, pairing_fault}
 use Rattle.dropped.specs.Clauses.{entry_broken}
@@ -41,7 +39,7 @@ two_branches = program (input 0 ∷ input 1 ∷ branch 1 no_next ∷ input 1 ∷
 
 -- The call: the old program's fault first, then the new one's; 29; 27 (the pairing lacks an entry); two lets dropped, one of them through the
 -- other.
-abbrev pub called : List Paired
+abbrev pub called : List (Result (Unit {0}) Unpaired)
 called =
     paired_call [] [] []
     ∷ paired_call five [] []
@@ -50,13 +48,13 @@ called =
     ∷ paired_call chain five (3 ∷ 4 ∷ [])
     ∷ []
 
-abbrev pub called_so : List Paired
-called_so = OldRefused ProgramLength ∷ NewRefused ProgramLength ∷ EditionsDiffer ∷ PairingLength ∷ Paired.Accepted ∷ []
+abbrev pub called_so : List (Result (Unit {0}) Unpaired)
+called_so = Err (OldRefused ProgramLength) ∷ Err (NewRefused ProgramLength) ∷ Err EditionsDiffer ∷ Err PairingLength ∷ Ok tt ∷ []
 
 -- The first wrong entry: none, where one let is dropped, and none is. Then one that names no old node; another value; a let added; a next where the
 -- old branch has none, and none where it has one; a constant of a dropped definition (its parent is wrong); twin lets exchanged with their
 -- variables, and without; a used let dropped; the definition in place of the whole.
-abbrev pub faults : List Place
+abbrev pub faults : List (Option ℕ)
 faults =
     pairing_fault unused case_a (2 ∷ 3 ∷ 4 ∷ 5 ∷ 6 ∷ 7 ∷ 8 ∷ 9 ∷ [])
     ∷ pairing_fault unused unused (0 ∷ 1 ∷ 2 ∷ 3 ∷ 4 ∷ 5 ∷ 6 ∷ 7 ∷ 8 ∷ 9 ∷ 10 ∷ [])
@@ -72,8 +70,8 @@ faults =
     ∷ pairing_fault unused definition (0 ∷ 1 ∷ [])
     ∷ []
 
-abbrev pub faults_so : List Place
-faults_so = Nowhere ∷ Nowhere ∷ At 1 ∷ At 0 ∷ At 0 ∷ At 4 ∷ At 2 ∷ At 2 ∷ At 4 ∷ At 2 ∷ At 1 ∷ At 1 ∷ []
+abbrev pub faults_so : List (Option ℕ)
+faults_so = None ∷ None ∷ Some 1 ∷ Some 0 ∷ Some 0 ∷ Some 4 ∷ Some 2 ∷ Some 2 ∷ Some 4 ∷ Some 2 ∷ Some 1 ∷ Some 1 ∷ []
 
 -- The clauses that those ten break.
 abbrev pub broken : List ℕ

@@ -1,10 +1,9 @@
 -- A pairing of a new program's nodes with an old one's, and which of its entries is wrong (request n).
 -- Assumes nothing: these are definitions.
-use Rattle.std.specs.Prelude.{ℕ, zero, suc, ◌-◌, List, Bool, false, not, get_or, eqb, ltb, if◌then◌else◌}
+use Rattle.std.specs.Prelude.{ℕ, zero, suc, ◌-◌, List, Bool, false, not, get_or, eqb, ltb, if◌then◌else◌, Option}
 use Rattle.rules.specs.Bytes.{Bytes, first, ◌and◌, ◌or◌}
 use Rattle.rules.specs.Layout.{nodes, kind_at, type_at, a_at, b_at, c_at, word_at, no_next}
 use Rattle.rules.specs.Kinds.{fields_of}
-use Rattle.rules.specs.declared.Place.{Place}
 use Rattle.rules.specs.declared.Field.{Field}
 use Rattle.rules.specs.declared.Field.TheVariants.{Unused, Channel, PresentByte, Signal, Expression, FirstBranch, NextBranch, FirstCase, NextCase, Binder, Target}
 
@@ -56,5 +55,5 @@ unfoldable pub entry_wrong : Bytes → Bytes → Pairing → ℕ → Bool
 entry_wrong p q pairing i = not (entry_right p q (old_of pairing) i)
 
 -- Code 28: the first wrong entry.
-unfoldable pub pairing_fault : Bytes → Bytes → Pairing → Place
+unfoldable pub pairing_fault : Bytes → Bytes → Pairing → Option ℕ
 pairing_fault p q pairing = first (entry_wrong p q pairing) (nodes q)

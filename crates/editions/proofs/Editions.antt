@@ -1,6 +1,7 @@
 -- A table that edition one does not refuse by code 6 is answered in edition two as in edition one: verdict, outputs, work and next states.
 -- Assumes nothing.
-use Rattle.std.specs.Prelude.{if◌then◌else◌}
+use Rattle.std.specs.Prelude.{if◌then◌else◌, Option, Some, None, Ok, Err, ℕ}
+use Rattle.rules.specs.Verdicts.{Verdict, accepted_with, refused_after}
 use mathlib.Core.Path.{◌≡◌, refl, sym, ap, ◌∙◌}
 use mathlib.Core.Bool.{Bool, true, false, not}
 use mathlib.Core.List.{[], ◌++◌}
@@ -23,17 +24,8 @@ use Rattle.rules.specs.Bound.{bound_s, bound_u, bound}
 use Rattle.rules.specs.Evaluate.{unbound, eval_s}
 use Rattle.rules.specs.Update.{Stepped, Made, NotMade, upd_s, updated, evaluated, step_of}
 use Rattle.rules.specs.Calls.{◌otherwise◌, refuse_if, refuse_at, program_verdict, check_answer, check_call, StartOutcome, start_outcome, start_call, record_verdict, RunOutcome, first_wrapped, run_from}
-use Rattle.rules.specs.declared.Place.{Place}
-use Rattle.rules.specs.declared.Place.TheVariants.{At, Nowhere}
 use Rattle.rules.specs.declared.Refusal.{Refusal}
 use Rattle.rules.specs.declared.Refusal.TheVariants.{ProgramLength, CheckSum, BlockNumber, RecordFault, ShapeFault, ScopeFault, TypeFault, NotReady, StateFault, RecordsLength, OutputLength}
-use Rattle.rules.specs.declared.Verdict.{Verdict}
-use Rattle.rules.specs.declared.Verdict.TheVariants.{Fine, Refuse}
-use Rattle.rules.specs.declared.Checked.{Checked}
-use Rattle.rules.specs.declared.Checked.TheVariants.{Accepted}
-use Rattle.rules.specs.declared.Started.{Started}
-use Rattle.rules.specs.declared.Started.TheVariants.{Ready}
-use Rattle.rules.specs.declared.Ran.{Ran}
 use Rattle.rules.proofs.Verdicts.{not_fine, accepted}
 use Rattle.editions.specs.Twins.{InEdition, Twins, NotOutOfScope, SameCalls}
 use Rattle.editions.proofs.SameTree.{Everywhere, nodes_same, cells_same, root_same}
@@ -42,17 +34,17 @@ use Rattle.editions.proofs.Wider.{wider_s}
 use Rattle.editions.proofs.Everywhere.{everywhere}
 
 -- No place, where the test fails at all of them.
-no_place : (test : ℕ → Bool) (left k : ℕ) → ((j : ℕ) → j < k + left → test j ≡ false) → first_from test k left ≡ Nowhere
+no_place : (test : ℕ → Bool) (left k : ℕ) → ((j : ℕ) → j < k + left → test j ≡ false) → first_from test k left ≡ None
 unfolding first_from
 no_place test zero k h = refl
 no_place test (suc left) k h = rw (h k (omega arith), first_from) (no_place test left (suc k) λ j l. h j (omega arith))
 
-none_of : (test : ℕ → Bool) (count : ℕ) → ((j : ℕ) → j < count → test j ≡ false) → first test count ≡ Nowhere
+none_of : (test : ℕ → Bool) (count : ℕ) → ((j : ℕ) → j < count → test j ≡ false) → first test count ≡ None
 unfolding first
 none_of test count h = no_place test count 0 λ j l. h j (omega arith)
 
 -- Codes 4 and on, by the places of their faults.
-from_records : Place → Place → Place → Place → Place → Verdict
+from_records : Option ℕ → Option ℕ → Option ℕ → Option ℕ → Option ℕ → Verdict
 from_records r shape scope types ready =
     refuse_at RecordFault r otherwise refuse_at ShapeFault shape otherwise refuse_at ScopeFault scope
     otherwise refuse_at TypeFault types otherwise refuse_at NotReady ready
@@ -60,29 +52,29 @@ from_records r shape scope types ready =
 -- A file whose blocks are right is refused by its length, or from code 4 on.
 right_blocks : (e : ℕ) (p : Bytes) → InEdition e p → (b : Bool) → length_wrong p ≡ b
     → program_verdict p
-    ≡ (if b then Refuse ProgramLength
+    ≡ (if b then Err ProgramLength
     else from_records (first (record_wrong p) (records p)) (first (shape_wrong p) (nodes p)) (scope_fault p) (type_fault p) (ready_fault p))
 unfolding program_verdict from_records refuse_if refuse_at ◌otherwise◌
 right_blocks e p f true l = rw l
 right_blocks e p f false l = rw (l, none_of (sum_wrong p) (blocks p) f.sums, none_of (number_wrong p) (blocks p) f.numbers)
 
 -- Where edition one has no fault of scope before it, the codes from 4 on are the same if scope's are.
-same_from : (r shape scope₁ scope₂ types ready : Place) → (scope₁ ≡ Nowhere → scope₂ ≡ Nowhere)
-    → ((n : ℕ) → from_records r shape scope₁ types ready ≡ Refuse (ScopeFault n) → ⊥)
+same_from : (r shape scope₁ scope₂ types ready : Option ℕ) → (scope₁ ≡ None → scope₂ ≡ None)
+    → ((n : ℕ) → from_records r shape scope₁ types ready ≡ Err (ScopeFault n) → ⊥)
     → from_records r shape scope₂ types ready ≡ from_records r shape scope₁ types ready
 unfolding from_records refuse_at ◌otherwise◌
-same_from (At n) shape scope₁ scope₂ types ready f no₀ = refl
-same_from Nowhere (At n) scope₁ scope₂ types ready f no₀ = refl
-same_from Nowhere Nowhere (At n) scope₂ types ready f no₀ = absurd (no₀ n refl)
-same_from Nowhere Nowhere Nowhere scope₂ types ready f no₀ = rw (f refl)
+same_from (Some n) shape scope₁ scope₂ types ready f no₀ = refl
+same_from None (Some n) scope₁ scope₂ types ready f no₀ = refl
+same_from None None (Some n) scope₂ types ready f no₀ = absurd (no₀ n refl)
+same_from None None None scope₂ types ready f no₀ = rw (f refl)
 
 module _ (p q : Bytes) (s : Everywhere p q) where
   check_same : (v : Verdict) → check_answer q v ≡ check_answer p v
   unfolding check_answer bound
-  check_same Fine =
+  check_same (Ok _) =
       let r = root_same p q s in
-      sym (λ i. Accepted (nodes_same p q s i) (cells_same p q s i) (bound_s (r i) + bound_u (r i)) (type_s (r i)))
-  check_same (Refuse r) = refl
+      sym (λ i. accepted_with (nodes_same p q s i) (cells_same p q s i) (bound_s (r i) + bound_u (r i)) (type_s (r i)))
+  check_same (Err r) = refl
 
   length_of : state_length p ≡ state_length q
   unfolding state_length
@@ -94,8 +86,8 @@ module _ (p q : Bytes) (s : Everywhere p q) where
 
   started_same : (st : Bytes) (v : Verdict) → (start_outcome q st v).answer ≡ (start_outcome p st v).answer
   unfolding start_outcome
-  started_same st Fine = refl
-  started_same st (Refuse r) = refl
+  started_same st (Ok _) = refl
+  started_same st (Err r) = refl
 
   long_same : (st : Bytes) → long_as_cells q st ≡ long_as_cells p st
   unfolding long_as_cells
@@ -118,11 +110,11 @@ module _ (p q : Bytes) (s : Everywhere p q) where
       let f = step_same (input_at recs done) st in
       λ i.
       elim (record_verdict done st (input_at recs done)) [
-        | Refuse r ↦ record { answer = Ran.Refused r work mark; state = st; output = out }
-        | Fine ↦
+        | Err r ↦ record { answer = refused_after r work mark; state = st; output = out }
+        | Ok _ ↦
             elim (f i) [
               | Made v st₁ w ↦ run_same recs left (suc done) (work + w.work) (first_wrapped mark done w) st₁ (write_at out (8 * done) (value_bytes v)) i
-              | NotMade ↦ record { answer = Ran.Refused StateFault work mark; state = st; output = out }
+              | NotMade ↦ record { answer = refused_after StateFault work mark; state = st; output = out }
             ]
       ]
 
@@ -142,7 +134,7 @@ module _ (p q : Bytes) (s : Everywhere p q) where
       }
 
   -- Scope: none in edition one is none in edition two.
-  scope_same : edition p ≡ 0 → edition q ≡ 1 → scope_fault p ≡ Nowhere → scope_fault q ≡ Nowhere
+  scope_same : edition p ≡ 0 → edition q ≡ 1 → scope_fault p ≡ None → scope_fault q ≡ None
   unfolding scope_fault
   scope_same one two e =
       let tree = root_same p q s in
@@ -166,7 +158,7 @@ pub same_in_two : (p q : Bytes) → Twins p q → length_wrong p ≡ false → N
 same_in_two p q t l no₀ = let s = everywhere p q t l in calls_same p q s (verdict_same p q s t l no₀)
 
 -- In particular one that edition one accepts: edition two accepts it, and both answer alike.
-pub accepted_in_two : (p q : Bytes) → Twins p q → program_verdict p ≡ Fine → (program_verdict q ≡ Fine) × SameCalls p q
+pub accepted_in_two : (p q : Bytes) → Twins p q → program_verdict p ≡ Ok tt → (program_verdict q ≡ Ok tt) × SameCalls p q
 accepted_in_two p q t e =
     let no₀ : NotOutOfScope p = λ n f. not_fine (sym f ∙ e) in
     let l = (accepted p e).formed.length_right in

@@ -13,7 +13,6 @@ use Rattle.rules.specs.Kinds.{is_kind, is_signal, fields_of}
 use Rattle.rules.specs.Format.{length_wrong, record_wrong, may_end, is_zero, after_end, node_wrong, field_wrong, type_field_wrong}
 use Rattle.rules.specs.Shape.{is_child, may_be, may_stop, child_wrong, children_wrong, names, names_in, named_below, named, shape_wrong}
 use Rattle.rules.specs.declared.Field.{Field}
-use Rattle.rules.specs.declared.Place.{Place}
 use Rattle.editions.proofs.SameTree.{Everywhere, blocks_same, records_same, nodes_same}
 
 module _ (p q : Bytes) (s : Everywhere p q) where

@@ -1,6 +1,6 @@
 -- One table in both editions, and calls that cannot tell them apart.
 -- Assumes nothing: these are definitions.
-use Rattle.std.specs.Prelude.{◌≡◌, false, ℕ, suc, ◌*◌, ◌<◌, ◌++◌, length, replicate}
+use Rattle.std.specs.Prelude.{◌≡◌, false, ℕ, suc, ◌*◌, ◌<◌, ◌++◌, length, replicate, Err}
 use Rattle.rules.specs.Bytes.{Bytes}
 use Rattle.rules.specs.Layout.{blocks, records, cells, start_header, edition, kind_at, type_at, a_at, b_at, c_at, word_at}
 use Rattle.rules.specs.Format.{sum_wrong, number_wrong}
@@ -10,7 +10,6 @@ use Rattle.rules.specs.WellFormed.{long_as_cells, rest_well}
 use Rattle.rules.specs.Update.{step_of}
 use Rattle.rules.specs.Calls.{program_verdict, check_call, start_call, run_from}
 use Rattle.rules.specs.declared.Refusal.TheVariants.{CheckSum, ScopeFault}
-use Rattle.rules.specs.declared.Verdict.TheVariants.{Refuse}
 
 -- Record r is the same in both: kind, type, a, b, c and word.
 pub record SameRecord (p q : Bytes) (r : ℕ) : Type 0 where
@@ -36,7 +35,7 @@ pub record Twins (p q : Bytes) : Type 0 where
 
 -- No case or variable is out of scope: the check does not refuse by code 6.
 abbrev pub NotOutOfScope : Bytes → Type 0
-NotOutOfScope p = (n : ℕ) → program_verdict p ≡ Refuse (ScopeFault n) → ⊥
+NotOutOfScope p = (n : ℕ) → program_verdict p ≡ Err (ScopeFault n) → ⊥
 
 -- Both answer alike: check (nodes, cells, bound and type, or the refusal with its place) and start; one start state but for the sum in its header,
 -- and of any state the same tests of length, time and cells. From any state, with whatever sum it carries, a step gives the same output, next

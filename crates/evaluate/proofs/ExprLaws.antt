@@ -1,5 +1,6 @@
 -- An expression of each kind: its children are ready, and what it evaluates to by theirs.
 -- Assumes nothing.
+use Rattle.std.specs.Prelude.{Some, None}
 use mathlib.Core.Path.{◌≡◌, sym, ap, ◌∙◌, subst}
 use mathlib.Core.List.{List}
 use Prim.Native.Nat.{ℕ, ◌+◌, ◌<◌, ◌≤◌}
@@ -16,21 +17,18 @@ use Rattle.rules.specs.Evaluate.{Env, bind, look, operated, negated, chosen, lif
 use Rattle.rules.specs.Shaped.{NodeOf}
 use Rattle.rules.specs.declared.Tally.{Tally}
 use Rattle.rules.specs.declared.Value.{Value}
-use Rattle.rules.specs.declared.Evaluated.{Evaluated}
-use Rattle.rules.specs.declared.Evaluated.TheVariants.{Stuck}
+use Rattle.rules.specs.Evaluated.{Evaluated, Stuck}
 use Rattle.rules.proofs.Static.{and_both}
 use Rattle.rules.proofs.Nodes.{expr_variable, expr_constant}
 use Rattle.rules.proofs.Expressions.{IsOperation, negation_kid, negation_tree, just_kid, just_tree, choice_kids, choice_tree, taking_kids, taking_tree, operation_kids, operation_tree}
 use Rattle.rules.proofs.Within.{eval_e_within}
 use Rattle.outcomes.specs.Combine.{work_of, arm_in, parts_of}
-use Rattle.outcomes.specs.declared.Arm.TheVariants.{Go, Neither}
-use Rattle.outcomes.specs.declared.Event.{Event}
-use Rattle.outcomes.specs.declared.Event.TheVariants.{Occurs, Quiet}
-use Rattle.outcomes.specs.declared.Parts.TheVariants.{Maybe, Wrong}
+use Rattle.outcomes.specs.declared.Arm.{Arm}
+use Rattle.outcomes.specs.declared.Parts.{Parts}
 use Rattle.outcomes.specs.Outcome.{IsValue, Slots}
 use Rattle.evaluate.specs.Ready.{ReadyE}
 use Rattle.outcomes.proofs.Numbers.{proper_from, proper_value}
-use Rattle.outcomes.proofs.Outcomes.{work_within, arm_goes, arm_none, arm_one, take_present, take_absent, take_wrong}
+use Rattle.outcomes.proofs.Outcomes.{work_within, arm_goes, arm_none, arm_one, parts_with, take_present, take_absent, take_wrong}
 
 -- Kinds 18-23 are operations, and so are those above that are no other node's.
 pub ints_operation : {k m : ℕ} → k ≡ m → 17 < k → k ≤ 23 → IsOperation m
@@ -139,7 +137,7 @@ module _ (p : Bytes) (n : ℕ) (w : NodeOf is_expression p n) (s : bound_e (expr
   unfolding bound_e
   operation_pair o ea eb = rw (ea, eb) (omega (arith, ap bound_e (operation_tree p n w o), s))
 
-  pub choice_pair : kind_at p n ≡ 27 → {a b c m : ℕ} {u : Tally} (r : Evaluated) → a ≡ a_at p n → b ≡ b_at p n → c ≡ c_at p n → arm_in r b c ≡ Go m u → PairE p a m
+  pub choice_pair : kind_at p n ≡ 27 → {a b c : ℕ} {m : Arm} (r : Evaluated) → a ≡ a_at p n → b ≡ b_at p n → c ≡ c_at p n → arm_in r b c ≡ Some m → PairE p a m.at
   unfolding bound_e
   choice_pair e {a} {b} {c} r ea eb ec g =
       let t = ap bound_e (choice_tree p n w e) in
@@ -150,7 +148,7 @@ module _ (p : Bytes) (n : ℕ) (w : NodeOf is_expression p n) (s : bound_e (expr
   taking_pairs e ea eb ec = let t = ap bound_e (taking_tree p n w e) in (rw (ea, eb) (omega (arith, t, s)), rw (ea, ec) (omega (arith, t, s)))
 
   -- the arm that is chosen
-  pub chosen_part : kind_at p n ≡ 27 → {b c m : ℕ} {u : Tally} (r : Evaluated) → b ≡ b_at p n → c ≡ c_at p n → arm_in r b c ≡ Go m u → PartE p n m
+  pub chosen_part : kind_at p n ≡ 27 → {b c : ℕ} {m : Arm} (r : Evaluated) → b ≡ b_at p n → c ≡ c_at p n → arm_in r b c ≡ Some m → PartE p n m.at
   chosen_part e {b} {c} r eb ec g = let k = choice_parts e in arm_one b c (PartE p n) r g (read eb k.1) (read ec k.2)
 
 module _ (p : Bytes) (n : ℕ) (w : NodeOf is_expression p n) (env : Env) where
@@ -205,12 +203,12 @@ module _ (p : Bytes) (n : ℕ) (w : NodeOf is_expression p n) (env : Env) where
   choice_eval e = ap (eval_e env) (choice_tree p n w e)
 
   -- If, by the arm that its test chooses, and by none.
-  pub choice_goes : kind_at p n ≡ 27 → {a b c m : ℕ} {u : Tally} {r : Evaluated} → a ≡ a_at p n → b ≡ b_at p n → c ≡ c_at p n
-      → r ≡ eval_e env (expr_at p a) → arm_in r b c ≡ Go m u → eval_e env (expr_at p n) ≡ rule (after u (eval_e env (expr_at p m)))
-  choice_goes e {a} {b} {c} {m} {u} {r} ea eb ec er g =
+  pub choice_goes : kind_at p n ≡ 27 → {a b c : ℕ} {m : Arm} {r : Evaluated} → a ≡ a_at p n → b ≡ b_at p n → c ≡ c_at p n
+      → r ≡ eval_e env (expr_at p a) → arm_in r b c ≡ Some m → eval_e env (expr_at p n) ≡ rule (after m.count (eval_e env (expr_at p m.at)))
+  choice_goes e {a} {b} {c} {m} {r} ea eb ec er g =
       choice_eval e ∙ rw (← ea, ← eb, ← ec, ← er) (ap rule (arm_goes b c r (λ x. eval_e env (expr_at p x)) g))
 
-  pub choice_stuck : kind_at p n ≡ 27 → {a : ℕ} {r : Evaluated} (b c : ℕ) → a ≡ a_at p n → r ≡ eval_e env (expr_at p a) → arm_in r b c ≡ Neither
+  pub choice_stuck : kind_at p n ≡ 27 → {a : ℕ} {r : Evaluated} (b c : ℕ) → a ≡ a_at p n → r ≡ eval_e env (expr_at p a) → arm_in r b c ≡ None
       → eval_e env (expr_at p n) ≡ Stuck
   unfolding rule after
   choice_stuck e {a} {r} b c ea er g = choice_eval e ∙ rw (← ea, ← er) (ap rule (arm_none b c r _ _ g))
@@ -222,17 +220,15 @@ module _ (p : Bytes) (n : ℕ) (w : NodeOf is_expression p n) (env : Env) where
   taking_eval e = ap (eval_e env) (taking_tree p n w e)
 
   -- Take, by the value that its maybe holds, by none, and of no maybe.
-  pub taking_present : kind_at p n ≡ 29 → {a : ℕ} {q : Event} {v : ℕ} {u : Tally} {r : Evaluated} → a ≡ a_at p n → r ≡ eval_e env (expr_at p a)
-      → parts_of r ≡ Maybe q u → q ≡ Occurs v → eval_e env (expr_at p n) ≡ rule (after u (eval_e (bind env n (unpacked v)) (expr_at p (c_at p n))))
-  taking_present e {a} {q} {v} {u} {r} ea er g h =
-      taking_eval e ∙ rw (← ea, ← er) (ap rule (take_present _ _ r (g ∙ ap (λ (x : Event). Maybe x u) h)))
+  pub taking_present : kind_at p n ≡ 29 → {a : ℕ} {q : Parts} {v : ℕ} {r : Evaluated} → a ≡ a_at p n → r ≡ eval_e env (expr_at p a)
+      → parts_of r ≡ Some q → q.event ≡ Some v → eval_e env (expr_at p n) ≡ rule (after q.count (eval_e (bind env n (unpacked v)) (expr_at p (c_at p n))))
+  taking_present e {r = r} ea er g h = taking_eval e ∙ rw (← ea, ← er) (ap rule (take_present _ _ r (parts_with g h)))
 
-  pub taking_absent : kind_at p n ≡ 29 → {a : ℕ} {q : Event} {u : Tally} {r : Evaluated} → a ≡ a_at p n → r ≡ eval_e env (expr_at p a)
-      → parts_of r ≡ Maybe q u → q ≡ Quiet → eval_e env (expr_at p n) ≡ rule (after u (eval_e env (expr_at p (b_at p n))))
-  taking_absent e {a} {q} {u} {r} ea er g h =
-      taking_eval e ∙ rw (← ea, ← er) (ap rule (take_absent _ _ r (g ∙ ap (λ (x : Event). Maybe x u) h)))
+  pub taking_absent : kind_at p n ≡ 29 → {a : ℕ} {q : Parts} {r : Evaluated} → a ≡ a_at p n → r ≡ eval_e env (expr_at p a)
+      → parts_of r ≡ Some q → q.event ≡ None → eval_e env (expr_at p n) ≡ rule (after q.count (eval_e env (expr_at p (b_at p n))))
+  taking_absent e {r = r} ea er g h = taking_eval e ∙ rw (← ea, ← er) (ap rule (take_absent _ _ r (parts_with g h)))
 
   pub taking_stuck : kind_at p n ≡ 29 → {a : ℕ} {r : Evaluated} → a ≡ a_at p n → r ≡ eval_e env (expr_at p a)
-      → parts_of r ≡ Wrong → eval_e env (expr_at p n) ≡ Stuck
+      → parts_of r ≡ None → eval_e env (expr_at p n) ≡ Stuck
   unfolding rule after
   taking_stuck e {a} {r} ea er g = taking_eval e ∙ rw (← ea, ← er) (ap rule (take_wrong _ _ r g))

@@ -20,8 +20,7 @@ use Rattle.rules.specs.Shaped.{NodeOf}
 use Rattle.rules.specs.declared.Value.{Value}
 use Rattle.rules.specs.declared.Value.TheVariants.{Plain}
 use Rattle.rules.specs.declared.Tally.{Tally}
-use Rattle.rules.specs.declared.Evaluated.{Evaluated}
-use Rattle.rules.specs.declared.Evaluated.TheVariants.{Done, Stuck}
+use Rattle.rules.specs.Evaluated.{Evaluated, Done, Stuck}
 use Rattle.rules.proofs.Static.{and_both}
 use Rattle.rules.proofs.Nodes.{signal_input, signal_time}
 use Rattle.rules.proofs.Signals.{ext_kid, ext_tree, delay_tree, let_kids, let_tree, switch_kids, switch_tree, group_kids, group_tree, until_kids, until_tree, until_left, branch_kid}

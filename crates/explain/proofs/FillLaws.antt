@@ -10,46 +10,9 @@ use Rattle.rules.specs.Bytes.{Bytes, write_at}
 use Rattle.rules.specs.Layout.{no_next, most_nodes}
 use Rattle.chains.specs.Explain.{filled}
 
-abbrev pub so_far : List ℕ → ℕ → ℕ → List ℕ
-so_far room from k = take from room ++ (replicate (k - from) no_next ++ drop (k - from) (drop from room))
-
-take_length : (n : ℕ) (l : List ℕ) → n ≤ length l → length (take n l) ≡ n
-take_length zero l h = refl
-take_length (suc n) [] h = absurd (omega arith)
-take_length (suc n) (a ∷ l) h = ap suc (take_length n l (omega arith))
-
-set_behind : (xs ys : List ℕ) (j a : ℕ) → set (xs ++ ys) (length xs + j) a ≡ xs ++ set ys j a
-set_behind [] ys j a = ap (λ (i : ℕ). set ys i a) (let e : 0 + j ≡ j = omega arith in e)
-set_behind (x ∷ xs) ys j a =
-    let e : length (x ∷ xs) + j ≡ suc (length xs + j) = omega arith in
-    ap (λ (i : ℕ). set (x ∷ xs ++ ys) i a) e ∙ ap (λ (l : List ℕ). x ∷ l) (set_behind xs ys j a)
-
-pub starts : (room : List ℕ) (from : ℕ) → room ≡ so_far room from from
-starts room from =
-    let e : from - from ≡ 0 = omega arith in
-    sym (take-append-drop from room) ∙ ap (λ (l : List ℕ). take from room ++ l) (fill_none (drop from room) no_next)
-    ∙ ap (λ (j : ℕ). take from room ++ (replicate j no_next ++ drop j (drop from room))) (sym e)
-
-pub goes : (room : List ℕ) (from k : ℕ) → from ≤ k → k < length room → set (so_far room from k) k no_next ≡ so_far room from (k + 1)
-goes room from k h l =
-    let e : length (take from room) + (k - from) ≡ k = omega (arith, take_length from room (omega arith)) in
-    let s : k + 1 - from ≡ k - from + 1 = omega arith in
-    ap (λ (i : ℕ). set (so_far room from k) i no_next) (sym e)
-    ∙ set_behind (take from room) (replicate (k - from) no_next ++ drop (k - from) (drop from room)) (k - from) no_next
-    ∙ ap (λ (m : List ℕ). take from room ++ m) (fill_more (k - from) no_next (drop from room) (omega (arith, length-drop from room)))
-    ∙ ap (λ (j : ℕ). take from room ++ (replicate j no_next ++ drop j (drop from room))) (sym s)
-
 nothing_after : (l : List ℕ) → l ++ [] ≡ l
 nothing_after [] = refl
 nothing_after (a ∷ l) = ap (λ (m : List ℕ). a ∷ m) (nothing_after l)
-
-pub ends : (room : List ℕ) (from k : ℕ) → from ≤ k → k ≤ length room → length room ≤ k
-    → so_far room from k ≡ take from room ++ replicate (length room - from) no_next
-ends room from k h l m =
-    let e : k - from ≡ length room - from = omega arith in
-    ap (λ (t : List ℕ). take from room ++ (replicate (k - from) no_next ++ t)) (drop_of_length-le (drop from room) {i = k - from} (omega (arith, length-drop from room)))
-    ∙ ap (λ (t : List ℕ). take from room ++ t) (nothing_after (replicate (k - from) no_next))
-    ∙ ap (λ (j : ℕ). take from room ++ replicate j no_next) e
 
 -- What was written stands in front.
 taken_set : (room : List ℕ) (i n : ℕ) → i < length room → take (suc i) (set room i n) ≡ take i room ++ n ∷ []

@@ -1,7 +1,7 @@
 // Why a program is not ready: the chain of the let that code 8 names, in a lent room of 1,008 node numbers.
 #![tactic(auto)]
 
-ghost use Rattle.std.specs.Prelude.{◌≡◌, Bool, [], ◌++◌, ◌+◌, ◌<◌, ◌≤◌, ◌-◌, length, take, replicate, if◌then◌else◌};
+ghost use Rattle.std.specs.Prelude.{◌≡◌, Bool, [], ◌++◌, ◌+◌, ◌<◌, ◌≤◌, ◌-◌, length, take, replicate, if◌then◌else◌, Err};
 ghost use Rattle.rules.specs.Bytes.{write_at};
 ghost use Rattle.rules.specs.Layout.{nodes, no_next};
 ghost use Rattle.rules.specs.Node.{IsNode};
@@ -13,10 +13,10 @@ ghost use Rattle.chains.specs.Explain.{let_of, filled, explain_let, explain_at, 
 ghost use Rattle.chains.specs.Explains.{IsLet};
 ghost use Rattle.explain.specs.Tracing.{onward};
 
-use chains::Explained;
+use chains::{Chain, NoChain};
 use fields::{enters_a, enters_b, enters_c};
 use kinds::both;
-use rules::{Node, Place, Refusal, Verdict};
+use rules::{Node, Refusal};
 use table::node;
 use verdict::judge;
 
@@ -78,11 +78,7 @@ fn fill(room: &mut [u16], from: usize)
     requires { (from ≤ length room.old) × (length room.old ≤ 1008) }
     ensures { room.new ≡ take from room.old ++ replicate (length room.old - from) no_next }
 {
-    let mut k = from;
-    while k < room.len() {
-        room[k] = 65535;
-        k += 1;
-    }
+    room[from..].fill(65535);
 }
 
 // The chain of let x in a room of 1,008 entries, and how many it has.
@@ -97,68 +93,61 @@ fn chain_of(p: &[u8], room: &mut [u16], x: usize) -> usize
 }
 
 // The let that a refusal names, if it is code 8.
-fn let_of(r: Refusal) -> Place
+fn let_of(r: Refusal) -> Option<u32>
     ensures { result ≡ let_of r }
 {
     match r {
-        Refusal::ProgramLength => Place::Nowhere,
-        Refusal::CheckSum(_) => Place::Nowhere,
-        Refusal::BlockNumber(_) => Place::Nowhere,
-        Refusal::RecordFault(_) => Place::Nowhere,
-        Refusal::ShapeFault(_) => Place::Nowhere,
-        Refusal::ScopeFault(_) => Place::Nowhere,
-        Refusal::TypeFault(_) => Place::Nowhere,
-        Refusal::NotReady(n) => Place::At(n),
-        Refusal::StateFault => Place::Nowhere,
-        Refusal::RecordsLength => Place::Nowhere,
-        Refusal::OutputLength => Place::Nowhere,
-        Refusal::InputFault(_) => Place::Nowhere,
-        Refusal::TimeBack(_) => Place::Nowhere,
-        Refusal::OtherProgram => Place::Nowhere,
+        Refusal::ProgramLength => None,
+        Refusal::CheckSum(_) => None,
+        Refusal::BlockNumber(_) => None,
+        Refusal::RecordFault(_) => None,
+        Refusal::ShapeFault(_) => None,
+        Refusal::ScopeFault(_) => None,
+        Refusal::TypeFault(_) => None,
+        Refusal::NotReady(n) => Some(n),
+        Refusal::StateFault => None,
+        Refusal::RecordsLength => None,
+        Refusal::OutputLength => None,
+        Refusal::InputFault(_) => None,
+        Refusal::TimeBack(_) => None,
+        Refusal::OtherProgram => None,
     }
 }
 
 // A let to explain: code 26, or its chain.
-fn explain_let(p: &[u8], room: &mut [u16], x: u32) -> Explained
+fn explain_let(p: &[u8], room: &mut [u16], x: u32) -> Result<Chain, NoChain>
     requires { Shaped p.now × IsLet p.now x }
     ensures { (result ≡ (explain_let p.now room.old x).answer) × (room.new ≡ (explain_let p.now room.old x).room) }
 {
     if room.len() != 1008 {
-        return Explained::RoomLength;
+        return Err(NoChain::RoomLength);
     }
     let count = chain_of(p, room, x as usize);
-    Explained::Chain(x, count as u32)
+    Ok(Chain {
+        of: x,
+        entries: count as u32,
+    })
 }
 
 // A program that is refused: codes 1-7, or a let to explain.
-fn explain_refused(p: &[u8], room: &mut [u16], r: Refusal) -> Explained
-    requires { program_verdict p.now ≡ Verdict.Refuse r }
+fn explain_refused(p: &[u8], room: &mut [u16], r: Refusal) -> Result<Chain, NoChain>
+    requires { program_verdict p.now ≡ Err r }
     ensures { (result ≡ (explain_at p.now room.old r (let_of r)).answer) × (room.new ≡ (explain_at p.now room.old r (let_of r)).room) }
 {
     let x = let_of(r);
     match x {
-        Place::At(n) => explain_let(p, room, n),
-        Place::Nowhere => Explained::Refused(r),
-    }
-}
-
-// Why a program whose verdict is v is not ready.
-fn explain_by(p: &[u8], room: &mut [u16], v: Verdict) -> Explained
-    requires { v ≡ program_verdict p.now }
-    ensures { (result ≡ (explain_call p.now room.old).answer) × (room.new ≡ (explain_call p.now room.old).room) }
-{
-    match v {
-        Verdict::Fine => Explained::NoLet,
-        Verdict::Refuse(r) => explain_refused(p, room, r),
+        Some(n) => explain_let(p, room, n),
+        None => Err(NoChain::Refused(r)),
     }
 }
 
 // Why a program is not ready: the let that code 8 names and its chain in a room of 1,008 node numbers, the entries after it 65535. A refusal
 // leaves the room as before.
-pub fn explain(program: &[u8], room: &mut [u16]) -> Explained
+pub fn explain(program: &[u8], room: &mut [u16]) -> Result<Chain, NoChain>
     ensures { (result ≡ (explain_call program.now room.old).answer) × (room.new ≡ (explain_call program.now room.old).room) }
 {
-    let found = judge(program);
-    let fault = found.verdict;
-    explain_by(program, room, fault)
+    match judge(program) {
+        Ok(_) => Err(NoChain::NoLet),
+        Err(r) => explain_refused(program, room, r),
+    }
 }

@@ -1,221 +1,147 @@
 // Reading: the next piece where the last is used up, a line, a room of known length.
-ghost use Rattle.std.specs.Prelude.{◌+◌, ◌≤◌, ◌≡◌, length, take, min, is_err, IfOk, OnErr};
-ghost use Rattle.std.specs.Io.{ReadsAtMost};
+ghost use Rattle.std.specs.Prelude.{◌↔◌, IsTrue, ◌≤◌, ◌≡◌, length, take, min, Ok, Err, IfOk, IfErr};
 ghost use Rattle.io.specs.Counts.{IsPrefixLen};
 
-use crate::{Filled, Got, Line, Place};
+use crate::retried::one_read;
 use std::io::{Error, ErrorKind, Read, Result};
 
-// The piece that a read answered: nothing of it is unread at the end of the input, or where the read failed, and only these two are told
-// apart by `failed`.
-fn piece(got: Result<usize>, buffer: &[u8]) -> Place
-    ensures at_value { result.at ≡ 0 }
-    ensures end_value { IfOk got (λ n. result.end ≡ min n (length buffer.now)) }
-    ensures end_of_failed { OnErr got (result.end ≡ 0) }
-    ensures end_in_bounds { result.end ≤ length buffer.now }
-    ensures failed_value { result.failed ≡ is_err got }
-{
-    let is_failed = got.is_err();
-    let end = match got {
-        Ok(n) => least(n, buffer.len()),
-        Err(_) => 0,
-    };
-    Place {
-        at: 0,
-        end: end,
-        failed: is_failed,
-    }
+// Input in large pieces: what is read from, a lent buffer for a piece, and what of the piece is unread, its bytes from `at` up to `end`.
+#[derive(Drop)]
+pub struct Reader<'a, R> {
+    pub source: R,
+    pub buffer: &'a mut [u8],
+    pub at: usize,
+    pub end: usize,
 }
 
-// One read of standard input. A read that a signal interrupts before it has a byte answers nothing, and is tried again; no number of tries is
-// known to be enough, so they are counted up to one that no run uses up.
-fn taken(rt: &impl Input, buffer: &mut [u8]) -> Result<usize>
-    ensures { ReadsAtMost result buffer.new }
+// How many bytes of a buffer of so many a read made unread: none at the end of the input. A failed read is not the end of the input.
+fn piece(got: Result<usize>, size: usize) -> Result<usize>
+    ensures read { IfOk got (λ n. result ≡ Ok (min n size)) }
+    ensures failed { IfErr got (λ e. result ≡ Err e) }
 {
-    for _ in 0..u64::MAX {
-        match rt.reader().read(buffer) {
-            Ok(n) => return Ok(n),
-            Err(e) => {
-                if e.kind() != ErrorKind::Interrupted {
-                    return Err(e);
-                }
+    let n = got?;
+    Ok(n.min(size))
+}
+
+impl<'a, R: Read> Reader<'a, R> {
+    // A reader that has read nothing yet.
+    pub fn new(source: R, buffer: &'a mut [u8]) -> Reader<'a, R>
+        ensures { (result.at ≡ 0) × (result.end ≡ 0) }
+    {
+        Reader {
+            source,
+            buffer,
+            at: 0,
+            end: 0,
+        }
+    }
+
+    // Whether nothing is unread, so that the next byte takes a read, which may wait.
+    pub fn is_used_up(&self) -> bool
+        ensures { IsTrue result ↔ (self.now.end ≤ self.now.at) }
+    {
+        self.end <= self.at
+    }
+
+    // One more read where nothing is unread. Nothing is unread after it at the end of the input, or where the read failed.
+    fn refill(&mut self) -> Result<()>
+        ensures { (self.new.at ≤ self.new.end) × (self.new.end ≤ length self.new.buffer.now) }
+    {
+        if self.at < self.end {
+            if self.end <= self.buffer.len() {
+                return Ok(());
             }
         }
+        self.at = 0;
+        self.end = 0;
+        let got = one_read(&mut self.source, &mut *self.buffer);
+        self.end = piece(got, self.buffer.len())?;
+        Ok(())
     }
-    Err(Error::from(ErrorKind::Interrupted))
-}
 
-// What is unread, after one more read where nothing was. Nothing is unread at the end of the input, or where a read failed.
-fn refilled(rt: &impl Input, place: Place, buffer: &mut [u8]) -> Place
-    ensures { (result.at ≤ result.end) × (result.end ≤ length buffer.new) }
-{
-    if place.at < place.end {
-        if place.end <= buffer.len() {
-            return place;
+    // Copies what is unread to the start of room, as much as there is room for, and answers how much.
+    fn take(&mut self, room: &mut [u8]) -> usize
+        requires { (self.old.at ≤ self.old.end) × (self.old.end ≤ length self.old.buffer.now) }
+        ensures { (self.new.at ≤ self.new.end) × (self.new.end ≤ length self.new.buffer.now) × (result ≤ length room.new) }
+    {
+        let at = self.at;
+        let n = room.len().min(self.end - at);
+        let stop = at + n;
+        room[..n].copy_from_slice(&self.buffer[at..stop]);
+        self.at = stop;
+        n
+    }
+
+    // Fills room with the next bytes of the input, and answers how many: fewer where the input ends. (How much a turn reads isn't known before it, so a
+    // `for` would be no plainer; std's read_exact is such a loop.)
+    fn fill_all(&mut self, room: &mut [u8]) -> Result<usize>
+        ensures { IfOk result (λ n. n ≤ length room.new) }
+    {
+        let mut done = 0;
+        while done < room.len() {
+            self.refill()?;
+            let n = self.take(&mut room[done..]);
+            if n == 0 {
+                return Ok(done);
+            }
+            done += n;
+        }
+        Ok(done)
+    }
+
+    // Fills the first n bytes of room with the next bytes of the input; an error where the input ends before, or n is more than room has.
+    pub fn fill(&mut self, room: &mut [u8], n: usize) -> Result<()> {
+        if n > room.len() {
+            return Err(Error::from(ErrorKind::InvalidInput));
+        }
+        let count = self.fill_all(&mut room[..n])?;
+        if count < n {
+            return Err(Error::from(ErrorKind::UnexpectedEof));
+        }
+        Ok(())
+    }
+
+    // Reads up to n bytes of the input to the start of room, and answers how many; none where room has too little.
+    pub fn gather(&mut self, room: &mut [u8], n: usize) -> Result<usize>
+        ensures { IfOk result (λ count. count ≤ n) }
+    {
+        match room.get_mut(..n) {
+            Some(part) => self.fill_all(part),
+            None => Ok(0),
         }
     }
-    let got = taken(rt, buffer);
-    piece(got, buffer)
-}
 
-// The smaller of two.
-fn least(a: usize, b: usize) -> usize
-    ensures bounds { (result ≤ a) × (result ≤ b) }
-    ensures value { result ≡ min a b }
-{
-    if a < b { a } else { b }
-}
+    // The next byte; none at the end of the input.
+    fn byte(&mut self) -> Result<Option<u8>> {
+        self.refill()?;
+        let at = self.at;
+        if at == self.end {
+            return Ok(None);
+        }
+        self.at = at + 1;
+        Ok(Some(self.buffer[at]))
+    }
 
-// Copies what is unread into room from index `done` on, as much as there is room for, and answers how much.
-fn moved(at: usize, end: usize, buffer: &[u8], room: &mut [u8], done: usize) -> usize
-    requires at_le_end { (at ≤ end) × (end ≤ length buffer.now) }
-    requires done_in_bounds { done ≤ length room.old }
-    ensures { (at + result ≤ end) × (done + result ≤ length room.new) }
-{
-    let n = least(end - at, room.len() - done);
-    let stop = at + n;
-    let to = done + n;
-    room[done..to].copy_from_slice(&buffer[at..stop]);
-    n
-}
-
-// Fills room with the next bytes of the input: less of it where the input ends.
-fn fill_all(rt: &impl Input, place: Place, buffer: &mut [u8], room: &mut [u8]) -> Got
-    ensures { result.count ≤ length room.new }
-{
-    let mut at = place.at;
-    let mut end = place.end;
-    let mut done = 0;
-    while done < room.len() {
-        let here = refilled(
-            rt,
-            Place {
-                at: at,
-                end: end,
-                failed: false,
-            },
-            buffer,
-        );
-        let n = moved(here.at, here.end, buffer, room, done);
-        if n == 0 {
-            return Got {
-                place: here,
-                count: done,
+    // Reads a line with its line end to the start of text, and answers its length: less where the input ends, a read fails or text is full.
+    pub fn header(&mut self, text: &mut [u8]) -> usize
+        ensures { IsPrefixLen result text.new }
+    {
+        for (n, slot) in text.iter_mut().enumerate() {
+            let Ok(Some(byte)) = self.byte() else {
+                return n;
             };
+            *slot = byte;
+            if byte == b'\n' {
+                return n + 1;
+            }
         }
-        at = here.at + n;
-        end = here.end;
-        done += n;
+        text.len()
     }
-    Got {
-        place: Place {
-            at: at,
-            end: end,
-            failed: false,
-        },
-        count: done,
-    }
-}
-
-// Fills the first n bytes of room with the next bytes of the input; not where n is more than room has.
-pub fn fill(rt: &impl Input, place: Place, buffer: &mut [u8], room: &mut [u8], n: usize) -> Filled {
-    if n > room.len() {
-        return Filled {
-            place: place,
-            whole: false,
-        };
-    }
-    let got = fill_all(rt, place, buffer, &mut room[..n]);
-    let after = got.place;
-    Filled {
-        place: after,
-        whole: got.count == n,
-    }
-}
-
-// Reads up to n bytes of the input into room from index `from` on; none where room has too little.
-pub fn gather(
-    rt: &impl Input,
-    place: Place,
-    buffer: &mut [u8],
-    room: &mut [u8],
-    from: usize,
-    n: usize,
-) -> Got
-    ensures { result.count ≤ n }
-{
-    if from > room.len() {
-        return Got {
-            place: place,
-            count: 0,
-        };
-    }
-    if n > room.len() - from {
-        return Got {
-            place: place,
-            count: 0,
-        };
-    }
-    let to = from + n;
-    fill_all(rt, place, buffer, &mut room[from..to])
 }
 
 // The first n elements of s, or all where it has no more.
-pub fn first(s: &[u8], n: usize) -> &[u8]
+pub fn first<T>(s: &[T], n: usize) -> &[T]
     ensures { result.now ≡ take n s.now }
 {
-    if n < s.len() {
-        return &s[..n];
-    }
-    s
-}
-
-// Reads a line with its line end into text: less where the input ends or text is full.
-pub fn header(rt: &impl Input, place: Place, buffer: &mut [u8], text: &mut [u8]) -> Line
-    ensures { IsPrefixLen result.length text.new }
-{
-    let mut at = place.at;
-    let mut end = place.end;
-    let mut n = 0;
-    while n < text.len() {
-        let here = refilled(
-            rt,
-            Place {
-                at: at,
-                end: end,
-                failed: false,
-            },
-            buffer,
-        );
-        let from = here.at;
-        if from == here.end {
-            return Line {
-                place: here,
-                length: n,
-            };
-        }
-        let byte = buffer[from];
-        text[n] = byte;
-        n += 1;
-        at = from + 1;
-        end = here.end;
-        if byte == b'\n' {
-            return Line {
-                place: Place {
-                    at: at,
-                    end: end,
-                    failed: false,
-                },
-                length: n,
-            };
-        }
-    }
-    Line {
-        place: Place {
-            at: at,
-            end: end,
-            failed: false,
-        },
-        length: n,
-    }
+    &s[..n.min(s.len())]
 }

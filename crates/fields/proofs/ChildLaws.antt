@@ -1,5 +1,6 @@
 -- The fields that are for a child, by ranges of kinds.
 -- Assumes nothing.
+use Rattle.std.specs.Prelude.{None}
 use mathlib.Core.Path.{◌≡◌, refl, sym, ap, ◌∙◌}
 use mathlib.Core.Bool.{Bool, true, false}
 use Prim.Native.Nat.{ℕ, ◌≤◌, ◌<◌}
@@ -11,7 +12,6 @@ use Rattle.rules.specs.Kinds.{row, fields_of}
 use Rattle.rules.specs.Shape.{is_child}
 use Rattle.rules.specs.declared.Field.TheVariants.{Unused}
 use Rattle.rules.specs.declared.TypeField.TheVariants.{NoType}
-use Rattle.rules.specs.declared.Place.TheVariants.{Nowhere}
 use Rattle.rules.proofs.Established.{nowhere_from}
 
 -- Two tests differ.
@@ -63,7 +63,7 @@ no_fields k h =
     )
 
 -- A test by ranges that agrees on the kinds up to 29, and holds of no other.
-by_ranges : (ranges test : ℕ → Bool) → first_from (λ j. differ (ranges j) (test j)) 0 30 ≡ Nowhere → ((k : ℕ) → 30 ≤ k → ranges k ≡ test k) → (k : ℕ) → ranges k ≡ test k
+by_ranges : (ranges test : ℕ → Bool) → first_from (λ j. differ (ranges j) (test j)) 0 30 ≡ None → ((k : ℕ) → 30 ≤ k → ranges k ≡ test k) → (k : ℕ) → ranges k ≡ test k
 by_ranges ranges test near far k = go (ltb k 30) refl
   where
     go : (b : Bool) → ltb k 30 ≡ b → ranges k ≡ test k

@@ -1,5 +1,6 @@
 -- The end of the records: twelve bytes that are zero, where it may stand, the record before, and the count of nodes.
 -- Assumes nothing.
+use Rattle.std.specs.Prelude.{Some, None}
 use mathlib.Core.Path.{◌≡◌, refl, sym, ap, ◌∙◌}
 use mathlib.Core.Bool.{Bool, true, false, not}
 use Prim.Native.Nat.{ℕ, zero, suc, ◌+◌, ◌-◌, ◌*◌, ◌/◌, ◌%◌, ◌≤◌, ◌<◌}
@@ -11,8 +12,6 @@ use Rattle.rules.specs.Layout.{blocks, record_at, kind_at, type_at, a_at, b_at, 
 use Rattle.rules.specs.Node.{IsNode}
 use Rattle.rules.specs.Format.{is_zero, may_end, after_end}
 use Rattle.rules.specs.declared.Node.{Node}
-use Rattle.rules.specs.declared.Place.{Place}
-use Rattle.rules.specs.declared.Place.TheVariants.{At, Nowhere}
 
 -- A record is all zero where its first eight bytes and its last four are.
 pub zero_record : (p : Bytes) (r : ℕ) {at low word : ℕ} {w : Bool} → at ≡ record_at r → low ≡ u64_at p at → word ≡ u32_at p (at + 8)
@@ -42,10 +41,10 @@ end_before p (suc r) d = ap (λ (k : ℕ). eqb (kind_at p k) 0) (omega arith)
 
 -- The nodes are those before the first record of kind 0, or all records.
 module _ (p : Bytes) where
-  pub nodes_at : (k : ℕ) → first (λ r. eqb (kind_at p r) 0) (records p) ≡ At k → nodes p ≡ k
+  pub nodes_at : (k : ℕ) → first (λ r. eqb (kind_at p r) 0) (records p) ≡ Some k → nodes p ≡ k
   unfolding nodes place_or
   nodes_at k e = rw e
 
-  pub nodes_all : first (λ r. eqb (kind_at p r) 0) (records p) ≡ Nowhere → nodes p ≡ records p
+  pub nodes_all : first (λ r. eqb (kind_at p r) 0) (records p) ≡ None → nodes p ≡ records p
   unfolding nodes place_or
   nodes_all e = rw e

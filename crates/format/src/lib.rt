@@ -10,7 +10,7 @@ ghost use Rattle.kinds.specs.Rows.{type_field_in, a_in};
 ghost use Rattle.format.specs.ByRow.{left_out, row_wrong};
 
 use kinds::{a_in, both, either, is_child, named_in, row_of, type_field_in};
-use rules::{Place, TypeField};
+use rules::TypeField;
 use table::{node_at, u16_at, u32_at};
 use values::{is_maybe, is_plain, value_fits};
 
@@ -30,10 +30,8 @@ pub fn check_sum(p: &[u8], at: usize) -> u32
 {
     let mut bytes: u32 = 0;
     let mut sum: u32 = 0;
-    let mut i: usize = 508;
-    while 0 < i {
-        i -= 1;
-        bytes += p[at + i] as u32;
+    for i in (0..508).rev() {
+        bytes += u32::from(p[at + i]);
         sum += bytes;
     }
     sum
@@ -49,19 +47,17 @@ fn sum_wrong(p: &[u8], j: usize) -> bool
 }
 
 // The first block whose check is wrong.
-pub fn first_sum(p: &[u8]) -> Place
+pub fn first_sum(p: &[u8]) -> Option<u32>
     requires { length_wrong p.now ≡ false }
     ensures { result ≡ first (sum_wrong p.now) (blocks p.now) }
 {
     let count = p.len() / 512;
-    let mut j: usize = 0;
-    while j < count {
+    for j in 0..count {
         if sum_wrong(p, j) {
-            return Place::At(j as u32);
+            return Some(j as u32);
         }
-        j += 1;
     }
-    Place::Nowhere
+    None
 }
 
 // Code 3 at block j: its number is not j, or its count not that of the blocks; or its edition is not block 0's, or above 1.
@@ -83,19 +79,17 @@ fn number_wrong(p: &[u8], j: usize) -> bool
 }
 
 // The first block whose number, count or edition is wrong.
-pub fn first_number(p: &[u8]) -> Place
+pub fn first_number(p: &[u8]) -> Option<u32>
     requires { length_wrong p.now ≡ false }
     ensures { result ≡ first (number_wrong p.now) (blocks p.now) }
 {
     let count = p.len() / 512;
-    let mut j: usize = 0;
-    while j < count {
+    for j in 0..count {
         if number_wrong(p, j) {
-            return Place::At(j as u32);
+            return Some(j as u32);
         }
-        j += 1;
     }
-    Place::Nowhere
+    None
 }
 
 // The types are the plain ones and maybe of these.
@@ -205,19 +199,17 @@ fn record_wrong(p: &[u8], r: usize) -> bool
 }
 
 // The first record that is wrong.
-pub fn first_record(p: &[u8]) -> Place
+pub fn first_record(p: &[u8]) -> Option<u32>
     requires { length_wrong p.now ≡ false }
     ensures { result ≡ first (record_wrong p.now) (records p.now) }
 {
     let count = 42 * (p.len() / 512);
-    let mut r: usize = 0;
-    while r < count {
+    for r in 0..count {
         if record_wrong(p, r) {
-            return Place::At(r as u32);
+            return Some(r as u32);
         }
-        r += 1;
     }
-    Place::Nowhere
+    None
 }
 
 // How many nodes there are: the records before the first of kind 0.
@@ -226,12 +218,10 @@ pub fn count_nodes(p: &[u8]) -> usize
     ensures { (result ≡ nodes p.now) × (result ≤ 1008) }
 {
     let count = 42 * (p.len() / 512);
-    let mut r: usize = 0;
-    while r < count {
+    for r in 0..count {
         if kind_at(p, r) == 0 {
             return r;
         }
-        r += 1;
     }
     count
 }

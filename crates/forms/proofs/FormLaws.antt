@@ -22,8 +22,11 @@ use Rattle.kinds.proofs.Digits.{a_of_lem, b_of, c_of_lem}
 use Rattle.texts.specs.Spelling.{close₀, edition_word, kind_word}
 use Rattle.texts.specs.Numerals.{decimal}
 use Rattle.texts.specs.Printer.{Piece, Pieces, tight, spaced, variable_name, branch_name, label_pieces, type_pieces, value_pieces, opening, field_pieces, behind_pieces, form_pieces, pieces_as, pieces_f, pieces, laid, printed}
-use Rattle.letters.specs.Wrote.{Wrote, spread}
-use Rattle.letters.proofs.WroteLaws.{wrote_none, wrote_as, wrote_then, spread_app}
+use Rattle.letters.specs.Wrote.{spread}
+use Rattle.letters.specs.declared.Sheet.{Sheet}
+use Rattle.letters.specs.Puts.{Puts}
+use Rattle.letters.proofs.WroteLaws.{spread_app}
+use Rattle.letters.proofs.PutsLaws.{puts_none, puts_as, puts_then}
 use Rattle.forms.specs.Laying.{is_inside, child_pieces, channel_pieces, target_pieces, head_pieces}
 use Rattle.forms.proofs.KindLaws.{is_said, said_a, said_b, said_c}
 
@@ -98,9 +101,9 @@ together o w l t ch a b c tg z = simp append_assoc
 
 module _ (q : Bytes) (depth : ℕ) (isFirst : Bool) (f : Field) (i : ℕ) where
   -- No levels.
-  pub no_levels : (s : Bytes) (at level : ℕ) → level ≡ 0 → Wrote s at (spread (pieces_f level q depth isFirst f i)) s at
+  pub no_levels : (s : Sheet) (level : ℕ) → level ≡ 0 → Puts s (spread (pieces_f level q depth isFirst f i)) s
   unfolding pieces_f spread
-  no_levels s at level e = wrote_as (ap (λ (g : ℕ). spread (pieces_f g q depth isFirst f i)) (sym e)) (wrote_none s at)
+  no_levels s level e = puts_as (ap (λ (g : ℕ). spread (pieces_f g q depth isFirst f i)) (sym e)) (puts_none s)
 
   module _ (level : ℕ) (some : 1 ≤ level) where
     abbrev kid : Bool → Pieces
@@ -188,17 +191,16 @@ module _ (q : Bytes) (depth : ℕ) (isFirst : Bool) (f : Field) (i : ℕ) where
       unfolding spread tight
       spread_rest = simp spread_app
 
-      pub a_form : {s s₁ s₂ s₃ s₄ s₅ s₆ s₇ : Bytes} {r₀ r₁ r₂ r₃ r₄ r₅ r₆ r₇ : ℕ} (fa fb fc : Field) → (n.kind ≡ 16 → ⊥) → (n.kind ≡ 17 → ⊥)
+      pub a_form : {s s₁ s₂ s₃ s₄ s₅ s₆ s₇ : Sheet} (fa fb fc : Field) → (n.kind ≡ 16 → ⊥) → (n.kind ≡ 17 → ⊥)
           → fa ≡ a_in (row_of n.kind) → fb ≡ b_in (row_of n.kind) → fc ≡ c_in (row_of n.kind)
-          → Wrote s r₀ (spread (Head n)) s₁ r₁ → Wrote s₁ r₁ (spread (child_pieces (kid true) fa n.a)) s₂ r₂
-          → Wrote s₂ r₂ (spread (child_pieces (kid false) fb n.b)) s₃ r₃ → Wrote s₃ r₃ (spread (child_pieces (kid false) fc n.c)) s₄ r₄
-          → Wrote s₄ r₄ (spread (target_pieces n.kind n.c)) s₅ r₅ → Wrote s₅ r₅ (41 ∷ []) s₆ r₆ → Wrote s₆ r₆ (spread (behind_pieces sibling fb n.b)) s₇ r₇
-          → Wrote s r₀ (spread (pieces_f level q depth isFirst f i)) s₇ r₇
+          → Puts s (spread (Head n)) s₁ → Puts s₁ (spread (child_pieces (kid true) fa n.a)) s₂ → Puts s₂ (spread (child_pieces (kid false) fb n.b)) s₃
+          → Puts s₃ (spread (child_pieces (kid false) fc n.c)) s₄ → Puts s₄ (spread (target_pieces n.kind n.c)) s₅ → Puts s₅ (41 ∷ []) s₆
+          → Puts s₆ (spread (behind_pieces sibling fb n.b)) s₇ → Puts s (spread (pieces_f level q depth isFirst f i)) s₇
       a_form fa fb fc e g ea eb ec w₀ w₁ w₂ w₃ w₄ w₅ w₆ =
-          wrote_as ((λ j. spread (Head n) ++ (spread (child_pieces (kid true) (ea j) n.a) ++ (spread (child_pieces (kid false) (eb j) n.b) ++ (spread (child_pieces (kid false) (ec j) n.c)
+          puts_as ((λ j. spread (Head n) ++ (spread (child_pieces (kid true) (ea j) n.a) ++ (spread (child_pieces (kid false) (eb j) n.b) ++ (spread (child_pieces (kid false) (ec j) n.c)
           ++ (spread (target_pieces n.kind n.c) ++ ((41 ∷ []) ++ spread (behind_pieces sibling (eb j) n.b)))))))
           ∙ ap (λ (l : Bytes). spread (Head n) ++ l) (sym spread_rest) ∙ sym (spread_app (Head n) (Rest n)) ∙ ap spread (form_pieces_lem e g))
-          (wrote_then w₀ (wrote_then w₁ (wrote_then w₂ (wrote_then w₃ (wrote_then w₄ (wrote_then w₅ w₆))))))
+          (puts_then w₀ (puts_then w₁ (puts_then w₂ (puts_then w₃ (puts_then w₄ (puts_then w₅ w₆))))))
 
 -- The whole text.
 laid_is : (xs : List Piece) → laid xs ≡ spread xs ++ (10 ∷ [])
@@ -206,10 +208,10 @@ unfolding laid spread
 laid_is [] = refl
 laid_is (x ∷ xs) = ap (λ (l : Bytes). x.before ++ x.word ++ l) (laid_is xs) ∙ (simp append_assoc)
 
-pub whole_text : (q : Bytes) {s s₁ s₂ s₃ : Bytes} {r₁ r₂ r₃ : ℕ} (e count : ℕ) → e ≡ edition q → count ≡ nodes q → Wrote s 0 (edition_word e) s₁ r₁
-    → Wrote s₁ r₁ (spread (pieces_f count q 0 false Signal (count - 1))) s₂ r₂ → Wrote s₂ r₂ (10 ∷ []) s₃ r₃ → Wrote s 0 (printed q) s₃ r₃
+pub whole_text : (q : Bytes) {s s₁ s₂ s₃ : Sheet} (e count : ℕ) → e ≡ edition q → count ≡ nodes q → Puts s (edition_word e) s₁
+    → Puts s₁ (spread (pieces_f count q 0 false Signal (count - 1))) s₂ → Puts s₂ (10 ∷ []) s₃ → Puts s (printed q) s₃
 unfolding printed pieces laid tight
 whole_text q e count z c x y w =
-    wrote_as ((λ j. edition_word (z j) ++ (spread (pieces_f (c j) q 0 false Signal (c j - 1)) ++ (10 ∷ [])))
+    puts_as ((λ j. edition_word (z j) ++ (spread (pieces_f (c j) q 0 false Signal (c j - 1)) ++ (10 ∷ [])))
     ∙ ap (λ (l : Bytes). edition_word (edition q) ++ l) (sym (laid_is (pieces_f (nodes q) q 0 false Signal (nodes q - 1)))))
-    (wrote_then x (wrote_then y w))
+    (puts_then x (puts_then y w))

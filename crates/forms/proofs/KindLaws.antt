@@ -1,5 +1,6 @@
 -- What the fields and types of a kind are, by tests of its number: they agree on the kinds up to 29, and hold of no other.
 -- Assumes nothing.
+use Rattle.std.specs.Prelude.{None}
 use mathlib.Core.Path.{◌≡◌, refl, sym, ap}
 use mathlib.Core.Bool.{Bool, true, false}
 use mathlib.Core.List.{[]}
@@ -11,7 +12,6 @@ use Rattle.rules.specs.Bytes.{◌and◌, ◌or◌, first_from}
 use Rattle.rules.specs.Kinds.{row, is_signal, is_branch, is_case, is_expression, is_kind, fields_of}
 use Rattle.rules.specs.declared.Field.{Field}
 use Rattle.rules.specs.declared.Field.TheVariants.{Unused, Channel, PresentByte, Signal, Expression, FirstBranch, NextBranch, FirstCase, NextCase, Binder, Target}
-use Rattle.rules.specs.declared.Place.TheVariants.{Nowhere}
 use Rattle.rules.proofs.Established.{nowhere_from}
 use Rattle.kinds.proofs.Digits.{no_fields}
 use Rattle.texts.specs.Spelling.{kind_word, edition_word}
@@ -45,7 +45,7 @@ same true false e = e
 same false true e = sym e
 same false false e = refl
 
-by_kinds : (one two : ℕ → Bool) → first_from (λ j. differ (one j) (two j)) 0 30 ≡ Nowhere → ((k : ℕ) → 30 ≤ k → one k ≡ two k) → (k : ℕ) → one k ≡ two k
+by_kinds : (one two : ℕ → Bool) → first_from (λ j. differ (one j) (two j)) 0 30 ≡ None → ((k : ℕ) → 30 ≤ k → one k ≡ two k) → (k : ℕ) → one k ≡ two k
 by_kinds one two near far k = go (ltb k 30) refl
   where
     go : (b : Bool) → ltb k 30 ≡ b → one k ≡ two k

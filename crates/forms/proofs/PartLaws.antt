@@ -72,24 +72,30 @@ module _ (f : Field) (isFirst : Bool) (k depth : ℕ) where
   unfolding lined spread
   open_line e = open_by_lem e
 
--- A branch's own name.
+-- A branch's name, where one is said.
+pub name_said : (said : Bool) (n : ℕ) → said ≡ true → 32 ∷ 107 ∷ decimal n ≡ spread (if said then spaced (branch_name n) ∷ [] else [])
+unfolding branch_name
+name_said said n e = rw e (one_word (branch_name n))
+
+pub none_said : (said : Bool) (n : ℕ) → said ≡ false → [] ≡ spread (if said then spaced (branch_name n) ∷ [] else [])
+unfolding spread
+none_said said n e = rw e refl
+
 module _ (k n : ℕ) where
-  abbrev label_by : Bool → Bytes
-  label_by b = spread (elim b [ true ↦ spaced (branch_name n) ∷ [] | false ↦ [] ])
-
-  label_by_lem : {b : Bool} → eqb k 9 ≡ b → label_by b ≡ spread (label_pieces k n)
+  -- A branch's own name, and a case's target.
+  pub label_is : spread (if eqb k 9 then spaced (branch_name n) ∷ [] else []) ≡ spread (label_pieces k n)
   unfolding label_pieces
-  label_by_lem e = sym (ap label_by e)
+  label_is = go (eqb k 9)
+    where
+      go : (b : Bool) → spread (if b then spaced (branch_name n) ∷ [] else []) ≡ spread (elim b [ true ↦ spaced (branch_name n) ∷ [] | false ↦ [] ])
+      go true = refl
+      go false = refl
 
-  pub is_labelled : k ≡ 9 → 32 ∷ 107 ∷ decimal n ≡ spread (label_pieces k n)
-  unfolding branch_name
-  is_labelled e = one_word (branch_name n) ∙ label_by_lem (eq-eqb k 9 e)
+  pub target_is : spread (if eqb k 10 then spaced (branch_name n) ∷ [] else []) ≡ spread (target_pieces k n)
+  unfolding target_pieces
+  target_is = refl
 
-  pub no_label : (k ≡ 9 → ⊥) → [] ≡ spread (label_pieces k n)
-  unfolding spread
-  no_label e = label_by_lem (ne_eqb k 9 e)
-
-  -- A channel, a target.
+  -- A channel.
   pub is_channel : k ≡ 1 → 32 ∷ decimal n ≡ spread (channel_pieces k n)
   unfolding channel_pieces
   is_channel e = one_word (decimal n) ∙ ap (λ (b : Bool). spread (if b then spaced (decimal n) ∷ [] else [])) (sym (eq-eqb k 1 e))
@@ -97,14 +103,6 @@ module _ (k n : ℕ) where
   pub no_channel : (k ≡ 1 → ⊥) → [] ≡ spread (channel_pieces k n)
   unfolding channel_pieces spread
   no_channel e = ap (λ (b : Bool). spread (if b then spaced (decimal n) ∷ [] else [])) (sym (ne_eqb k 1 e))
-
-  pub is_target : k ≡ 10 → 32 ∷ 107 ∷ decimal n ≡ spread (target_pieces k n)
-  unfolding target_pieces branch_name
-  is_target e = one_word (branch_name n) ∙ ap (λ (b : Bool). spread (if b then spaced (branch_name n) ∷ [] else [])) (sym (eq-eqb k 10 e))
-
-  pub no_target : (k ≡ 10 → ⊥) → [] ≡ spread (target_pieces k n)
-  unfolding target_pieces spread
-  no_target e = ap (λ (b : Bool). spread (if b then spaced (branch_name n) ∷ [] else [])) (sym (ne_eqb k 10 e))
 
 -- A variable and its type, a value, or nothing.
 module _ (n t m w : ℕ) where

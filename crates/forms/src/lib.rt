@@ -1,17 +1,18 @@
-// The forms of a table: each node's text, put into a room from a place on, and the table's whole text.
+// The forms of a table: each node's text, put on a sheet, and the table's whole text in a room.
 #![tactic(auto)]
 
-ghost use Rattle.std.specs.Prelude.{◌≡◌, [], ◌∷◌, false, ◌+◌, ◌≤◌, length};
+ghost use Rattle.std.specs.Prelude.{◌≡◌, [], ◌∷◌, false, ◌+◌, ◌≤◌, length, if◌then◌else◌};
 ghost use Rattle.rules.specs.Node.{IsNode};
 ghost use Rattle.rules.specs.Layout.{nodes};
 ghost use Rattle.rules.specs.Kinds.{fields_of};
 ghost use Rattle.texts.specs.Spelling.{kind_word, edition_word};
-ghost use Rattle.texts.specs.Printer.{opening as openingPiece, label_pieces, type_pieces, behind_pieces, pieces_f, printed};
+ghost use Rattle.texts.specs.Printer.{spaced, branch_name, opening as openingPiece, type_pieces, behind_pieces, pieces_f, printed};
 ghost use Rattle.letters.specs.Wrote.{Wrote, spread};
-ghost use Rattle.forms.specs.Laying.{Blocks, is_binding, is_valued, channel_pieces, target_pieces, head_pieces, child_pieces};
+ghost use Rattle.letters.specs.Puts.{Puts};
+ghost use Rattle.forms.specs.Laying.{Blocks, is_binding, is_valued, channel_pieces, head_pieces, child_pieces};
 
 use kinds::{a_in, b_in, both, c_in, either, is_child, may_be, may_stop, row_of};
-use letters::{line, name, number, put, put_word, type_word, value};
+use letters::Sheet;
 use rules::{Field, Node};
 use table::{LAST, node};
 
@@ -34,35 +35,33 @@ fn fields(q: &[u8], i: usize) -> Node
 }
 
 // An open parenthesis: for an expression, and for a short first child, on the same line; else on a line of its own.
-fn opening(room: &mut [u8], at: usize, f: Field, first: bool, k: u8, depth: usize) -> usize
-    ensures { Wrote room.old at (spread (openingPiece f first k depth ∷ [])) room.new result }
+fn opening(sheet: &mut Sheet, f: Field, first: bool, k: u8, depth: usize)
+    ensures { Puts sheet.old (spread (openingPiece f first k depth ∷ [])) sheet.new }
 {
     if either(may_be(f, 17), both(first, k < 4)) {
-        let to = put(room, at, 32);
-        return put(room, to, 40);
+        sheet.put(b' ');
+        return sheet.put(b'(');
     }
-    let to = line(room, at, depth);
-    put(room, to, 40)
+    sheet.line(depth);
+    sheet.put(b'(');
 }
 
 // A kind's word.
-fn kind_word(room: &mut [u8], at: usize, k: u8) -> usize
-    ensures { Wrote room.old at (kind_word k) room.new result }
+fn kind_word(sheet: &mut Sheet, k: u8)
+    ensures { Puts sheet.old (kind_word k) sheet.new }
 {
     if k < 30 {
-        return put_word(room, at, k as usize);
+        sheet.word(k as usize);
     }
-    at
 }
 
-// A branch's own name.
-fn label(room: &mut [u8], at: usize, k: u8, i: usize) -> usize
-    ensures { Wrote room.old at (spread (label_pieces k i)) room.new result }
+// A branch's name, where a kind says one: a branch its own, a case its target's.
+fn branch_name(sheet: &mut Sheet, said: bool, i: usize)
+    ensures { Puts sheet.old (spread (if said then spaced (branch_name i) ∷ [] else [])) sheet.new }
 {
-    if k == 9 {
-        return name(room, at, b'k', i);
+    if said {
+        sheet.name(b'k', i);
     }
-    at
 }
 
 // Kinds that bind a variable, and kinds that have a value.
@@ -79,155 +78,100 @@ fn has_value(k: u8) -> bool
 }
 
 // A variable's name and its type, or a value, or nothing.
-fn type_part(room: &mut [u8], at: usize, i: usize, n: Node) -> usize
-    ensures { Wrote room.old at (spread (type_pieces (fields_of n.kind).ty i n.ty n.b n.word)) room.new result }
+fn type_part(sheet: &mut Sheet, i: usize, n: Node)
+    ensures { Puts sheet.old (spread (type_pieces (fields_of n.kind).ty i n.ty n.b n.word)) sheet.new }
 {
     if binds(n.kind) {
-        let to = name(room, at, b'x', i);
-        let from = put(room, to, 32);
-        return type_word(room, from, n.ty);
+        sheet.name(b'x', i);
+        sheet.put(b' ');
+        return sheet.type_word(n.ty);
     }
     if has_value(n.kind) {
-        return value(room, at, n.ty, n.b, n.word);
+        sheet.value(n.ty, n.b, n.word);
     }
-    at
 }
 
 // An input's channel.
-fn channel(room: &mut [u8], at: usize, k: u8, x: usize) -> usize
-    ensures { Wrote room.old at (spread (channel_pieces k x)) room.new result }
+fn channel(sheet: &mut Sheet, k: u8, x: usize)
+    ensures { Puts sheet.old (spread (channel_pieces k x)) sheet.new }
 {
     if k == 1 {
-        return number(room, at, x);
+        sheet.number(x);
     }
-    at
-}
-
-// A case's target.
-fn target(room: &mut [u8], at: usize, k: u8, x: usize) -> usize
-    ensures { Wrote room.old at (spread (target_pieces k x)) room.new result }
-{
-    if k == 10 {
-        return name(room, at, b'k', x);
-    }
-    at
 }
 
 // What stands before a form's children: its parenthesis, its kind's word, names, type, value and channel.
-fn heading(
-    room: &mut [u8],
-    at: usize,
-    f: Field,
-    first: bool,
-    depth: usize,
-    i: usize,
-    n: Node,
-) -> usize
-    ensures { Wrote room.old at (spread (head_pieces f first depth n.kind i n.ty n.b n.word n.a)) room.new result }
+fn heading(sheet: &mut Sheet, f: Field, first: bool, depth: usize, i: usize, n: Node)
+    ensures { Puts sheet.old (spread (head_pieces f first depth n.kind i n.ty n.b n.word n.a)) sheet.new }
 {
     let k = n.kind;
-    let opened = opening(room, at, f, first, k, depth);
-    let worded = kind_word(room, opened, k);
-    let labelled = label(room, worded, k, i);
-    let typed = type_part(room, labelled, i, n);
-    channel(room, typed, k, n.a)
+    opening(sheet, f, first, k, depth);
+    kind_word(sheet, k);
+    branch_name(sheet, k == 9, i);
+    type_part(sheet, i, n);
+    channel(sheet, k, n.a);
 }
 
 // A child inside the parentheses.
 #[cycle(behind_child_form)]
-fn child(
-    q: &&[u8],
-    room: &mut [u8],
-    at: usize,
-    level: usize,
-    depth: usize,
-    first: bool,
-    f: Field,
-    x: usize,
-) -> usize
+fn child(q: &&[u8], sheet: &mut Sheet, level: usize, depth: usize, first: bool, f: Field, x: usize)
     requires { Blocks q.now.now × (depth + level ≤ 1008) }
-    ensures { Wrote room.old at (spread (child_pieces (pieces_f level q.now.now depth first) f x)) room.new result }
+    ensures { Puts sheet.old (spread (child_pieces (pieces_f level q.now.now depth first) f x)) sheet.new }
 {
     if both(is_child(f), !may_stop(f)) {
-        return form(q, room, at, level, depth, first, f, x);
+        form(q, sheet, level, depth, first, f, x);
     }
-    at
 }
 
 // The next of a list, behind the parentheses.
 #[cycle(behind_child_form)]
-fn behind(
-    q: &&[u8],
-    room: &mut [u8],
-    at: usize,
-    level: usize,
-    depth: usize,
-    f: Field,
-    x: usize,
-) -> usize
+fn behind(q: &&[u8], sheet: &mut Sheet, level: usize, depth: usize, f: Field, x: usize)
     requires { Blocks q.now.now × (depth + level ≤ 1008) }
-    ensures { Wrote room.old at (spread (behind_pieces (pieces_f level q.now.now depth false) f x)) room.new result }
+    ensures { Puts sheet.old (spread (behind_pieces (pieces_f level q.now.now depth false) f x)) sheet.new }
 {
     if both(may_stop(f), x != LAST) {
-        return form(q, room, at, level, depth, false, f, x);
+        form(q, sheet, level, depth, false, f, x);
     }
-    at
 }
 
 // Node i, for a field that asks for its sort, so deep, of so many levels.
 #[cycle(behind_child_form)]
-fn form(
-    q: &&[u8],
-    room: &mut [u8],
-    at: usize,
-    level: usize,
-    depth: usize,
-    first: bool,
-    f: Field,
-    i: usize,
-) -> usize
+fn form(q: &&[u8], sheet: &mut Sheet, level: usize, depth: usize, first: bool, f: Field, i: usize)
     requires { Blocks q.now.now × (depth + level ≤ 1008) }
-    ensures { Wrote room.old at (spread (pieces_f level q.now.now depth first f i)) room.new result }
+    ensures { Puts sheet.old (spread (pieces_f level q.now.now depth first f i)) sheet.new }
 {
     if level == 0 {
-        return at;
+        return;
     }
     let n = fields(*q, i);
     let k = n.kind;
     if k == 16 {
-        return name(room, at, b'x', n.a);
+        return sheet.name(b'x', n.a);
     }
     if k == 17 {
-        return value(room, at, n.ty, n.b, n.word);
+        return sheet.value(n.ty, n.b, n.word);
     }
     let row = row_of(k);
     let next = b_in(row);
-    let headed = heading(room, at, f, first, depth, i, n);
-    let after_a = child(q, room, headed, level - 1, depth + 1, true, a_in(row), n.a);
-    let after_b = child(q, room, after_a, level - 1, depth + 1, false, next, n.b);
-    let after_c = child(
-        q,
-        room,
-        after_b,
-        level - 1,
-        depth + 1,
-        false,
-        c_in(row),
-        n.c,
-    );
-    let named = target(room, after_c, k, n.c);
-    let closed = put(room, named, 41);
-    behind(q, room, closed, level - 1, depth, next, n.b)
+    heading(sheet, f, first, depth, i, n);
+    child(q, sheet, level - 1, depth + 1, true, a_in(row), n.a);
+    child(q, sheet, level - 1, depth + 1, false, next, n.b);
+    child(q, sheet, level - 1, depth + 1, false, c_in(row), n.c);
+    branch_name(sheet, k == 10, n.c);
+    sheet.put(b')');
+    behind(q, sheet, level - 1, depth, next, n.b);
 }
 
+// The row of the first edition's word; the second's follows.
+const EDITIONS: usize = 42;
+
 // The word of an edition.
-fn edition_word(room: &mut [u8], at: usize, e: u8) -> usize
-    ensures { Wrote room.old at (edition_word e) room.new result }
+fn edition_word(sheet: &mut Sheet, e: u8)
+    ensures { Puts sheet.old (edition_word e) sheet.new }
 {
     if e < 2 {
-        return put_word(room, at, 42 + e as usize);
+        sheet.word(EDITIONS + e as usize);
     }
-    at
 }
 
 // The whole text of a table, at the room's front: how long it is.
@@ -235,7 +179,9 @@ pub fn put_text(q: &[u8], room: &mut [u8], count: usize) -> usize
     requires { Blocks q.now × (4 ≤ length q.now) × (count ≡ nodes q.now) × (1 ≤ count) × (count ≤ 1008) }
     ensures { Wrote room.old 0 (printed q.now) room.new result }
 {
-    let titled = edition_word(room, 0, q[3]);
-    let laid = form(&q, room, titled, count, 0, false, Field::Signal, count - 1);
-    put(room, laid, 10)
+    let mut sheet = Sheet { room, at: 0 };
+    edition_word(&mut sheet, q[3]);
+    form(&q, &mut sheet, count, 0, false, Field::Signal, count - 1);
+    sheet.put(b'\n');
+    sheet.at
 }

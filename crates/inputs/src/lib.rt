@@ -6,6 +6,7 @@ ghost use Rattle.rules.specs.Bytes.{byte_at, u16_at, u32_at};
 ghost use Rattle.rules.specs.Layout.{channel_value, flag_on, time_in};
 
 use rules::{INT, MAYBE, Value};
+use table::u32_at;
 
 // Maybe int.
 const MAYBE_INT: u8 = MAYBE + INT;
@@ -14,33 +15,7 @@ const MAYBE_INT: u8 = MAYBE + INT;
 fn byte_at(rec: &[u8], i: usize) -> u8
     ensures { result ≡ byte_at rec.now i }
 {
-    if i < rec.len() {
-        return rec[i];
-    }
-    0
-}
-
-// A byte as a 32-bit number.
-fn wide(x: u8) -> u32
-    ensures { (result ≡ x) × (result < 256) }
-{
-    x as u32
-}
-
-// The number of 2 bytes at a position.
-fn half_at(rec: &[u8], at: usize) -> u32
-    requires { at < 100 }
-    ensures { (result ≡ u16_at rec.now at) × (result < 65536) }
-{
-    wide(byte_at(rec, at)) + 256 * wide(byte_at(rec, at + 1))
-}
-
-// The number of 2 bytes at a position within the record, read with no test.
-fn half_in(rec: &[u8], at: usize) -> u32
-    requires { at + 2 ≤ length rec.now }
-    ensures { (result ≡ u16_at rec.now at) × (result < 65536) }
-{
-    wide(rec[at]) + 256 * wide(rec[at + 1])
+    rec.get(i).copied().unwrap_or(0)
 }
 
 // The number of 4 bytes at a position, by one test where they are all in the record.
@@ -49,9 +24,14 @@ fn word_at(rec: &[u8], at: usize) -> u32
     ensures { result ≡ u32_at rec.now at }
 {
     if at + 4 <= rec.len() {
-        return half_in(rec, at) + 65536 * half_in(rec, at + 2);
+        return u32_at(rec, at);
     }
-    half_at(rec, at) + 65536 * half_at(rec, at + 2)
+    u32::from_le_bytes([
+        byte_at(rec, at),
+        byte_at(rec, at + 1),
+        byte_at(rec, at + 2),
+        byte_at(rec, at + 3),
+    ])
 }
 
 // The time.
@@ -66,7 +46,7 @@ fn flag_on(rec: &[u8], c: usize) -> bool
     requires { c < 8 }
     ensures { result ≡ eqb (flag_on rec.now c) 1 }
 {
-    let flags = byte_at(rec, 20) as usize;
+    let flags = usize::from(byte_at(rec, 20));
     (flags >> c) % 2 == 1
 }
 

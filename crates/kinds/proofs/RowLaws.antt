@@ -2,18 +2,15 @@
 -- Assumes nothing.
 use mathlib.Core.Path.{◌≡◌, refl, sym, ap, subst, ◌∙◌}
 use mathlib.Core.Bool.{Bool, true, false, true≢false}
-use Prim.Native.Nat.{ℕ, suc, ◌+◌, ◌*◌, ◌/◌, ◌%◌, ◌≤◌, ◌<◌}
+use Prim.Native.Nat.{ℕ, suc, ◌≤◌, ◌<◌}
 use native.Mathlib.Omega.{arith}
 use lib.Dec.{eqb, leb}
 use borrow.Author.Tests.{eqb-true, eqb-false, leb-true, leb-false, le-leb, lt-leb, ne_eqb}
 use Rattle.rules.specs.Bytes.{◌and◌, ◌or◌}
 use Rattle.rules.specs.Kinds.{row, is_signal, is_branch, is_case, is_expression, is_kind, fields_of}
-use Rattle.rules.specs.declared.Field.{Field}
-use Rattle.rules.specs.declared.Field.TheVariants.{Unused, Channel, PresentByte, Signal, Expression, FirstBranch, NextBranch, FirstCase, NextCase, Binder, Target}
-use Rattle.rules.specs.declared.TypeField.{TypeField}
-use Rattle.rules.specs.declared.TypeField.TheVariants.{NoType, AnyType, PlainType, ValueType}
-use Rattle.rules.specs.declared.Fields.{Fields}
-use Rattle.kinds.specs.Rows.{child_number, child_numbered, as_child, type_number, type_numbered, width, named_bits, row_number, row_of, named_in, type_field_in, a_in, b_in, c_in}
+use Rattle.rules.specs.declared.Field.TheVariants.{Unused, Expression}
+use Rattle.rules.specs.declared.TypeField.TheVariants.{NoType}
+use Rattle.kinds.specs.Rows.{row_number, row_of}
 use Rattle.kinds.proofs.KindLaws.{ops_low, ops_high}
 
 -- The row of a kind that has an arm of its own: by computation.
@@ -47,8 +44,8 @@ on_two k l u d = go (leb 24 k) refl
 from_18 : (k : ℕ) → 16 ≤ k → (k ≡ 16 → ⊥) → (k ≡ 17 → ⊥) → 18 ≤ k
 from_18 k l n16 n17 = omega (arith, n16, n17)
 
-pub operates : {k r : ℕ} → r ≡ 9312 → 16 ≤ k → k < 27 → (k ≡ 16 → ⊥) → (k ≡ 17 → ⊥) → (k ≡ 24 → ⊥) → r ≡ row_of k
-unfolding row_of row_number row named_bits width child_number type_number
+pub operates : {k r : ℕ} → r ≡ row_number (row NoType Expression Expression Unused) → 16 ≤ k → k < 27 → (k ≡ 16 → ⊥) → (k ≡ 17 → ⊥) → (k ≡ 24 → ⊥) → r ≡ row_of k
+unfolding row_of
 operates {k} e l u n16 n17 n24 =
     e ∙ rw (an_expression k l (omega arith), ← on_two k (from_18 k l n16 n17) u n24) refl
 

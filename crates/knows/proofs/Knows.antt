@@ -1,5 +1,7 @@
 -- g): the sum of all block checks, which a state carries: how large it is, who writes it, and what a run answers where it is another one.
 -- Assumes nothing.
+use Rattle.std.specs.Prelude.{Ok, Err}
+use Rattle.rules.specs.Verdicts.{Verdict}
 use mathlib.Core.Path.{◌≡◌, refl, sym, ap, ◌∙◌}
 use mathlib.Core.Bool.{Bool, true}
 use Prim.Native.Nat.{◌/◌, ◌%◌, ◌≤◌}
@@ -13,8 +15,6 @@ use Rattle.rules.specs.WellFormed.{long_as_cells, knows_program, well_formed}
 use Rattle.rules.specs.Accepted.{Accepted}
 use Rattle.rules.specs.Calls.{◌otherwise◌, refuse_if, state_verdict, lent_verdict, RunOutcome, run_outcome, run_call}
 use Rattle.rules.specs.declared.Refusal.{Refusal}
-use Rattle.rules.specs.declared.Verdict.{Verdict}
-use Rattle.rules.specs.declared.Verdict.TheVariants.{Fine, Refuse}
 use Rattle.rules.proofs.Verdicts.{both_fine, accepted, fine_verdict}
 use Rattle.promises.specs.Small.{Small}
 use Rattle.promises.specs.GoesOn.{GoesOn}
@@ -40,14 +40,14 @@ fits : Bytes → Bool
 fits recs = eqb (length recs % input_length) 0 and leb (length recs / input_length) 4096
 
 -- What is lent without a fault is an accepted program and a well-formed state.
-lent : (p st recs out : Bytes) → lent_verdict p st recs out (fits recs) ≡ Fine → Accepted p × (well_formed p st ≡ true)
+lent : (p st recs out : Bytes) → lent_verdict p st recs out (fits recs) ≡ Ok tt → Accepted p × (well_formed p st ≡ true)
 unfolding lent_verdict
 lent p st recs out e =
     let a = both_fine _ _ e in
     (accepted p a.0, state_well p st (both_fine _ _ a.1).0)
 
 -- A fault in what is lent leaves the state as it was.
-unmoved : (p st recs out : Bytes) (r : Refusal) → lent_verdict p st recs out (fits recs) ≡ Refuse r → (run_call p st recs out).state ≡ st
+unmoved : (p st recs out : Bytes) (r : Refusal) → lent_verdict p st recs out (fits recs) ≡ Err r → (run_call p st recs out).state ≡ st
 unfolding run_call run_outcome fits
 unmoved p st recs out r e = rw e
 
@@ -56,8 +56,8 @@ pub run_leaves_sum : (p st recs out : Bytes) → Small p → Small st → Small 
 run_leaves_sum p st recs out hp hs hr = go _ refl
   where
     go : (v : Verdict) → lent_verdict p st recs out (fits recs) ≡ v → sum_in (run_call p st recs out).state ≡ sum_in st
-    go (Refuse r) e = ap sum_in (unmoved p st recs out r e)
-    go Fine e =
+    go (Err r) e = ap sum_in (unmoved p st recs out r e)
+    go (Ok _) e =
         let l = lent p st recs out e in
         let left = (goes_on p hp l.0).run_leaves st recs out (record { bytes = hs; well = l.1 }) hr in
         carries p _ left.well ∙ sym (carries p st l.1)

@@ -1,13 +1,14 @@
 -- Names noted, and branch names ahead.
 -- Assumes nothing.
-use Rattle.std.specs.Prelude.{if◌then◌else◌}
+use Rattle.std.specs.Prelude.{if◌then◌else◌, Option, Some, None, ◌⊎◌}
+use Rattle.std.proofs.Common.{inl, inr}
 use mathlib.Core.Path.{◌≡◌, refl, sym, ap, ap₂, subst, ◌∙◌}
 use mathlib.Core.Bool.{Bool, true, false}
 use mathlib.Core.List.{List, [], ◌∷◌}
 use Prim.Native.Nat.{ℕ, zero, suc, ◌+◌, ◌-◌, ◌*◌, ◌≤◌, ◌<◌}
 use native.Mathlib.Omega.{arith}
-use lib.Dec.{eqb, ltb}
-use lib.ListN.{length, get_or, set, drop, length-set}
+use lib.Dec.{eqb, ltb, leb}
+use lib.ListN.{length, get_or, set, length-set}
 use lib.Seq.{get_or-set_same, get_or-set_other}
 use borrow.Author.Tests.{ne_eqb, eqb-true, eqb-false, ltb-true, lt-ltb, le-ltb, le-leb, lt-leb}
 use Rattle.rules.specs.Bytes.{Bytes, ◌and◌, ◌or◌}
@@ -16,40 +17,10 @@ use Rattle.texts.specs.Spelled.{same, is_among}
 use Rattle.texts.specs.Spelling.{open₀, kind_word}
 use Rattle.texts.specs.Reader.{branch_names, opened, named}
 use Rattle.tokens.specs.Ahead.{Ahead}
-use Rattle.tokens.specs.declared.Next.{Next}
-use Rattle.tokens.specs.declared.Next.TheVariants.{Word, End}
-use Rattle.spell.proofs.NumberLaws.{and_left, and_right}
-use Rattle.spell.specs.Vocabulary.{IsPart, listed}
-use Rattle.spell.proofs.PartLaws.{part_length, part_byte, same_lengths, same_next, same_not, same_ended}
+use Rattle.tokens.specs.declared.Span.{Span}
+use Rattle.spell.specs.Vocabulary.{listed}
 use Rattle.labels.specs.Noted.{named_by, name_at, noted_names, names_in, put_name, noted, noted_if, Known}
 use Rattle.labels.specs.Awaited.{awaited, names_ahead}
-
--- Two parts: their lengths, then byte by byte.
-module _ (s : Bytes) (a b c d : ℕ) (p : IsPart s a b) (q : IsPart s c d) where
-  pub parts_never : (b - a ≡ d - c → ⊥) → same (part s a b) (part s c d) ≡ false
-  parts_never f = same_lengths (part s a b) (part s c d) (λ e. f (sym (part_length s a b p.1) ∙ e ∙ part_length s c d q.1))
-
-  module _ (fit : b - a ≡ d - c) (i : ℕ) where
-    in_first : i < d - c → i < length (part s a b)
-    in_first h = rw (part_length s a b p.1) (omega arith)
-
-    in_second : i < d - c → i < length (part s c d)
-    in_second h = rw (part_length s c d q.1) h
-
-    pub parts_not : i < d - c → (get_or s (a + i) 0 ≡ get_or s (c + i) 0 → ⊥) → same (drop i (part s a b)) (drop i (part s c d)) ≡ false
-    parts_not h f =
-        same_not (part s a b) (part s c d) i (in_first h) (in_second h)
-        (λ e. f (sym (part_byte s a b i (omega arith)) ∙ e ∙ part_byte s c d i h))
-
-    pub parts_next : i < d - c → get_or s (a + i) 0 ≡ get_or s (c + i) 0
-        → same (drop i (part s a b)) (drop i (part s c d)) ≡ same (drop (i + 1) (part s a b)) (drop (i + 1) (part s c d))
-    parts_next h e =
-        same_next (part s a b) (part s c d) i (in_first h) (in_second h)
-        (part_byte s a b i (omega arith) ∙ e ∙ sym (part_byte s c d i h))
-
-    pub parts_done : d - c ≤ i → same (drop i (part s a b)) (drop i (part s c d)) ≡ true
-    parts_done h =
-        same_ended (part s a b) (part s c d) i (rw (part_length s a b p.1) (omega arith)) (rw (part_length s c d q.1) h)
 
 -- The name between two numbers.
 module _ (text : Bytes) (s e : ℕ) where
@@ -57,17 +28,18 @@ module _ (text : Bytes) (s e : ℕ) where
   unfolding named_by ◌and◌
   named_part h k = rw (le-leb s e h, le-leb e (length text) k) refl
 
-  pub named_back : e < s → named_by text s e ≡ []
+  named_back : e < s → named_by text s e ≡ []
   unfolding named_by ◌and◌
   named_back h = rw (lt-leb s e h) refl
 
-  pub named_long : s ≤ e → length text < e → named_by text s e ≡ []
+  pub named_none : (e < s) ⊎ (length text < e) → named_by text s e ≡ []
   unfolding named_by ◌and◌
-  named_long h k = rw (le-leb s e h, lt-leb e (length text) k) refl
-
--- A word is not none.
-pub not_none : (text : Bytes) (s e : ℕ) (n : Bytes) → s < e → e ≤ length text → n ≡ [] → same (part text s e) n ≡ false
-not_none text s e n h k z = same_lengths (part text s e) n (λ q. (let y : e - s ≡ 0 = sym (part_length text s e k) ∙ q ∙ ap length z in omega arith))
+  named_none (inl h) = named_back h
+  named_none (inr k) = go (leb s e) (leb e (length text)) (lt-leb e (length text) k)
+    where
+      go : (x y : Bool) → y ≡ false → (if x and y then part text s e else []) ≡ []
+      go true y q = rw q refl
+      go false y q = refl
 
 -- Among the names noted: name i, or those before it.
 module _ (text w : Bytes) (t : List ℕ) (base i : ℕ) where
@@ -195,7 +167,7 @@ module _ (state at : ℕ) (w : Bytes) (ts : List Token) where
 
 -- A loop over the words: none is left, the next is the word, or it is not.
 module _ (text w : Bytes) (state at : ℕ) where
-  pub ahead_none : (r : Next) → Ahead text at r → r ≡ End → is_among w (names_ahead state (from text at)) ≡ false
+  pub ahead_none : (r : Option Span) → Ahead text at r → r ≡ None → is_among w (names_ahead state (from text at)) ≡ false
   unfolding names_ahead opened named branch_names is_among
   ahead_none r a e = ap (λ (ts : List Token). is_among w (names_ahead state ts)) (subst (Ahead text at) e a) ∙ go (eqb state 1) (eqb state 2)
     where
@@ -204,47 +176,47 @@ module _ (text w : Bytes) (state at : ℕ) where
       go false true = refl
       go false false = refl
 
-  module _ (r : Next) (a : Ahead text at r) (begin stop : ℕ) (e : r ≡ Word begin stop) where
-    pub word_ahead : (at ≤ begin) × (begin < stop) × (stop ≤ length text) × (from text at ≡ token begin (part text begin stop) ∷ from text stop)
+  module _ (r : Option Span) (a : Ahead text at r) (v : Span) (e : r ≡ Some v) where
+    pub word_ahead : (at ≤ v.first) × (v.first < v.end) × (v.end ≤ length text) × (from text at ≡ token v.first (part text v.first v.end) ∷ from text v.end)
     word_ahead = subst (Ahead text at) e a
 
-    module _ (x y : Bool) (g : x ≡ (eqb state 2 and y)) (same_as : y ≡ same w (part text begin stop)) where
-      pub ahead_here : x ≡ true → is_among w (names_ahead state (from text at)) ≡ true
-      unfolding is_among
-      ahead_here t =
-          ap (λ (ts : List Token). is_among w (names_ahead state ts)) word_ahead.3
-          ∙ ap (is_among w) (awaits_name state begin (part text begin stop) (from text stop) (eqb-true state 2 (and_left _ _ (sym g ∙ t))))
-          ∙ rw (sym same_as ∙ and_right _ _ (sym g ∙ t), is_among) refl
+    pub ahead_here : state ≡ 2 → same w (part text v.first v.end) ≡ true → is_among w (names_ahead state (from text at)) ≡ true
+    unfolding is_among
+    ahead_here d t =
+        ap (λ (ts : List Token). is_among w (names_ahead state ts)) word_ahead.3
+        ∙ ap (is_among w) (awaits_name state v.first (part text v.first v.end) (from text v.end) d)
+        ∙ rw (t, is_among) refl
 
-      pub ahead_next : x ≡ false → is_among w (names_ahead state (from text at)) ≡ is_among w (names_ahead (awaited state (part text begin stop)) (from text stop))
-      unfolding is_among ◌and◌
-      ahead_next f = ap (λ (ts : List Token). is_among w (names_ahead state ts)) word_ahead.3 ∙ go (eqb state 2) refl
-        where
-          go : (b : Bool) → eqb state 2 ≡ b
-              → is_among w (names_ahead state (token begin (part text begin stop) ∷ from text stop))
-              ≡ is_among w (names_ahead (awaited state (part text begin stop)) (from text stop))
-          go true q =
-              ap (is_among w) (awaits_name state begin (part text begin stop) (from text stop) (eqb-true state 2 q))
-              ∙ rw (sym same_as ∙ sym (g ∙ ap (λ (b : Bool). b and y) q) ∙ f, is_among) refl
-          go false q = ap (is_among w) (awaits_none state begin (part text begin stop) (from text stop) (eqb-false state 2 q))
+    pub ahead_other : (state ≡ 2 → ⊥) → is_among w (names_ahead state (from text at)) ≡ is_among w (names_ahead (awaited state (part text v.first v.end)) (from text v.end))
+    ahead_other d =
+        ap (λ (ts : List Token). is_among w (names_ahead state ts)) word_ahead.3
+        ∙ ap (is_among w) (awaits_none state v.first (part text v.first v.end) (from text v.end) d)
+
+    pub ahead_next : state ≡ 2 → same w (part text v.first v.end) ≡ false → is_among w (names_ahead state (from text at)) ≡ is_among w (names_ahead (awaited state (part text v.first v.end)) (from text v.end))
+    unfolding is_among
+    ahead_next d f =
+        ap (λ (ts : List Token). is_among w (names_ahead state ts)) word_ahead.3
+        ∙ ap (is_among w) (awaits_name state v.first (part text v.first v.end) (from text v.end) d)
+        ∙ rw (f, is_among) refl
 
 pub names_ahead_lem : (text : Bytes) → branch_names (tokens text) ≡ names_ahead 0 (from text 0)
 unfolding names_ahead from tokens
 names_ahead_lem text = refl
 
 -- What is awaited next.
-module _ (state : ℕ) (w : Bytes) (x y z : Bool) (g : x ≡ (eqb state 1 and y)) (e : y ≡ same w (listed 9)) where
-  pub awaits_two : x ≡ true → awaited state w ≡ 2
-  unfolding awaited listed
-  awaits_two t = rw (ap (λ (b : Bool). eqb state 1 and b) (sym e) ∙ sym g ∙ t) refl
+module _ (state : ℕ) (w : Bytes) where
+  pub awaits_two : state ≡ 1 → same w (listed 9) ≡ true → awaited state w ≡ 2
+  unfolding awaited listed ◌and◌
+  awaits_two d e = rw (d, e) refl
 
-  pub awaits_one : x ≡ false → z ≡ same w (40 ∷ []) → z ≡ true → awaited state w ≡ 1
-  unfolding awaited listed
-  awaits_one f d t = rw (ap (λ (b : Bool). eqb state 1 and b) (sym e) ∙ sym g ∙ f, sym d ∙ t) refl
-
-  pub awaits_zero : x ≡ false → z ≡ same w (40 ∷ []) → z ≡ false → awaited state w ≡ 0
-  unfolding awaited listed
-  awaits_zero f d t = rw (ap (λ (b : Bool). eqb state 1 and b) (sym e) ∙ sym g ∙ f, sym d ∙ t) refl
+  pub awaits_mark : (state ≡ 1 → ⊥) ⊎ (same w (listed 9) ≡ false) → awaited state w ≡ (if same w (40 ∷ []) then 1 else 0)
+  unfolding awaited listed ◌and◌
+  awaits_mark (inl d) = rw (ne_eqb state 1 d) refl
+  awaits_mark (inr e) = go (eqb state 1) (same w (kind_word 9)) e
+    where
+      go : (x y : Bool) → y ≡ false → ◌≡◌ {A = ℕ} (if x and y then 2 else if same w open₀ then 1 else 0) (if same w open₀ then 1 else 0)
+      go true y q = rw q refl
+      go false y q = refl
 
 -- Noting all branch names: what is noted, and what is ahead.
 pub record Noting (text : Bytes) (t : List ℕ) (state at : ℕ) : Type 0 where
@@ -266,7 +238,7 @@ unfolding ◌or◌
 or_none true y q = refl
 or_none false y q = q
 
-pub noting_ends : (text : Bytes) (t : List ℕ) (state at : ℕ) (r : Next) → Ahead text at r → r ≡ End → Noting text t state at → Known text t
+pub noting_ends : (text : Bytes) (t : List ℕ) (state at : ℕ) (r : Option Span) → Ahead text at r → r ≡ None → Noting text t state at → Known text t
 noting_ends text t state at r a e n = record {
   long = n.long;
   known = λ h w. sym (or_none (is_among w (names_in text t 0)) (is_among w (names_ahead state (from text at))) (ahead_none text w state at r a e)) ∙ n.so_far h w;
@@ -282,43 +254,43 @@ swap w v ns rest = go (same w v) (is_among w ns) (is_among w rest)
     go true false z = refl
     go false y z = refl
 
-module _ (text : Bytes) (t : List ℕ) (state at : ℕ) (r : Next) (a : Ahead text at r) (begin stop : ℕ) (e : r ≡ Word begin stop) (n : Noting text t state at) where
-  ahead : (at ≤ begin) × (begin < stop) × (stop ≤ length text) × (from text at ≡ token begin (part text begin stop) ∷ from text stop)
-  ahead = word_ahead text [] state at r a begin stop e
+module _ (text : Bytes) (t : List ℕ) (state at : ℕ) (r : Option Span) (a : Ahead text at r) (v : Span) (e : r ≡ Some v) (n : Noting text t state at) where
+  ahead : (at ≤ v.first) × (v.first < v.end) × (v.end ≤ length text) × (from text at ≡ token v.first (part text v.first v.end) ∷ from text v.end)
+  ahead = word_ahead text [] state at r a v e
 
-  passed : (state ≡ 2 → ⊥) → Noting text t (awaited state (part text begin stop)) stop
+  passed : (state ≡ 2 → ⊥) → Noting text t (awaited state (part text v.first v.end)) v.end
   passed d = record {
     long = n.long;
-    so_far = λ h w. ap (λ (ts : List Bytes). is_among w (names_in text t 0) or is_among w ts) (sym (awaits_none state begin (part text begin stop) (from text stop) d) ∙ ap (names_ahead state) (sym ahead.3)) ∙ n.so_far h w;
+    so_far = λ h w. ap (λ (ts : List Bytes). is_among w (names_in text t 0) or is_among w ts) (sym (awaits_none state v.first (part text v.first v.end) (from text v.end) d) ∙ ap (names_ahead state) (sym ahead.3)) ∙ n.so_far h w;
   }
 
-  added : state ≡ 2 → get_or t 0 0 < 1008 → Noting text (noted t 0 begin stop) (awaited state (part text begin stop)) stop
+  added : state ≡ 2 → get_or t 0 0 < 1008 → Noting text (noted t 0 v.first v.end) (awaited state (part text v.first v.end)) v.end
   added d l = record {
-    long = omega (arith, n.long, noted_length t 0 begin stop l (omega (arith, n.long)));
+    long = omega (arith, n.long, noted_length t 0 v.first v.end l (omega (arith, n.long)));
     so_far = λ h w.
-        ap (λ (ns : List Bytes). is_among w ns or is_among w (names_ahead (awaited state (part text begin stop)) (from text stop)))
-        (noted_names_lem t 0 begin stop l (omega (arith, n.long)) text ∙ ap (λ (x : Bytes). x ∷ names_in text t 0) (named_part text begin stop (omega (arith, ahead.1)) ahead.2))
-        ∙ swap w (part text begin stop) (names_in text t 0) (names_ahead (awaited state (part text begin stop)) (from text stop))
-        ∙ ap (λ (ts : List Bytes). is_among w (names_in text t 0) or is_among w ts) (sym (awaits_name state begin (part text begin stop) (from text stop) d) ∙ ap (names_ahead state) (sym ahead.3))
+        ap (λ (ns : List Bytes). is_among w ns or is_among w (names_ahead (awaited state (part text v.first v.end)) (from text v.end)))
+        (noted_names_lem t 0 v.first v.end l (omega (arith, n.long)) text ∙ ap (λ (x : Bytes). x ∷ names_in text t 0) (named_part text v.first v.end (omega (arith, ahead.1)) ahead.2))
+        ∙ swap w (part text v.first v.end) (names_in text t 0) (names_ahead (awaited state (part text v.first v.end)) (from text v.end))
+        ∙ ap (λ (ts : List Bytes). is_among w (names_in text t 0) or is_among w ts) (sym (awaits_name state v.first (part text v.first v.end) (from text v.end) d) ∙ ap (names_ahead state) (sym ahead.3))
         ∙ n.so_far (omega arith) w;
   }
 
-  full : Noting text (set t 0 1009) (awaited state (part text begin stop)) stop
+  full : Noting text (set t 0 1009) (awaited state (part text v.first v.end)) v.end
   full = let z : get_or (set t 0 1009) 0 0 ≡ 1009 = get_or-set_same t 0 1009 0 (omega (arith, n.long)) in record {
     long = omega (arith, n.long, length-set t 0 1009);
     so_far = λ h w. absurd (omega (arith, z, h));
   }
 
-  inner : (y : Bool) → ltb (get_or t 0 0) 1008 ≡ y → state ≡ 2 → Noting text (if y then noted t 0 begin stop else set t 0 1009) (awaited state (part text begin stop)) stop
+  inner : (y : Bool) → ltb (get_or t 0 0) 1008 ≡ y → state ≡ 2 → Noting text (if y then noted t 0 v.first v.end else set t 0 1009) (awaited state (part text v.first v.end)) v.end
   inner true q d = added d (ltb-true (get_or t 0 0) 1008 q)
   inner false q d = full
 
-  by_flag : (x : Bool) → eqb state 2 ≡ x → Noting text (noted_if x t begin stop) (awaited state (part text begin stop)) stop
+  by_flag : (x : Bool) → eqb state 2 ≡ x → Noting text (noted_if x t v.first v.end) (awaited state (part text v.first v.end)) v.end
   unfolding noted_if
   by_flag true q = inner (ltb (get_or t 0 0) 1008) refl (eqb-true state 2 q)
   by_flag false q = passed (eqb-false state 2 q)
 
-  pub noting_on : Noting text (noted_if (eqb state 2) t begin stop) (awaited state (part text begin stop)) stop
+  pub noting_on : Noting text (noted_if (eqb state 2) t v.first v.end) (awaited state (part text v.first v.end)) v.end
   noting_on = by_flag (eqb state 2) refl
 
 -- The three ways of noting, if it is wanted.
@@ -341,7 +313,7 @@ noted_none text w t base i l = ap (λ (k : ℕ). is_among w (noted_names text t 
 pub state_is : (text w v : Bytes) (state state' at : ℕ) → state' ≡ awaited state v → is_among w (names_ahead (awaited state v) (from text at)) ≡ is_among w (names_ahead state' (from text at))
 state_is text w v state state' at e = ap (λ (k : ℕ). is_among w (names_ahead k (from text at))) (sym e)
 
-pub noting_next : (text : Bytes) (t : List ℕ) (state at : ℕ) (r : Next) → Ahead text at r → (begin stop : ℕ) → r ≡ Word begin stop → Noting text t state at
-    → (t' : List ℕ) → t' ≡ noted_if (eqb state 2) t begin stop → (state' : ℕ) → state' ≡ awaited state (part text begin stop) → Noting text t' state' stop
-noting_next text t state at r a begin stop e n t' z state' y =
-    subst (λ (k : ℕ). Noting text t' k stop) (sym y) (subst (λ (u : List ℕ). Noting text u (awaited state (part text begin stop)) stop) (sym z) (noting_on text t state at r a begin stop e n))
+pub noting_next : (text : Bytes) (t : List ℕ) (state at : ℕ) (r : Option Span) → Ahead text at r → (v : Span) → r ≡ Some v → Noting text t state at
+    → (t' : List ℕ) → t' ≡ noted_if (eqb state 2) t v.first v.end → (state' : ℕ) → state' ≡ awaited state (part text v.first v.end) → Noting text t' state' v.end
+noting_next text t state at r a v e n t' z state' y =
+    subst (λ (k : ℕ). Noting text t' k v.end) (sym y) (subst (λ (u : List ℕ). Noting text u (awaited state (part text v.first v.end)) v.end) (sym z) (noting_on text t state at r a v e n))

@@ -10,8 +10,9 @@ use borrow.Author.Tests.{lt-ltb, le-ltb}
 use Rattle.rules.specs.Bytes.{Bytes}
 use Rattle.texts.specs.Numerals.{digits_f, decimal, signed_decimal}
 use Rattle.texts.proofs.Decimals.{by_test, one_digit, more_digits}
-use Rattle.letters.specs.Wrote.{Wrote}
-use Rattle.letters.proofs.WroteLaws.{wrote_none, wrote_as, wrote_then}
+use Rattle.letters.specs.declared.Sheet.{Sheet}
+use Rattle.letters.specs.Puts.{Puts}
+use Rattle.letters.proofs.PutsLaws.{puts_none, puts_as, puts_then}
 
 pub digits_before : (f n : ℕ) (after : Bytes) → digits_f f n after ≡ digits_f f n [] ++ after
 unfolding digits_f
@@ -34,24 +35,24 @@ next_digit (suc f) n h l =
     ap (λ (k : ℕ). digits_f k (n / 10) [] ++ (48 + n % 10) ∷ []) (let z : suc f - 1 ≡ f = omega arith in z)
     ∙ sym (more_digits f n [] (le-ltb n 10 l) ∙ digits_before f (n / 10) ((48 + n % 10) ∷ []))
 
-module _ {s : Bytes} {at : ℕ} (most n : ℕ) where
-  pub digits_none : most ≡ 0 → Wrote s at (digits_f most n []) s at
+module _ {s : Sheet} (most n : ℕ) where
+  pub digits_none : most ≡ 0 → Puts s (digits_f most n []) s
   unfolding digits_f
-  digits_none e = wrote_as (sym (ap (λ (k : ℕ). digits_f k n []) e)) (wrote_none s at)
+  digits_none e = puts_as (sym (ap (λ (k : ℕ). digits_f k n []) e)) (puts_none s)
 
-  pub digits_last : {s' : Bytes} {r d : ℕ} → 1 ≤ most → n < 10 → d ≡ 48 + n → Wrote s at (d ∷ []) s' r → Wrote s at (digits_f most n []) s' r
-  digits_last h l e w = wrote_as (ap (λ (x : ℕ). x ∷ []) e ∙ last_digit most n h l) w
+  pub digits_last : {s' : Sheet} {d : ℕ} → 1 ≤ most → n < 10 → d ≡ 48 + n → Puts s (d ∷ []) s' → Puts s (digits_f most n []) s'
+  digits_last h l e w = puts_as (ap (λ (x : ℕ). x ∷ []) e ∙ last_digit most n h l) w
 
-  pub digits_next : {s₁ s₂ : Bytes} {b c d : ℕ} → 1 ≤ most → 10 ≤ n → Wrote s at (digits_f (most - 1) (n / 10) []) s₁ b → d ≡ 48 + n % 10 → Wrote s₁ b (d ∷ []) s₂ c
-      → Wrote s at (digits_f most n []) s₂ c
-  digits_next h l w e v = wrote_as (ap (λ (x : ℕ). digits_f (most - 1) (n / 10) [] ++ x ∷ []) e ∙ next_digit most n h l) (wrote_then w v)
+  pub digits_next : {s₁ s₂ : Sheet} {d : ℕ} → 1 ≤ most → 10 ≤ n → Puts s (digits_f (most - 1) (n / 10) []) s₁ → d ≡ 48 + n % 10 → Puts s₁ (d ∷ []) s₂
+      → Puts s (digits_f most n []) s₂
+  digits_next h l w e v = puts_as (ap (λ (x : ℕ). digits_f (most - 1) (n / 10) [] ++ x ∷ []) e ∙ next_digit most n h l) (puts_then w v)
 
 -- An integer by its word.
-module _ {s s' : Bytes} {at r : ℕ} (w : ℕ) where
-  pub not_negative : w < 2147483648 → Wrote s at (digits_f 10 w []) s' r → Wrote s at (signed_decimal w) s' r
+module _ {s s' : Sheet} (w : ℕ) where
+  pub not_negative : w < 2147483648 → Puts s (digits_f 10 w []) s' → Puts s (signed_decimal w) s'
   unfolding signed_decimal decimal
-  not_negative h v = wrote_as (sym (ap {B = Bytes} (λ (b : Bool). elim b [ true ↦ decimal w | false ↦ 45 ∷ decimal (4294967296 - w) ]) (lt-ltb w 2147483648 h))) v
+  not_negative h v = puts_as (sym (ap {B = Bytes} (λ (b : Bool). elim b [ true ↦ decimal w | false ↦ 45 ∷ decimal (4294967296 - w) ]) (lt-ltb w 2147483648 h))) v
 
-  pub negative : 2147483648 ≤ w → Wrote s at (45 ∷ digits_f 10 (4294967296 - w) []) s' r → Wrote s at (signed_decimal w) s' r
+  pub negative : 2147483648 ≤ w → Puts s (45 ∷ digits_f 10 (4294967296 - w) []) s' → Puts s (signed_decimal w) s'
   unfolding signed_decimal decimal
-  negative h v = wrote_as (sym (ap {B = Bytes} (λ (b : Bool). elim b [ true ↦ decimal w | false ↦ 45 ∷ decimal (4294967296 - w) ]) (le-ltb w 2147483648 h))) v
+  negative h v = puts_as (sym (ap {B = Bytes} (λ (b : Bool). elim b [ true ↦ decimal w | false ↦ 45 ∷ decimal (4294967296 - w) ]) (le-ltb w 2147483648 h))) v

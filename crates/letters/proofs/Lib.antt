@@ -1,4 +1,5 @@
 pub mod WroteLaws
+pub mod PutsLaws
 pub mod WordLaws
 pub mod DigitLaws
 pub mod ValueLaws

@@ -13,8 +13,10 @@ use Rattle.texts.specs.Spelling.{open₀, close₀, type_word, unit_word, true_w
 use Rattle.texts.specs.Numerals.{signed_decimal}
 use Rattle.texts.specs.Printer.{Piece, spaced, tight, plain_word, value_pieces}
 use Rattle.spell.specs.Vocabulary.{listed}
-use Rattle.letters.specs.Wrote.{Wrote, spread, maybe_words}
-use Rattle.letters.proofs.WroteLaws.{wrote_as, wrote_then}
+use Rattle.letters.specs.Wrote.{spread, maybe_words}
+use Rattle.letters.specs.declared.Sheet.{Sheet}
+use Rattle.letters.specs.Puts.{Puts}
+use Rattle.letters.proofs.PutsLaws.{puts_as, puts_then}
 
 -- A plain value's word, by three tests.
 module _ (t w : ℕ) where
@@ -41,15 +43,13 @@ module _ (t w : ℕ) where
   plain_unit e f = plain_by_lem (ne_eqb t 3 e) (ne_eqb t 2 f) refl
 
 -- Some, none.
-pub some_is : {s s₁ s₂ s₃ : Bytes} {a b c d : ℕ} (t w : ℕ) (present : Bool) → present ≡ true → Wrote s a (listed 40) s₁ b → Wrote s₁ b (32 ∷ []) s₂ c → Wrote s₂ c (plain_word t w) s₃ d
-    → Wrote s a (maybe_words t present w) s₃ d
+pub some_is : {s s₁ s₂ s₃ : Sheet} (t w : ℕ) (present : Bool) → present ≡ true → Puts s (listed 40) s₁ → Puts s₁ (32 ∷ []) s₂ → Puts s₂ (plain_word t w) s₃ → Puts s (maybe_words t present w) s₃
 unfolding maybe_words listed
-some_is t w present e x y z = wrote_as (simp (mathlib.Core.List.append_assoc, e)) (wrote_then (wrote_then x y) z)
+some_is t w present e x y z = puts_as (simp (mathlib.Core.List.append_assoc, e)) (puts_then (puts_then x y) z)
 
-pub none_is : {s s₁ s₂ s₃ : Bytes} {a b c d : ℕ} (t w : ℕ) (present : Bool) → present ≡ false → Wrote s a (listed 41) s₁ b → Wrote s₁ b (32 ∷ []) s₂ c → Wrote s₂ c (type_word t) s₃ d
-    → Wrote s a (maybe_words t present w) s₃ d
+pub none_is : {s s₁ s₂ s₃ : Sheet} (t w : ℕ) (present : Bool) → present ≡ false → Puts s (listed 41) s₁ → Puts s₁ (32 ∷ []) s₂ → Puts s₂ (type_word t) s₃ → Puts s (maybe_words t present w) s₃
 unfolding maybe_words listed
-none_is t w present e x y z = wrote_as (simp (mathlib.Core.List.append_assoc, e)) (wrote_then (wrote_then x y) z)
+none_is t w present e x y z = puts_as (simp (mathlib.Core.List.append_assoc, e)) (puts_then (puts_then x y) z)
 
 -- The pieces of a value.
 none_after : (l : Bytes) → l ++ [] ≡ l
@@ -81,10 +81,10 @@ module _ (t b w : ℕ) where
   maybe_pieces e true f = (simp mathlib.Core.List.append_assoc) ∙ value_by_lem e f
   maybe_pieces e false f = (simp mathlib.Core.List.append_assoc) ∙ value_by_lem e f
 
-pub plain_value : {s s₁ s₂ : Bytes} {a b c : ℕ} (t m w : ℕ) → is_plain t ≡ true → Wrote s a (32 ∷ []) s₁ b → Wrote s₁ b (plain_word t w) s₂ c → Wrote s a (spread (value_pieces t m w)) s₂ c
-plain_value t m w e x y = wrote_as (plain_pieces t m w e) (wrote_then x y)
+pub plain_value : {s s₁ s₂ : Sheet} (t m w : ℕ) → is_plain t ≡ true → Puts s (32 ∷ []) s₁ → Puts s₁ (plain_word t w) s₂ → Puts s (spread (value_pieces t m w)) s₂
+plain_value t m w e x y = puts_as (plain_pieces t m w e) (puts_then x y)
 
-pub maybe_value : {s s₁ s₂ s₃ s₄ : Bytes} {a b c d f : ℕ} (t m w u : ℕ) (present : Bool) → is_plain t ≡ false → u ≡ t - 4 → present ≡ eqb m 1 → Wrote s a (32 ∷ []) s₁ b → Wrote s₁ b (40 ∷ []) s₂ c
-    → Wrote s₂ c (maybe_words u present w) s₃ d → Wrote s₃ d (41 ∷ []) s₄ f → Wrote s a (spread (value_pieces t m w)) s₄ f
+pub maybe_value : {s s₁ s₂ s₃ s₄ : Sheet} (t m w u : ℕ) (present : Bool) → is_plain t ≡ false → u ≡ t - 4 → present ≡ eqb m 1 → Puts s (32 ∷ []) s₁ → Puts s₁ (40 ∷ []) s₂
+    → Puts s₂ (maybe_words u present w) s₃ → Puts s₃ (41 ∷ []) s₄ → Puts s (spread (value_pieces t m w)) s₄
 maybe_value t m w u present e i p x y z v =
-    wrote_as ((λ j. 32 ∷ 40 ∷ (maybe_words (i j) (p j) w ++ (41 ∷ []))) ∙ maybe_pieces t m w e (eqb m 1) refl) (wrote_then x (wrote_then y (wrote_then z v)))
+    puts_as ((λ j. 32 ∷ 40 ∷ (maybe_words (i j) (p j) w ++ (41 ∷ []))) ∙ maybe_pieces t m w e (eqb m 1) refl) (puts_then x (puts_then y (puts_then z v)))

@@ -70,7 +70,7 @@ spread_one x = ap (λ (l : Bytes). x.before ++ l) (none_after x.word)
     none_after [] = refl
     none_after (y ∷ l) = ap (λ (m : Bytes). y ∷ m) (none_after l)
 
--- A list whole, and so many equal elements.
+-- A list whole, and one more of equal elements.
 pub whole : {s s' : Bytes} {a r : ℕ} (w : Bytes) (i : ℕ) → length w ≤ i → Wrote s a (take i w) s' r → Wrote s a w s' r
 whole w i h v = wrote_as (take_all w i h) v
   where
@@ -82,6 +82,3 @@ whole w i h v = wrote_as (take_all w i h) v
 
 pub one_space : {s s₁ s₂ : Bytes} {a b c : ℕ} (i x : ℕ) → Wrote s a (replicate i x) s₁ b → Wrote s₁ b (x ∷ []) s₂ c → Wrote s a (replicate (i + 1) x) s₂ c
 one_space i x v u = wrote_as (replicate_end i x ∙ ap (λ (k : ℕ). replicate k x) (let z : suc i ≡ i + 1 = omega arith in z)) (wrote_then v u)
-
-pub as_many : {s s' : Bytes} {a r : ℕ} (i n x : ℕ) → i ≡ n → Wrote s a (replicate i x) s' r → Wrote s a (replicate n x) s' r
-as_many i n x e v = wrote_as (ap (λ (k : ℕ). replicate k x) e) v

@@ -1,5 +1,5 @@
-// The letters of a printed text: bytes, words, names, numbers and values, put into a room from a place on. What does not fit the room is counted
-// and not written.
+// The letters of a printed text: bytes, words, names, numbers and values, put on a sheet, which is a room and the place of its next byte. What does
+// not fit the room is counted and not written.
 #![tactic(auto)]
 
 ghost use Rattle.std.specs.Prelude.{◌≡◌, [], ◌∷◌, ◌<◌, ◌+◌, ◌-◌, ◌*◌, min, replicate};
@@ -8,21 +8,53 @@ ghost use Rattle.texts.specs.Numerals.{digits_f, decimal, signed_decimal};
 ghost use Rattle.texts.specs.Printer.{plain_word, value_pieces};
 ghost use Rattle.spell.specs.Vocabulary.{listed};
 ghost use Rattle.letters.specs.Wrote.{Wrote, spread, maybe_words};
+ghost use Rattle.letters.specs.Puts.{Puts};
 
 use kinds::both;
+use rules::{BOOL, INT};
 use spell::{letter, size};
 
 // No text is longer (crate retold has the theorem): a place counts no further.
 const LONGEST: usize = 107868;
 
-const SPACE: u8 = 32;
+// The rows of the words (crate spell): types from one row on, and what stands in values.
+const TYPES: usize = 30;
 
-const OPEN: u8 = 40;
+const UNIT: usize = 31;
 
-const CLOSE: u8 = 41;
+const TRUE: usize = 38;
 
-// A byte, if the room has the place; and the next place.
-pub fn put(room: &mut [u8], at: usize, b: u8) -> usize
+const FALSE: usize = 39;
+
+const SOME: usize = 40;
+
+const NONE: usize = 41;
+
+// A room that a text is put into, and the place of its next byte.
+#[derive(Drop)]
+pub struct Sheet<'a> {
+    pub room: &'a mut [u8],
+    pub at: usize,
+}
+
+// How far in a line of a depth begins.
+fn margin(depth: usize) -> usize
+    ensures { result ≡ 2 * min depth 40 }
+{
+    2 * depth.min(40)
+}
+
+// A digit.
+fn digit(n: usize) -> u8
+    requires { n < 10 }
+    ensures { result ≡ 48 + n }
+{
+    b'0' + n as u8
+}
+
+// A byte, if the room has the place; and the next place. (What is put byte by byte keeps the place out of memory: a Sheet's own would be read and
+// written back for each.)
+fn put_byte(room: &mut [u8], at: usize, b: u8) -> usize
     ensures { Wrote room.old at (b ∷ []) room.new result }
 {
     if at >= LONGEST {
@@ -36,155 +68,147 @@ pub fn put(room: &mut [u8], at: usize, b: u8) -> usize
 }
 
 // A word of the form, by its row.
-pub fn put_word(room: &mut [u8], at: usize, row: usize) -> usize
+fn put_word(room: &mut [u8], at: usize, row: usize) -> usize
     requires { row < 44 }
     ensures { Wrote room.old at (listed row) room.new result }
 {
-    let n = size(row);
     let mut to = at;
-    let mut i: usize = 0;
-    while i < n {
-        to = put(room, to, letter(row, i + 1));
-        i += 1;
+    for i in 0..size(row) {
+        to = put_byte(room, to, letter(row, i + 1));
     }
     to
 }
 
 // So many spaces.
-fn spaces(room: &mut [u8], at: usize, count: usize) -> usize
+fn put_spaces(room: &mut [u8], at: usize, count: usize) -> usize
     ensures { Wrote room.old at (replicate count 32) room.new result }
 {
     let mut to = at;
-    let mut i: usize = 0;
-    while i < count {
-        to = put(room, to, SPACE);
-        i += 1;
+    for _ in 0..count {
+        to = put_byte(room, to, b' ');
     }
     to
 }
 
-// How far in a line of a depth begins.
-fn margin(depth: usize) -> usize
-    ensures { result ≡ 2 * min depth 40 }
-{
-    if depth < 40 { 2 * depth } else { 80 }
-}
-
-// A new line, so far in.
-pub fn line(room: &mut [u8], at: usize, depth: usize) -> usize
-    ensures { Wrote room.old at (10 ∷ replicate (2 * min depth 40) 32) room.new result }
-{
-    let to = put(room, at, 10);
-    spaces(room, to, margin(depth))
-}
-
-// A digit.
-fn digit(n: usize) -> u8
-    requires { n < 10 }
-    ensures { result ≡ 48 + n }
-{
-    48 + n as u8
-}
-
-// A number's digits, at most so many.
-fn digits(room: &mut [u8], at: usize, n: usize, most: usize) -> usize
-    ensures { Wrote room.old at (digits_f most n []) room.new result }
-{
-    if most == 0 {
-        return at;
+impl Sheet<'_> {
+    // A byte, if the room has the place.
+    pub fn put(&mut self, b: u8)
+        ensures { Puts self.old (b ∷ []) self.new }
+    {
+        self.at = put_byte(self.room, self.at, b);
     }
-    if n < 10 {
-        return put(room, at, digit(n));
+
+    // A word of the form, by its row.
+    pub fn word(&mut self, row: usize)
+        requires { row < 44 }
+        ensures { Puts self.old (listed row) self.new }
+    {
+        self.at = put_word(self.room, self.at, row);
     }
-    let to = digits(room, at, n / 10, most - 1);
-    put(room, to, digit(n % 10))
-}
 
-// A number behind a space.
-pub fn number(room: &mut [u8], at: usize, n: usize) -> usize
-    ensures { Wrote room.old at (32 ∷ decimal n) room.new result }
-{
-    let to = put(room, at, SPACE);
-    digits(room, to, n, 10)
-}
-
-// A name behind a space: a letter and a number.
-pub fn name(room: &mut [u8], at: usize, first: u8, n: usize) -> usize
-    ensures { Wrote room.old at (32 ∷ first ∷ decimal n) room.new result }
-{
-    let to = put(room, at, SPACE);
-    let from = put(room, to, first);
-    digits(room, from, n, 10)
-}
-
-// An integer: a word of 32 bits, in two's complement.
-fn integer(room: &mut [u8], at: usize, w: u32) -> usize
-    ensures { Wrote room.old at (signed_decimal w) room.new result }
-{
-    let n = w as usize;
-    if n < 2147483648 {
-        return digits(room, at, n, 10);
+    // So many spaces.
+    fn spaces(&mut self, count: usize)
+        ensures { Puts self.old (replicate count 32) self.new }
+    {
+        self.at = put_spaces(self.room, self.at, count);
     }
-    let to = put(room, at, b'-');
-    digits(room, to, 4294967296 - n, 10)
-}
 
-// A plain value's word.
-fn plain(room: &mut [u8], at: usize, t: u8, w: u32) -> usize
-    ensures { Wrote room.old at (plain_word t w) room.new result }
-{
-    if t == 3 {
-        return integer(room, at, w);
+    // A new line, so far in.
+    pub fn line(&mut self, depth: usize)
+        ensures { Puts self.old (10 ∷ replicate (2 * min depth 40) 32) self.new }
+    {
+        self.put(b'\n');
+        self.spaces(margin(depth));
     }
-    if t == 2 {
-        if w == 1 {
-            return put_word(room, at, 38);
+
+    // A number's digits, at most so many.
+    fn digits(&mut self, n: usize, most: usize)
+        ensures { Puts self.old (digits_f most n []) self.new }
+    {
+        if most == 0 {
+            return;
         }
-        return put_word(room, at, 39);
+        if n < 10 {
+            return self.put(digit(n));
+        }
+        self.digits(n / 10, most - 1);
+        self.put(digit(n % 10));
     }
-    put_word(room, at, 31)
-}
 
-// A type's word.
-pub fn type_word(room: &mut [u8], at: usize, t: u8) -> usize
-    ensures { Wrote room.old at (type_word t) room.new result }
-{
-    if t < 8 {
-        return put_word(room, at, t as usize + 30);
+    // A number behind a space.
+    pub fn number(&mut self, n: usize)
+        ensures { Puts self.old (32 ∷ decimal n) self.new }
+    {
+        self.put(b' ');
+        self.digits(n, 10);
     }
-    at
-}
 
-// The type that a maybe type is of.
-fn inner(t: u8) -> u8
-    ensures { result ≡ t - 4 }
-{
-    if t < 4 { 0 } else { t - 4 }
-}
-
-// A value that is there, or none, in parentheses, behind the first of them.
-fn maybe(room: &mut [u8], at: usize, t: u8, present: bool, w: u32) -> usize
-    ensures { Wrote room.old at (maybe_words t present w) room.new result }
-{
-    if present {
-        let to = put_word(room, at, 40);
-        let from = put(room, to, SPACE);
-        return plain(room, from, t, w);
+    // A name behind a space: a letter, and the number of a node.
+    pub fn name(&mut self, first: u8, node: usize)
+        ensures { Puts self.old (32 ∷ first ∷ decimal node) self.new }
+    {
+        self.put(b' ');
+        self.put(first);
+        self.digits(node, 10);
     }
-    let to = put_word(room, at, 41);
-    let from = put(room, to, SPACE);
-    type_word(room, from, t)
-}
 
-// A value, behind a space.
-pub fn value(room: &mut [u8], at: usize, t: u8, present: usize, w: u32) -> usize
-    ensures { Wrote room.old at (spread (value_pieces t present w)) room.new result }
-{
-    let to = put(room, at, SPACE);
-    if both(1 <= t, t <= 3) {
-        return plain(room, to, t, w);
+    // An integer: a word of 32 bits, in two's complement.
+    fn integer(&mut self, w: u32)
+        ensures { Puts self.old (signed_decimal w) self.new }
+    {
+        let n = w as usize;
+        if n < 2147483648 {
+            return self.digits(n, 10);
+        }
+        self.put(b'-');
+        self.digits(4294967296 - n, 10);
     }
-    let from = put(room, to, OPEN);
-    let end = maybe(room, from, inner(t), present == 1, w);
-    put(room, end, CLOSE)
+
+    // A plain value's word.
+    fn plain(&mut self, t: u8, w: u32)
+        ensures { Puts self.old (plain_word t w) self.new }
+    {
+        match t {
+            INT => self.integer(w),
+            BOOL if w == 1 => self.word(TRUE),
+            BOOL => self.word(FALSE),
+            _ => self.word(UNIT),
+        }
+    }
+
+    // A type's word.
+    pub fn type_word(&mut self, t: u8)
+        ensures { Puts self.old (type_word t) self.new }
+    {
+        if t < 8 {
+            self.word(t as usize + TYPES);
+        }
+    }
+
+    // A value that is there, or none, in parentheses, behind the first of them.
+    fn maybe(&mut self, t: u8, present: bool, w: u32)
+        ensures { Puts self.old (maybe_words t present w) self.new }
+    {
+        if present {
+            self.word(SOME);
+            self.put(b' ');
+            return self.plain(t, w);
+        }
+        self.word(NONE);
+        self.put(b' ');
+        self.type_word(t);
+    }
+
+    // A value, behind a space.
+    pub fn value(&mut self, t: u8, present: usize, w: u32)
+        ensures { Puts self.old (spread (value_pieces t present w)) self.new }
+    {
+        self.put(b' ');
+        if both(1 <= t, t <= 3) {
+            return self.plain(t, w);
+        }
+        self.put(b'(');
+        self.maybe(t.saturating_sub(4), present == 1, w);
+        self.put(b')');
+    }
 }

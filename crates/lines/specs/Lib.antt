@@ -1,3 +1,4 @@
 pub mod Print
 pub mod Channels
 pub mod Shown
+pub mod Pen

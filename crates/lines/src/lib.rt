@@ -3,6 +3,7 @@
 
 mod line;
 mod named;
+mod pen;
 mod shown;
 mod wording;
 

@@ -1,5 +1,7 @@
 -- The call's parts, from what the code found: codes 9, 15 and 16, and the state brought back.
 -- Assumes nothing.
+use Rattle.rules.specs.Verdicts.{Verdict}
+use Rattle.std.specs.Prelude.{Result, Ok, Err}
 use mathlib.Core.Path.{◌≡◌, refl, sym, ap, ◌∙◌}
 use mathlib.Core.Bool.{not}
 use mathlib.Core.List.{List}
@@ -15,13 +17,11 @@ use Rattle.rules.specs.Accepted.{Accepted}
 use Rattle.rules.specs.Calls.{refuse_if}
 use Rattle.rules.specs.declared.Refusal.{Refusal}
 use Rattle.rules.specs.declared.Refusal.TheVariants.{OtherProgram}
-use Rattle.rules.specs.declared.Verdict.{Verdict}
-use Rattle.rules.specs.declared.Verdict.TheVariants.{Refuse}
 use Rattle.cells.proofs.Numbered.{cells_most}
 use Rattle.promises.specs.Small.{Small}
 use Rattle.promises.proofs.FromTable.{seated}
-use Rattle.mends.specs.declared.Mended.{Mended}
-use Rattle.mends.specs.declared.Mended.TheVariants.{Listed, ListLength}
+use Rattle.mends.specs.declared.Unmended.{Unmended}
+use Rattle.mends.specs.declared.Unmended.TheVariants.{ListLength}
 use Rattle.mends.specs.Mend.{mended}
 use Rattle.mends.specs.Changes.{changed_below, changes}
 use Rattle.mends.specs.MendCall.{MendOutcome, known_verdict, mend_known, mend_outcome}
@@ -44,7 +44,7 @@ pub by_sum : (p st : Bytes) {x y : ℕ} {r : Verdict} → length st ≡ state_le
 by_sum p st l h e f s = s ∙ (λ i. refuse_if (not (sum_known p st h e f i)) OtherProgram) ∙ sym (right_length p st l)
 
 -- What a call leaves, by its outcome.
-leaves : {o : MendOutcome} {answer : Mended} {st : Bytes} {list : List ℕ} → o ≡ record { answer = answer; state = st; list = list }
+leaves : {o : MendOutcome} {answer : Result ℕ Unmended} {st : Bytes} {list : List ℕ} → o ≡ record { answer = answer; state = st; list = list }
     → Leaves o answer st list
 leaves e = record {
   answer_is = sym (ap (λ (o : MendOutcome). o.answer) e);
@@ -52,19 +52,19 @@ leaves e = record {
   list_is = sym (ap (λ (o : MendOutcome). o.list) e);
 }
 
-pub leaves_state : (p st : Bytes) (room : List ℕ) (v : Verdict) {r : Refusal} → v ≡ Refuse r → Leaves (mend_outcome p st room v) (Mended.Refused r) st room
+pub leaves_state : (p st : Bytes) (room : List ℕ) (v : Verdict) {r : Refusal} → v ≡ Err r → Leaves (mend_outcome p st room v) (Err (Unmended.Refused r)) st room
 leaves_state p st room v e = leaves (state_refused p st room e)
 
 -- Code 16, and the state brought back.
 pub leaves_room : (p st : Bytes) (room : List ℕ) (held : ℕ) → held ≡ cells p → (length room ≡ held + 1 → ⊥)
-    → Leaves (mend_known p st room) ListLength st room
+    → Leaves (mend_known p st room) (Err ListLength) st room
 leaves_room p st room held e d = leaves (wrong_room p st room (λ z. d (omega (arith, z, e))))
 
 pub leaves_brought : (p st : Bytes) (room : List ℕ) (held n : ℕ) (st₁ : Bytes) (list : List ℕ) → held ≡ cells p → length room ≡ held + 1
     → n ≡ length (changes p st (mended p st)) → st₁ ≡ mended p st → list ≡ write_at room 0 (changes p st (mended p st))
-    → Leaves (mend_known p st room) (Listed n) st₁ list
+    → Leaves (mend_known p st room) (Ok n) st₁ list
 leaves_brought p st room held n st₁ list e l a b c =
-    leaves (right_room p st room (omega (arith, l, e)) ∙ (λ i. record { answer = Listed (sym a i); state = sym b i; list = sym c i }))
+    leaves (right_room p st room (omega (arith, l, e)) ∙ (λ i. record { answer = Ok (sym a i); state = sym b i; list = sym c i }))
 
 -- The lengths: of a state, of its cells and of what is listed.
 pub few_held : (p : Bytes) (held : ℕ) → Shaped p → held ≡ cells p → held ≤ 1008

@@ -84,19 +84,17 @@ module _ (st st₁ : Bytes) where
       ap (changed_from st st₁ 0) (let e : k + 1 ≡ suc k = omega arith in e) ∙ from_more k 0
       ∙ ap (λ (j : ℕ). changed_from st st₁ 0 k ++ entry_if (not (eqb (cell st₁ j) (cell st j))) j) (let e : 0 + k ≡ k = omega arith in e)
 
-  -- A step of the loop, with left cells to come: the room and the count with one cell more.
-  pub cell_added : (room list : List ℕ) (from found held left : ℕ) {a b : ℕ} → 0 < left → left ≤ held
-      → found ≡ from + length (changed_from st st₁ 0 (held - left)) → list ≡ write_at room from (changed_from st st₁ 0 (held - left))
-      → a ≡ cell st₁ (held - left) → b ≡ cell st (held - left)
-      → (found + length (entry_if (not (eqb a b)) (held - left)) ≡ from + length (changed_from st st₁ 0 (held - (left - 1))))
-      × (write_at list found (entry_if (not (eqb a b)) (held - left)) ≡ write_at room from (changed_from st st₁ 0 (held - (left - 1))))
-  cell_added room list from found held left {a} {b} some most e f g h =
-      let k : ℕ = held - left in
-      let next : k + 1 ≡ held - (left - 1) = omega arith in
+  -- A step of the loop: the room and the count with one cell more.
+  pub cell_added : (room list : List ℕ) (from found k : ℕ) {a b : ℕ}
+      → found ≡ from + length (changed_from st st₁ 0 k) → list ≡ write_at room from (changed_from st st₁ 0 k)
+      → a ≡ cell st₁ k → b ≡ cell st k
+      → (found + length (entry_if (not (eqb a b)) k) ≡ from + length (changed_from st st₁ 0 (k + 1)))
+      × (write_at list found (entry_if (not (eqb a b)) k) ≡ write_at room from (changed_from st st₁ 0 (k + 1)))
+  cell_added room list from found k {a} {b} e f g h =
       let xs : List ℕ = changed_from st st₁ 0 k in
       let ys : List ℕ = entry_if (not (eqb (cell st₁ k) (cell st k))) k in
       let same : entry_if (not (eqb a b)) k ≡ ys = λ i. entry_if (not (eqb (g i) (h i))) k in
-      let more : changed_from st st₁ 0 (held - (left - 1)) ≡ xs ++ ys = ap (changed_from st st₁ 0) (sym next) ∙ one_more k in (
+      let more : changed_from st st₁ 0 (k + 1) ≡ xs ++ ys = one_more k in (
         omega (arith, ap length same, ap length more, length-append xs ys, e),
         (λ i. write_at (f i) (e i) (same i)) ∙ sym (write_more xs ys room from) ∙ ap (write_at room from) (sym more),
       )
@@ -149,10 +147,10 @@ module _ (st room : Bytes) (w : StandsIn st room) where
       (λ i. (if eqb (last_time q) (time_there (header count l) i) then [] else no_next ∷ []) ++ from_there q count count 0 (omega arith) l i)
 
 -- The loop over the cells: it begins with none, its places fit, and an entry has its place in the room.
-pub none_yet : (st st₁ : Bytes) (room : List ℕ) (from held : ℕ)
-    → (from ≡ from + length (changed_from st st₁ 0 (held - held))) × (room ≡ write_at room from (changed_from st st₁ 0 (held - held)))
+pub none_yet : (st st₁ : Bytes) (room : List ℕ) (from : ℕ)
+    → (from ≡ from + length (changed_from st st₁ 0 0)) × (room ≡ write_at room from (changed_from st st₁ 0 0))
 unfolding changed_from write_at
-none_yet st st₁ room from held = let e : held - held ≡ 0 = omega arith in rw e (omega arith, refl)
+none_yet st st₁ room from = (omega arith, refl)
 
 pub cell_fits : (held k size : ℕ) → k < held → cell_at held ≤ size → cell_at k + 8 ≤ size
 unfolding cell_at
@@ -162,15 +160,14 @@ pub few_cells : (held size : ℕ) → cell_at held ≤ size → size ≤ 8072 �
 unfolding cell_at
 few_cells held size h l = omega arith
 
-pub entry_fits : (st st₁ : Bytes) (held left from found size : ℕ) → 0 < left → left ≤ held → from + held ≤ size
-    → found ≡ from + length (changed_from st st₁ 0 (held - left)) → found < size
-entry_fits st st₁ held left from found size some most l e = omega (arith, few st st₁ (held - left) 0)
+pub entry_fits : (st st₁ : Bytes) (held k from found size : ℕ) → k < held → from + held ≤ size
+    → found ≡ from + length (changed_from st st₁ 0 k) → found < size
+entry_fits st st₁ held k from found size h l e = omega (arith, few st st₁ k 0)
 
-pub loop_ends : (st st₁ : Bytes) (room list : List ℕ) (from found held left : ℕ) → left ≤ 0
-    → found ≡ from + length (changed_from st st₁ 0 (held - left)) → list ≡ write_at room from (changed_from st st₁ 0 (held - left))
+pub loop_ends : (st st₁ : Bytes) (room list : List ℕ) (from found held k : ℕ) → k ≡ held
+    → found ≡ from + length (changed_from st st₁ 0 k) → list ≡ write_at room from (changed_from st st₁ 0 k)
     → (found ≡ from + length (changed_from st st₁ 0 held)) × (list ≡ write_at room from (changed_from st st₁ 0 held))
-loop_ends st st₁ room list from found held left h e f =
-    let z : held - left ≡ held = omega arith in
+loop_ends st st₁ room list from found held k z e f =
     (e ∙ ap (λ (j : ℕ). from + length (changed_from st st₁ 0 j)) z, f ∙ ap (λ (j : ℕ). write_at room from (changed_from st st₁ 0 j)) z)
 
 -- The places of the whole list.

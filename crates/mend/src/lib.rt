@@ -16,8 +16,8 @@ ghost use Rattle.mend.specs.Kept.{StandsIn, entry_if, Leaves};
 use answers::refuse_if;
 use cells::{cell, cell_at, index_cells, last_time};
 use mending::bring_back;
-use mends::Mended;
-use rules::{Refusal, Verdict};
+use mends::Unmended;
+use rules::Refusal;
 use stamp::{checks_of, sum_in};
 use verdict::judge;
 
@@ -26,11 +26,7 @@ fn keep(room: &mut [u8], st: &[u8])
     requires { length st.now ≤ length room.old }
     ensures { StandsIn st.now room.new }
 {
-    let mut k: usize = 0;
-    while k < st.len() {
-        room[k] = st[k];
-        k += 1;
-    }
+    room[..st.len()].copy_from_slice(st);
 }
 
 // An entry stored at a place of the list where something changed; the answer is the place behind it.
@@ -51,12 +47,9 @@ fn list_cells(old: &[u8; 8072], st: &[u8], list: &mut [u16], held: usize, from: 
     ensures { (result ≡ from + length (changed_from old.now st.now 0 held)) × (list.new ≡ write_at list.old from (changed_from old.now st.now 0 held)) }
 {
     let mut found = from;
-    let mut left = held;
-    while left > 0 {
-        let k = held - left;
+    for k in 0..held {
         let changed = cell(st, k) != cell(old, k);
         found = add_entry(list, found, changed, k as u16);
-        left -= 1;
     }
     found
 }
@@ -96,51 +89,44 @@ fn mend_known(
     list: &mut [u16],
     count: usize,
     held: usize,
-) -> Mended
+) -> Result<u32, Unmended>
     requires { NodeOf is_signal p.now (nodes p.now - 1) × Indexed p.now index.now × (count ≡ nodes p.now) × (held ≡ cells_of p.now) × (length st.old ≡ state_length p.now) }
     ensures { Leaves (mend_known p.now st.old list.old) result st.new list.new }
 {
     if list.len() != held + 1 {
-        return Mended::ListLength;
+        return Err(Unmended::ListLength);
     }
     let listed = mend_listed(p, index, st, list, count, held);
-    Mended::Listed(listed as u32)
+    Ok(listed as u32)
 }
 
 // Codes 9 and 15: the length of a state, and the sum that it carries.
-fn known_verdict(p: &[u8], st: &[u8], held: usize) -> Verdict
+fn known_verdict(p: &[u8], st: &[u8], held: usize) -> Result<(), Refusal>
     requires { Shaped p.now × (held ≡ cells_of p.now) × (checks_of p.now < 4294967296) }
     ensures { result ≡ known_verdict p.now st.now }
 {
     if st.len() != cell_at(held) {
-        return Verdict::Refuse(Refusal::StateFault);
+        return Err(Refusal::StateFault);
     }
     refuse_if(sum_in(st) != checks_of(p), Refusal::OtherProgram)
 }
 
 // A state of an accepted program.
-fn mend_accepted(p: &[u8], st: &mut [u8], list: &mut [u16], count: usize) -> Mended
+fn mend_accepted(p: &[u8], st: &mut [u8], list: &mut [u16], count: usize) -> Result<u32, Unmended>
     requires { Accepted p.now × (count ≡ nodes p.now) }
     ensures { Leaves (mend_outcome p.now st.old list.old (known_verdict p.now st.old)) result st.new list.new }
 {
     let mut index: [u16; 10080] = [0; 10080];
     let held = index_cells(p, &mut index, count);
-    let fault = known_verdict(p, st, held);
-    match fault {
-        Verdict::Refuse(r) => Mended::Refused(r),
-        Verdict::Fine => mend_known(p, &index, st, list, count, held),
-    }
+    known_verdict(p, st, held)?;
+    mend_known(p, &index, st, list, count, held)
 }
 
 // Bring a state back: what is valid in a current part is kept, all else put to start; the list says what changed, 65535 for the time and then
 // the cells, rising, and the room after it is left. A refusal leaves state and list as before.
-pub fn mend(program: &[u8], state: &mut [u8], list: &mut [u16]) -> Mended
+pub fn mend(program: &[u8], state: &mut [u8], list: &mut [u16]) -> Result<u32, Unmended>
     ensures { (result ≡ (mend_call program.now state.old list.old).answer) × (state.new ≡ (mend_call program.now state.old list.old).state) × (list.new ≡ (mend_call program.now state.old list.old).list) }
 {
-    let found = judge(program);
-    let fault = found.verdict;
-    match fault {
-        Verdict::Refuse(r) => Mended::Refused(r),
-        Verdict::Fine => mend_accepted(program, state, list, found.count),
-    }
+    let found = judge(program)?;
+    mend_accepted(program, state, list, found.count)
 }

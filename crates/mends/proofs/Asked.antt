@@ -1,5 +1,8 @@
 -- The call beside the check of the same program; and any two calls that keep the promise are one.
 -- Assumes nothing.
+use Rattle.std.specs.Prelude.{Ok, Err}
+use Rattle.rules.proofs.Same.{same_accepted}
+use Rattle.rules.specs.Verdicts.{Verdict, accepted_with}
 use mathlib.Core.Path.{◌≡◌, refl, sym, ap, ◌∙◌}
 use mathlib.Core.List.{List}
 use Prim.Native.Nat.{ℕ, suc}
@@ -7,9 +10,6 @@ use Rattle.rules.specs.Bytes.{Bytes}
 use Rattle.rules.specs.Layout.{cells}
 use Rattle.rules.specs.Calls.{program_verdict, check_answer, check_call}
 use Rattle.rules.specs.declared.Refusal.{Refusal}
-use Rattle.rules.specs.declared.Verdict.{Verdict}
-use Rattle.rules.specs.declared.Verdict.TheVariants.{Fine, Refuse}
-use Rattle.rules.specs.declared.Checked.{Checked}
 use Rattle.promises.specs.Small.{Small}
 use Rattle.mends.specs.MendCall.{MendOutcome}
 use Rattle.mends.specs.Mends.{AsAsked, Mending}
@@ -21,21 +21,21 @@ pub one_mend : {f g : Bytes → Bytes → List ℕ → MendOutcome} → Mending 
 one_mend a b p st room = a.as_ruled p st room ∙ sym (b.as_ruled p st room)
 
 -- What check answers is its verdict, and its cells.
-refused_verdict : (p : Bytes) (r : Refusal) → check_call p ≡ Checked.Refused r → program_verdict p ≡ Refuse r
+refused_verdict : (p : Bytes) (r : Refusal) → check_call p ≡ Err r → program_verdict p ≡ Err r
 unfolding check_call check_answer
 refused_verdict p r e = go (program_verdict p) e
   where
-    go : (v : Verdict) → check_answer p v ≡ Checked.Refused r → v ≡ Refuse r
-    go Fine e = cc
-    go (Refuse q) e = cc
+    go : (v : Verdict) → check_answer p v ≡ Err r → v ≡ Err r
+    go (Ok _) e = cc
+    go (Err q) e = cc
 
-fine_verdict : (p : Bytes) (count held most type : ℕ) → check_call p ≡ Checked.Accepted count held most type → (program_verdict p ≡ Fine) × (held ≡ cells p)
+fine_verdict : (p : Bytes) (count held most type : ℕ) → check_call p ≡ accepted_with count held most type → (program_verdict p ≡ Ok tt) × (held ≡ cells p)
 unfolding check_call check_answer
 fine_verdict p count held most type e = go (program_verdict p) e
   where
-    go : (v : Verdict) → check_answer p v ≡ Checked.Accepted count held most type → (v ≡ Fine) × (held ≡ cells p)
-    go Fine e = (refl, cc)
-    go (Refuse q) e = (cc, cc)
+    go : (v : Verdict) → check_answer p v ≡ accepted_with count held most type → (v ≡ Ok tt) × (held ≡ cells p)
+    go (Ok _) e = (refl, sym (same_accepted e).1)
+    go (Err q) e = (cc, cc)
 
 -- The call, for every program, state and room of numbers that are bytes.
 pub as_asked : (p st : Bytes) (room : List ℕ) → Small p → Small st → AsAsked p st room

@@ -1,6 +1,7 @@
 -- A state of an accepted program, of the right length and sum, is brought back.
 -- Assumes nothing.
-use Rattle.std.specs.Prelude.{if◌then◌else◌}
+use Rattle.rules.specs.Verdicts.{accepted_with}
+use Rattle.std.specs.Prelude.{if◌then◌else◌, Ok}
 use mathlib.Core.Path.{◌≡◌, refl, sym, ap, subst, ◌∙◌}
 use mathlib.Core.Bool.{Bool, true, false}
 use mathlib.Core.List.{List, [], ◌∷◌}
@@ -15,8 +16,6 @@ use Rattle.rules.specs.Tree.{Signal, root}
 use Rattle.rules.specs.WellFormed.{well_formed, well_s, last_moment}
 use Rattle.rules.specs.Accepted.{Accepted}
 use Rattle.rules.specs.Calls.{program_verdict, check_call, run_call}
-use Rattle.rules.specs.declared.Verdict.TheVariants.{Fine}
-use Rattle.rules.specs.declared.Checked.{Checked}
 use Rattle.rules.proofs.Static.{or_left}
 use Rattle.rules.proofs.Counting.{one}
 use Rattle.rules.proofs.Rooted.{some_node}
@@ -32,7 +31,6 @@ use Rattle.promises.proofs.Steps.{Well, well_parts, parts_well}
 use Rattle.promises.proofs.FromTable.{seated}
 use Rattle.mission.specs.Mission.{Finishes}
 use Rattle.mission.proofs.Demands.{run_demands}
-use Rattle.mends.specs.declared.Mended.TheVariants.{Listed}
 use Rattle.mends.specs.Mend.{mend_s, time_fits, mend_time, mended}
 use Rattle.mends.specs.Changes.{changed_from, changed_time, changed_below, changes}
 use Rattle.mends.specs.MendCall.{MendOutcome, mend_call}
@@ -155,7 +153,7 @@ same_when_well p st hp a h w =
 
 -- A run of records that follow: demand 3 of a well-formed state.
 run_on : (p st recs out : Bytes) (n : ℕ) (count held most type : ℕ) → Small p → Small st → Small recs → well_formed p st ≡ true
-    → check_call p ≡ Checked.Accepted count held most type → Follow st recs out n
+    → check_call p ≡ accepted_with count held most type → Follow st recs out n
     → Finishes p st recs n (run_call p st recs out).answer (run_call p st recs out).state (run_call p st recs out).output count most type
 run_on p st recs out n count held most type hp hs hr w c f =
     (run_demands p st recs out hp hs hr refl refl refl).finishes count held most type n c (record {
@@ -169,21 +167,21 @@ run_on p st recs out n count held most type hp hs hr w c f =
     })
 
 -- A well-formed state mended: nothing is changed and nothing listed.
-nothing_listed : (p st : Bytes) (room : List ℕ) → Small p → program_verdict p ≡ Fine → Small st → well_formed p st ≡ true → length room ≡ suc (cells p)
-    → mend_call p st room ≡ record { answer = Listed 0; state = st; list = room }
+nothing_listed : (p st : Bytes) (room : List ℕ) → Small p → program_verdict p ≡ Ok tt → Small st → well_formed p st ≡ true → length room ≡ suc (cells p)
+    → mend_call p st room ≡ record { answer = Ok 0; state = st; list = room }
 nothing_listed p st room hp v h w e =
     let r = well_parts p st w in
     let same = same_when_well p st hp (accepted p v) h w in
     let none : changes p st (mended p st) ≡ [] = ap (changes p st) same ∙ nothing_changed p st in
     all_right p st room v r.long r.stamped e
-    ∙ (λ i. record { answer = Listed (length (none i)); state = same i; list = write_at room 0 (none i) })
-    ∙ ap (λ (t : List ℕ). record { answer = Listed 0; state = st; list = t }) (nothing_written room)
+    ∙ (λ i. record { answer = Ok (length (none i)); state = same i; list = write_at room 0 (none i) })
+    ∙ ap (λ (t : List ℕ). record { answer = Ok 0; state = st; list = t }) (nothing_written room)
 
-module _ (p st : Bytes) (room : List ℕ) (hp : Small p) (v : program_verdict p ≡ Fine) (h : Small st) (l : length st ≡ state_length p)
+module _ (p st : Bytes) (room : List ℕ) (hp : Small p) (v : program_verdict p ≡ Ok tt) (h : Small st) (l : length st ≡ state_length p)
     (q : sum_in st ≡ checks_of p) (e : length room ≡ suc (cells p)) where
   outcome : MendOutcome
   outcome =
-      record { answer = Listed (length (changes p st (mended p st))); state = mended p st; list = write_at room 0 (changes p st (mended p st)) }
+      record { answer = Ok (length (changes p st (mended p st))); state = mended p st; list = write_at room 0 (changes p st (mended p st)) }
 
   outcome_brings : BringsBack p st room outcome
   unfolding outcome

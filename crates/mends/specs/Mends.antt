@@ -1,6 +1,7 @@
 -- The theorems' statements, by the sentences of request k: what mending leaves of a state, what it lists, and that the state runs on.
 -- Assumes nothing: these are definitions.
-use Rattle.std.specs.Prelude.{◌≡◌, true, false, List, [], ◌∷◌, ◌⊎◌, ℕ, suc, ◌*◌, ◌≤◌, ◌<◌, length, if◌then◌else◌}
+use Rattle.std.specs.Prelude.{◌≡◌, true, false, List, [], ◌∷◌, ◌⊎◌, ℕ, suc, ◌*◌, ◌≤◌, ◌<◌, length, if◌then◌else◌, Ok, Err}
+use Rattle.rules.specs.Verdicts.{accepted_with}
 use Rattle.rules.specs.Bytes.{Bytes, write_at}
 use Rattle.rules.specs.Layout.{no_next, no_time, cells, cell, last_time, sum_in, checks_of, state_length, input_length, input_at, time_in}
 use Rattle.rules.specs.Tree.{Signal, root}
@@ -8,12 +9,11 @@ use Rattle.rules.specs.WellFormed.{well_formed}
 use Rattle.rules.specs.Calls.{check_call, run_call}
 use Rattle.rules.specs.declared.Refusal.{Refusal}
 use Rattle.rules.specs.declared.Refusal.TheVariants.{StateFault, OtherProgram}
-use Rattle.rules.specs.declared.Checked.{Checked}
 use Rattle.promises.specs.Small.{Small}
 use Rattle.mission.specs.Lent.{WellRecord, NotBack}
 use Rattle.mission.specs.Mission.{Finishes}
-use Rattle.mends.specs.declared.Mended.{Mended}
-use Rattle.mends.specs.declared.Mended.TheVariants.{Listed, ListLength}
+use Rattle.mends.specs.declared.Unmended.{Unmended}
+use Rattle.mends.specs.declared.Unmended.TheVariants.{ListLength}
 use Rattle.mends.specs.Mend.{time_fits}
 use Rattle.mends.specs.MendCall.{MendOutcome, mend_call}
 use Rattle.mends.specs.Parts.{Inside, Current, HasCell, valid_for, start_of, Standing}
@@ -67,15 +67,15 @@ pub record BringsBack (p st : Bytes) (room : List ℕ) (o : MendOutcome) : Type 
   -- "The answer says how many entries were listed; the room after them is left."
   pub list : List ℕ
   pub lists : ListsChanges p st o.state list
-  pub answered : o.answer ≡ Listed (length list)
+  pub answered : o.answer ≡ Ok (length list)
   pub fits : length list ≤ length room
   pub written : o.list ≡ write_at room 0 list
   -- "A well-formed state comes back untouched with an empty list."
   pub untouched : well_formed p st ≡ true → (o.state ≡ st) × (list ≡ [])
   -- Mending twice lists nothing the second time.
-  pub again : (room₁ : List ℕ) → length room₁ ≡ suc (cells p) → mend_call p o.state room₁ ≡ record { answer = Listed 0; state = o.state; list = room₁ }
+  pub again : (room₁ : List ℕ) → length room₁ ≡ suc (cells p) → mend_call p o.state room₁ ≡ record { answer = Ok 0; state = o.state; list = room₁ }
   -- With demand 3: any run of well-formed records whose times do not go back is made whole.
-  pub runs_on : (count held most type : ℕ) → check_call p ≡ Checked.Accepted count held most type → (recs out : Bytes) (n : ℕ) → Small recs
+  pub runs_on : (count held most type : ℕ) → check_call p ≡ accepted_with count held most type → (recs out : Bytes) (n : ℕ) → Small recs
       → Follow o.state recs out n
       → Finishes p o.state recs n (run_call p o.state recs out).answer (run_call p o.state recs out).state
       (run_call p o.state recs out).output count most type
@@ -83,14 +83,14 @@ pub record BringsBack (p st : Bytes) (room : List ℕ) (o : MendOutcome) : Type 
 -- The call beside the check of the same program: "Refusals: 1-8, 9 for a wrong length, 15 for a wrong sum, then 16 if the list's room is not
 -- exactly cells + 1 entries." A refusal writes nothing.
 pub record AsAsked (p st : Bytes) (room : List ℕ) : Type 0 where
-  pub refused : (r : Refusal) → check_call p ≡ Checked.Refused r → mend_call p st room ≡ record { answer = Mended.Refused r; state = st; list = room }
-  pub wrong_length : (count held most type : ℕ) → check_call p ≡ Checked.Accepted count held most type → (length st ≡ state_length p → ⊥)
-      → mend_call p st room ≡ record { answer = Mended.Refused StateFault; state = st; list = room }
-  pub wrong_sum : (count held most type : ℕ) → check_call p ≡ Checked.Accepted count held most type → length st ≡ state_length p
-      → (sum_in st ≡ checks_of p → ⊥) → mend_call p st room ≡ record { answer = Mended.Refused OtherProgram; state = st; list = room }
-  pub wrong_room : (count held most type : ℕ) → check_call p ≡ Checked.Accepted count held most type → length st ≡ state_length p
-      → sum_in st ≡ checks_of p → (length room ≡ suc held → ⊥) → mend_call p st room ≡ record { answer = ListLength; state = st; list = room }
-  pub brought : (count held most type : ℕ) → check_call p ≡ Checked.Accepted count held most type → length st ≡ state_length p
+  pub refused : (r : Refusal) → check_call p ≡ Err r → mend_call p st room ≡ record { answer = Err (Unmended.Refused r); state = st; list = room }
+  pub wrong_length : (count held most type : ℕ) → check_call p ≡ accepted_with count held most type → (length st ≡ state_length p → ⊥)
+      → mend_call p st room ≡ record { answer = Err (Unmended.Refused StateFault); state = st; list = room }
+  pub wrong_sum : (count held most type : ℕ) → check_call p ≡ accepted_with count held most type → length st ≡ state_length p
+      → (sum_in st ≡ checks_of p → ⊥) → mend_call p st room ≡ record { answer = Err (Unmended.Refused OtherProgram); state = st; list = room }
+  pub wrong_room : (count held most type : ℕ) → check_call p ≡ accepted_with count held most type → length st ≡ state_length p
+      → sum_in st ≡ checks_of p → (length room ≡ suc held → ⊥) → mend_call p st room ≡ record { answer = Err ListLength; state = st; list = room }
+  pub brought : (count held most type : ℕ) → check_call p ≡ accepted_with count held most type → length st ≡ state_length p
       → sum_in st ≡ checks_of p → length room ≡ suc held → BringsBack p st room (mend_call p st room)
 
 -- What the call promises: for every program, state and list's room, refusals too, the rules' answer and the rules' content of both.

@@ -2,12 +2,22 @@
 // know nothing of the code.
 #![tactic(auto)]
 
+ghost use Rattle.std.specs.Prelude.{◌≡◌};
+ghost use Rattle.mends.specs.declared.Unmended.{Unmended};
+
 use rules::Refusal;
 
-// What mend answers: how many entries were listed; a refusal (codes 1-9 and 15); a list's room of the wrong length (16).
+// Why mend brings no state back: a refusal (codes 1-9 and 15); a list's room of the wrong length (16). Else it answers how many entries it listed.
 #[derive(Clone, Copy)]
-pub enum Mended {
-    Listed(u32),
+pub enum Unmended {
     Refused(Refusal),
     ListLength,
+}
+
+impl From<Refusal> for Unmended {
+    ghost from_gives = { λ r e. e ≡ Unmended.Refused r };
+
+    fn from(r: Refusal) -> Unmended {
+        Unmended::Refused(r)
+    }
 }

@@ -1,6 +1,7 @@
 -- Demand 1 of check and start: a refusal has the first code that the rules give.
 -- Assumes nothing.
-use Rattle.std.specs.Prelude.{if◌then◌else◌}
+use Rattle.std.specs.Prelude.{if◌then◌else◌, Option, Some, None, Ok, Err, ℕ}
+use Rattle.rules.specs.Verdicts.{Verdict}
 use mathlib.Core.Path.{◌≡◌, refl, sym, ap, subst, ◌∙◌}
 use mathlib.Core.Bool.{Bool, true, false, not}
 use mathlib.Core.List.{List, [], ◌∷◌}
@@ -18,28 +19,24 @@ use Rattle.rules.specs.Scope.{scope_fault}
 use Rattle.rules.specs.Typing.{type_fault}
 use Rattle.rules.specs.Ready.{ready_fault}
 use Rattle.rules.specs.Calls.{◌otherwise◌, refuse_if, refuse_at, program_verdict}
-use Rattle.rules.specs.declared.Place.{Place}
-use Rattle.rules.specs.declared.Place.TheVariants.{At, Nowhere}
 use Rattle.rules.specs.declared.Refusal.{Refusal}
 use Rattle.rules.specs.declared.Refusal.TheVariants.{ProgramLength, CheckSum, BlockNumber, RecordFault, ShapeFault, ScopeFault, TypeFault, NotReady, StateFault}
-use Rattle.rules.specs.declared.Verdict.{Verdict}
-use Rattle.rules.specs.declared.Verdict.TheVariants.{Fine, Refuse}
 use Rattle.rules.proofs.Verdicts.{not_fine}
 use Rattle.mission.specs.Faults.{Fault, of_length, of_sum, of_number, of_record, of_shape, of_scope, of_type, of_ready, StartFault, of_program, of_room, FirstOf}
 
 -- Verdicts tried one after the other, and one of them that refuses.
 unfoldable chain : List Verdict → Verdict
-chain [] = Fine
+chain [] = Ok tt
 chain (v ∷ vs) = v otherwise chain vs
 
 data Among : List Verdict → Refusal → Type 0 where
-  here : {v : Verdict} {vs : List Verdict} {r : Refusal} → v ≡ Refuse r → Among (v ∷ vs) r
+  here : {v : Verdict} {vs : List Verdict} {r : Refusal} → v ≡ Err r → Among (v ∷ vs) r
   there : {v : Verdict} {vs : List Verdict} {r : Refusal} → Among vs r → Among (v ∷ vs) r
 
 -- Each refuses with its own code, and these rise.
 abbrev Coded : ℕ → List Verdict → Type 0
 Coded c [] = Unit {0}
-Coded c (v ∷ vs) = ((r : Refusal) → v ≡ Refuse r → code_of r ≡ c) × Coded (suc c) vs
+Coded c (v ∷ vs) = ((r : Refusal) → v ≡ Err r → code_of r ≡ c) × Coded (suc c) vs
 
 least_code : (c : ℕ) (vs : List Verdict) (q : Refusal) → Coded c vs → Among vs q → c ≤ code_of q
 least_code c (v ∷ vs) q k (here e) = omega (arith, k.0 q e)
@@ -47,31 +44,31 @@ least_code c (v ∷ vs) q k (there a) = omega (arith, least_code (suc c) vs q k.
 least_code c [] q k x'' = elim x'' [ ]
 
 -- The first that refuses has the lowest code; and where the chain is fine none refuses.
-chain_first : (c : ℕ) (vs : List Verdict) (r : Refusal) → Coded c vs → chain vs ≡ Refuse r → FirstOf (Among vs) r
+chain_first : (c : ℕ) (vs : List Verdict) (r : Refusal) → Coded c vs → chain vs ≡ Err r → FirstOf (Among vs) r
 unfolding chain ◌otherwise◌
 chain_first c [] r k e = absurd (not_fine (sym e))
-chain_first c (Fine ∷ vs) r k e =
+chain_first c ((Ok _) ∷ vs) r k e =
     let f = chain_first (suc c) vs r k.1 e in
     record { given₀ = there f.given₀; first₀ = later f }
   where
-    later : FirstOf (Among vs) r → (q : Refusal) → Among (Fine ∷ vs) q → code_of r ≤ code_of q
+    later : FirstOf (Among vs) r → (q : Refusal) → Among ((Ok tt) ∷ vs) q → code_of r ≤ code_of q
     later f q (here z) = absurd (not_fine (sym z))
     later f q (there a) = f.first₀ q a
-chain_first c (Refuse s ∷ vs) r k e =
-    record { given₀ = here e; first₀ = λ q a. omega (arith, k.0 r e, least_code c (Refuse s ∷ vs) q k a) }
+chain_first c (Err s ∷ vs) r k e =
+    record { given₀ = here e; first₀ = λ q a. omega (arith, k.0 r e, least_code c (Err s ∷ vs) q k a) }
 
-chain_none : (vs : List Verdict) (r : Refusal) → chain vs ≡ Fine → Among vs r → ⊥
+chain_none : (vs : List Verdict) (r : Refusal) → chain vs ≡ Ok tt → Among vs r → ⊥
 unfolding chain ◌otherwise◌
-chain_none (Fine ∷ vs) r e (here z) = not_fine (sym z)
-chain_none (Fine ∷ vs) r e (there a) = chain_none vs r e a
-chain_none (Refuse s ∷ vs) r e a = not_fine e
+chain_none ((Ok _) ∷ vs) r e (here z) = not_fine (sym z)
+chain_none ((Ok _) ∷ vs) r e (there a) = chain_none vs r e a
+chain_none (Err s ∷ vs) r e a = not_fine e
 chain_none [] r e a = elim a [ ]
 
 -- Two that refuse with one code are one.
 among_same : (c : ℕ) (vs : List Verdict) (r q : Refusal) → Coded c vs → code_of r ≡ code_of q → Among vs r → Among vs q → r ≡ q
 among_same c (v ∷ vs) r q k h (here e) (here f) = refuse_same (sym e ∙ f)
   where
-    refuse_same : {a b : Refusal} → Refuse a ≡ Refuse b → a ≡ b
+    refuse_same : {a b : Refusal} → ◌≡◌ {A = Verdict} (Err a) (Err b) → a ≡ b
     refuse_same z = cc
 among_same c (v ∷ vs) r q k h (here e) (there b) = absurd (omega (arith, k.0 r e, least_code (suc c) vs q k.1 b))
 among_same c (v ∷ vs) r q k h (there a) (here f) = absurd (omega (arith, k.0 q f, least_code (suc c) vs r k.1 a))
@@ -91,32 +88,32 @@ verdicts p =
     ∷ refuse_at NotReady (ready_fault p)
     ∷ []
 
-otherwise_fine : (v : Verdict) → (v otherwise Fine) ≡ v
+otherwise_fine : (v : Verdict) → (v otherwise (Ok tt)) ≡ v
 unfolding ◌otherwise◌
-otherwise_fine Fine = refl
-otherwise_fine (Refuse r) = refl
+otherwise_fine (Ok _) = refl
+otherwise_fine (Err r) = refl
 
 chained : (p : Bytes) → chain (verdicts p) ≡ program_verdict p
 unfolding chain verdicts program_verdict
 chained p = rw (otherwise_fine (refuse_at NotReady (ready_fault p)))
 
 -- What a test and a place refuse.
-if_given : (b : Bool) (s r : Refusal) → refuse_if b s ≡ Refuse r → (b ≡ true) × (s ≡ r)
+if_given : (b : Bool) (s r : Refusal) → refuse_if b s ≡ Err r → (b ≡ true) × (s ≡ r)
 unfolding refuse_if
 if_given true s r e = (refl, cc)
 if_given false s r e = absurd (not_fine (sym e))
 
-record AtGiven (reason : ℕ → Refusal) (q : Place) (r : Refusal) : Type 0 where
+record AtGiven (reason : ℕ → Refusal) (q : Option ℕ) (r : Refusal) : Type 0 where
   place : ℕ
-  is : q ≡ At place
+  is : q ≡ Some place
   reason_is : reason place ≡ r
 
-at_given : (reason : ℕ → Refusal) (q : Place) (r : Refusal) → refuse_at reason q ≡ Refuse r → AtGiven reason q r
+at_given : (reason : ℕ → Refusal) (q : Option ℕ) (r : Refusal) → refuse_at reason q ≡ Err r → AtGiven reason q r
 unfolding refuse_at
-at_given reason (At n) r e = record { place = n; is = refl; reason_is = cc }
-at_given reason Nowhere r e = absurd (not_fine (sym e))
+at_given reason (Some n) r e = record { place = n; is = refl; reason_is = cc }
+at_given reason None r e = absurd (not_fine (sym e))
 
-at_coded : (c : ℕ) (reason : ℕ → Refusal) → ((n : ℕ) → code_of (reason n) ≡ c) → (q : Place) (r : Refusal) → refuse_at reason q ≡ Refuse r → code_of r ≡ c
+at_coded : (c : ℕ) (reason : ℕ → Refusal) → ((n : ℕ) → code_of (reason n) ≡ c) → (q : Option ℕ) (r : Refusal) → refuse_at reason q ≡ Err r → code_of r ≡ c
 at_coded c reason h q r e = let g = at_given reason q r e in sym (ap code_of g.reason_is) ∙ h g.place
 
 coded : (p : Bytes) → Coded 1 (verdicts p)
@@ -145,11 +142,11 @@ coded p = (
 )
 
 -- A fault is one of these that refuses.
-at_refuses : (reason : ℕ → Refusal) (q : Place) (n : ℕ) → q ≡ At n → refuse_at reason q ≡ Refuse (reason n)
+at_refuses : (reason : ℕ → Refusal) (q : Option ℕ) (n : ℕ) → q ≡ Some n → refuse_at reason q ≡ Err (reason n)
 unfolding refuse_at
 at_refuses reason q n e = rw e
 
-if_refuses : (b : Bool) (s : Refusal) → b ≡ true → refuse_if b s ≡ Refuse s
+if_refuses : (b : Bool) (s : Refusal) → b ≡ true → refuse_if b s ≡ Err s
 unfolding refuse_if
 if_refuses b s e = rw e
 
@@ -164,7 +161,7 @@ fault_among p _ (of_scope n e) = there (there (there (there (there (here (at_ref
 fault_among p _ (of_type n e) = there (there (there (there (there (there (here (at_refuses TypeFault _ n e)))))))
 fault_among p _ (of_ready n e) = there (there (there (there (there (there (there (here (at_refuses NotReady _ n e))))))))
 
-as_fault : (p : Bytes) (reason : ℕ → Refusal) (q : Place) (r : Refusal) → ((n : ℕ) → q ≡ At n → Fault p (reason n)) → refuse_at reason q ≡ Refuse r → Fault p r
+as_fault : (p : Bytes) (reason : ℕ → Refusal) (q : Option ℕ) (r : Refusal) → ((n : ℕ) → q ≡ Some n → Fault p (reason n)) → refuse_at reason q ≡ Err r → Fault p r
 as_fault p reason q r f e = let g = at_given reason q r e in subst (Fault p) g.reason_is (f g.place g.is)
 
 among_fault : (p : Bytes) (r : Refusal) → Among (verdicts p) r → Fault p r
@@ -180,12 +177,12 @@ among_fault p r (there (there (there (there (there (there (there (here e))))))))
 among_fault p r (there (there (there (there (there (there (there (there x32)))))))) = elim x32 [ ]
 
 -- Check.
-pub first_fault : (p : Bytes) (r : Refusal) → program_verdict p ≡ Refuse r → FirstOf (Fault p) r
+pub first_fault : (p : Bytes) (r : Refusal) → program_verdict p ≡ Err r → FirstOf (Fault p) r
 first_fault p r e =
     let f = chain_first 1 (verdicts p) r (coded p) (chained p ∙ e) in
     record { given₀ = among_fault p r f.given₀; first₀ = λ q a. f.first₀ q (fault_among p q a) }
 
-pub no_fault : (p : Bytes) → program_verdict p ≡ Fine → (r : Refusal) → Fault p r → ⊥
+pub no_fault : (p : Bytes) → program_verdict p ≡ Ok tt → (r : Refusal) → Fault p r → ⊥
 no_fault p e r f = chain_none (verdicts p) r (chained p ∙ e) (fault_among p r f)
 
 fault_same : {p : Bytes} {r q : Refusal} → code_of r ≡ code_of q → Fault p r → Fault p q → r ≡ q
@@ -219,7 +216,7 @@ long_wrong a b e f = no_both (sym (ap not (eq-eqb a b f)) ∙ e)
     no_both : false ≡ true → ⊥
     no_both z = let n : ◌≡◌ {A = ℕ} 0 1 = ap (λ (b : Bool). if b then 1 else 0) z in omega arith
 
-pub first_start : (p st : Bytes) (r : Refusal) → start_verdict p st ≡ Refuse r → FirstOf (StartFault p st) r
+pub first_start : (p st : Bytes) (r : Refusal) → start_verdict p st ≡ Err r → FirstOf (StartFault p st) r
 unfolding start_verdict ◌otherwise◌
 first_start p st r = go (program_verdict p) refl
   where
@@ -227,20 +224,20 @@ first_start p st r = go (program_verdict p) refl
     low f q (of_program a) = f.first₀ q a
     low f q (of_room h) = omega (arith, fault_low f.given₀)
 
-    ninth : program_verdict p ≡ Fine → StateFault ≡ r → (q : Refusal) → StartFault p st q → code_of r ≤ code_of q
+    ninth : program_verdict p ≡ Ok tt → StateFault ≡ r → (q : Refusal) → StartFault p st q → code_of r ≤ code_of q
     ninth f s q (of_program a) = absurd (no_fault p f q a)
     ninth f s q (of_room h) = omega (arith, ap code_of s)
 
-    go : (v : Verdict) → program_verdict p ≡ v → (v otherwise refuse_if (not (eqb (length st) (state_length p))) StateFault) ≡ Refuse r
+    go : (v : Verdict) → program_verdict p ≡ v → (v otherwise refuse_if (not (eqb (length st) (state_length p))) StateFault) ≡ Err r
         → FirstOf (StartFault p st) r
-    go (Refuse s) f e =
+    go (Err s) f e =
         let a = first_fault p r (f ∙ e) in
         record { given₀ = of_program a.given₀; first₀ = low a }
-    go Fine f e =
+    go (Ok _) f e =
         let g = if_given _ _ r e in
         record { given₀ = subst (StartFault p st) g.1 (of_room (long_wrong _ _ g.0)); first₀ = ninth f g.1 }
 
-pub no_start_fault : (p st : Bytes) → program_verdict p ≡ Fine → length st ≡ state_length p → (r : Refusal) → StartFault p st r → ⊥
+pub no_start_fault : (p st : Bytes) → program_verdict p ≡ Ok tt → length st ≡ state_length p → (r : Refusal) → StartFault p st r → ⊥
 no_start_fault p st e l r (of_program f) = no_fault p e r f
 no_start_fault p st e l r (of_room h) = h l
 

@@ -1,5 +1,6 @@
 -- Well-formed records whose times do not go back are not refused.
 -- Assumes nothing.
+use Rattle.std.specs.Prelude.{Ok}
 use mathlib.Core.Path.{◌≡◌, refl, sym, ap, ◌∙◌}
 use mathlib.Core.Bool.{Bool, true, false, not}
 use mathlib.Core.List.{[], ◌∷◌}
@@ -12,7 +13,6 @@ use Rattle.rules.specs.Bytes.{Bytes, byte_at, ◌and◌, ◌or◌}
 use Rattle.rules.specs.Layout.{state_length, cell_at, last_time, no_time, set_time, input_length, input_at, time_in, flag_on, event_on}
 use Rattle.rules.specs.WellFormed.{well_formed, last_moment}
 use Rattle.rules.specs.Calls.{◌otherwise◌, refuse_if, absent_wrong, input_wrong, time_wrong, record_verdict}
-use Rattle.rules.specs.declared.Verdict.TheVariants.{Fine}
 use Rattle.promises.specs.Small.{Small}
 use Rattle.promises.proofs.SmallLaws.{u32_small, small_input}
 use Rattle.promises.proofs.Steps.{well_parts}
@@ -55,7 +55,7 @@ time_right st rec h = go (eqb (last_time st) no_time) refl
     go true e = refl
     go false e = le-ltb (time_in rec) (last_time st) (h (eqb-false _ _ e))
 
-pub not_refused : (done : ℕ) (st rec : Bytes) → WellRecord rec → NotBack st rec → record_verdict done st rec ≡ Fine
+pub not_refused : (done : ℕ) (st rec : Bytes) → WellRecord rec → NotBack st rec → record_verdict done st rec ≡ Ok tt
 unfolding record_verdict refuse_if ◌otherwise◌
 not_refused done st rec w h = rw (record_right rec w, time_right st rec h)
 

@@ -1,5 +1,8 @@
 -- Demands 1 and 2 of a run: what a refused run leaves, and how its steps go.
 -- Assumes nothing.
+use Rattle.std.specs.Prelude.{Ok, Err}
+use Rattle.rules.proofs.Same.{same_finished, same_refused}
+use Rattle.rules.specs.Verdicts.{finished_with, refused_after}
 use mathlib.Core.Path.{◌≡◌, refl, sym, ap, ◌∙◌}
 use mathlib.Core.List.{[], ◌∷◌, ◌++◌}
 use Prim.Native.Nat.{ℕ, ◌+◌, ◌*◌, ◌/◌, ◌<◌, ◌≤◌}
@@ -9,9 +12,6 @@ use Rattle.rules.specs.Bytes.{Bytes, write_at}
 use Rattle.rules.specs.Layout.{input_length, input_at}
 use Rattle.rules.specs.Calls.{RunOutcome, no_step, record_verdict}
 use Rattle.rules.specs.declared.Refusal.{Refusal}
-use Rattle.rules.specs.declared.Verdict.TheVariants.{Fine, Refuse}
-use Rattle.rules.specs.declared.Ran.{Ran}
-use Rattle.rules.specs.declared.Ran.TheVariants.{Finished}
 use Rattle.promises.specs.Run.{run_verdict, work_in}
 use Rattle.rooms.proofs.WalkLaws.{not_finished, write_front}
 use Rattle.cut.proofs.Records.{drop_past}
@@ -28,11 +28,11 @@ record SameRefusal (q r : Refusal) (v w m n : ℕ) : Type 0 where
   work : v ≡ w
   mark : m ≡ n
 
-same_refusal : {q r : Refusal} {v w m n : ℕ} → Ran.Refused q v m ≡ Ran.Refused r w n → SameRefusal q r v w m n
-same_refusal e = record { reason = cc; work = cc; mark = cc }
+same_refusal : {q r : Refusal} {v w m n : ℕ} → refused_after q v m ≡ refused_after r w n → SameRefusal q r v w m n
+same_refusal e = let s = same_refused e in record { reason = s.0; work = s.1; mark = s.2 }
 
-same_count : {a b v w m n : ℕ} → Finished a v m ≡ Finished b w n → a ≡ b
-same_count e = cc
+same_count : {a b v w m n : ℕ} → finished_with a v m ≡ finished_with b w n → a ≡ b
+same_count e = (same_finished e).0
 
 -- The front of a list, and the rest.
 front : (a b : Bytes) → take (length a) (a ++ b) ≡ a
@@ -50,8 +50,8 @@ room_is {out = out} l t =
     ∙ ap (λ (n : ℕ). t.shown ++ drop n out) (through_long t.through)
 
 -- A refused run.
-stopped_run : {p st recs out : Bytes} {o : RunOutcome} {r : Refusal} {w m : ℕ} → o.answer ≡ Ran.Refused r w m
-    → (t : Traced p recs o (length recs / input_length) 0 0 no_step st out) → Lent p st recs out → run_verdict p st recs out ≡ Fine
+stopped_run : {p st recs out : Bytes} {o : RunOutcome} {r : Refusal} {w m : ℕ} → o.answer ≡ refused_after r w m
+    → (t : Traced p recs o (length recs / input_length) 0 0 no_step st out) → Lent p st recs out → run_verdict p st recs out ≡ Ok tt
     → Ends recs o (length recs / input_length) 0 0 t.steps t.total t.mark₁ → RefusedRun p st recs out r w m o.state o.output
 stopped_run a t l e (all_of h f) = absurd (not_finished (sym a ∙ f))
 stopped_run {p} {st} {recs} {out} {o} {r} {w} {m} a t l e (stopped q h v f) =
@@ -65,15 +65,15 @@ stopped_run {p} {st} {recs} {out} {o} {r} {w} {m} a t l e (stopped q h v f) =
     let shows : t.shown ≡ take (8 * k) o.output
     = sym (ap (λ (n : ℕ). take n o.output) long ∙ ap (take (length t.shown)) out₁ ∙ front t.shown rest) in
     for_record k e h
-    (sym (ap (λ (j : ℕ). record_verdict j o.state (input_at recs j)) d) ∙ v ∙ ap Refuse s.reason)
-    (first_run l t.few t.through ∙ λ i. record { answer = Finished k (u i) (s.mark i); state = o.state; output = shows i })
+    (sym (ap (λ (j : ℕ). record_verdict j o.state (input_at recs j)) d) ∙ v ∙ ap Err s.reason)
+    (first_run l t.few t.through ∙ λ i. record { answer = finished_with k (u i) (s.mark i); state = o.state; output = shows i })
     (ap (λ (n : ℕ). drop n o.output) long ∙ ap (drop (length t.shown)) out₁ ∙ behind t.shown rest)
 
-pub refused_run : {p st recs out : Bytes} {o : RunOutcome} → Outcome p st recs out o → (r : Refusal) (w m : ℕ) → o.answer ≡ Ran.Refused r w m
+pub refused_run : {p st recs out : Bytes} {o : RunOutcome} → Outcome p st recs out o → (r : Refusal) (w m : ℕ) → o.answer ≡ refused_after r w m
     → RefusedRun p st recs out r w m o.state o.output
 refused_run (lent_refused q e f) r w m a =
     let s = same_refusal (sym (ap (λ (x : RunOutcome). x.answer) f) ∙ a) in
-    for_lent (e ∙ ap Refuse s.reason) (sym s.work) (sym s.mark) (ap (λ (x : RunOutcome). x.state) f) (ap (λ (x : RunOutcome). x.output) f)
+    for_lent (e ∙ ap Err s.reason) (sym s.work) (sym s.mark) (ap (λ (x : RunOutcome). x.state) f) (ap (λ (x : RunOutcome). x.output) f)
 refused_run (went e l t) r w m a = stopped_run a t l e t.ends
 
 -- How the steps go.
@@ -87,7 +87,7 @@ unfolding mark_in
 mark_told (all_of h f) = ap mark_in f
 mark_told (stopped r h v f) = ap mark_in f
 
-all_told : {recs : Bytes} {o : RunOutcome} {left steps total mark : ℕ} → Ends recs o left 0 0 steps total mark → (s w m : ℕ) → o.answer ≡ Finished s w m
+all_told : {recs : Bytes} {o : RunOutcome} {left steps total mark : ℕ} → Ends recs o left 0 0 steps total mark → (s w m : ℕ) → o.answer ≡ finished_with s w m
     → (s ≡ steps) × (steps ≡ left)
 all_told {steps = steps} (all_of h f) s w m g =
     (same_count (sym g ∙ f) ∙ (let z : 0 + steps ≡ steps = omega arith in z), h)

@@ -1,5 +1,6 @@
 -- Demand 3 of a run: well-formed records whose times do not go back are answered, all of them.
 -- Assumes nothing.
+use Rattle.rules.specs.Verdicts.{RunAnswer, accepted_with, finished_with}
 use mathlib.Core.Path.{◌≡◌, refl, sym, ap, ◌∙◌}
 use mathlib.Core.Bool.{Bool, true}
 use mathlib.Core.List.{[], ◌++◌, append-nil}
@@ -13,10 +14,6 @@ use Rattle.rules.specs.Bound.{bound}
 use Rattle.rules.specs.Calls.{RunOutcome, record_verdict, no_step, check_call}
 use Rattle.rules.specs.declared.Value.{Value}
 use Rattle.rules.specs.declared.Refusal.{Refusal}
-use Rattle.rules.specs.declared.Verdict.TheVariants.{Fine, Refuse}
-use Rattle.rules.specs.declared.Ran.{Ran}
-use Rattle.rules.specs.declared.Ran.TheVariants.{Finished}
-use Rattle.rules.specs.declared.Checked.TheVariants.{Accepted}
 use Rattle.rules.proofs.Verdicts.{not_fine}
 use Rattle.promises.specs.Small.{Small}
 use Rattle.promises.proofs.Promises.{goes_on, Answered, answered}
@@ -30,7 +27,7 @@ use Rattle.mission.proofs.Records.{not_refused, ended, next_not_back, one_record
 use Rattle.mission.proofs.Outcomes.{Outcome, lent_refused, went, lent_well}
 
 module _ (p st recs out : Bytes) (o : RunOutcome) (hp : Small p) (hr : Small recs) (count cells most type : ℕ)
-    (a : check_call p ≡ Accepted count cells most type) where
+    (a : check_call p ≡ accepted_with count cells most type) where
   -- What check answered.
   said : Answered p count cells most type
   said = answered p count cells most type a
@@ -53,12 +50,12 @@ module _ (p st recs out : Bytes) (o : RunOutcome) (hp : Small p) (hr : Small rec
 
   -- No record is refused, so all are done.
   done_all : (n : ℕ) → RunLent p st recs out n → (t : Traced p recs o (length recs / input_length) 0 0 no_step st out)
-      → Ends recs o (length recs / input_length) 0 0 t.steps t.total t.mark₁ → (t.steps ≡ n) × (o.answer ≡ Finished n t.total t.mark₁)
+      → Ends recs o (length recs / input_length) 0 0 t.steps t.total t.mark₁ → (t.steps ≡ n) × (o.answer ≡ finished_with n t.total t.mark₁)
   done_all n l t (all_of h f) =
       let k : t.steps ≡ n = omega (arith, h, l.whole) in
       let d : 0 + t.steps ≡ n = omega arith in
       let w : 0 + t.total ≡ t.total = omega arith in
-      (k, f ∙ λ i. Finished (d i) (w i) t.mark₁)
+      (k, f ∙ λ i. finished_with (d i) (w i) t.mark₁)
   done_all n l t (stopped r h v f) =
       let k : t.steps < n = omega (arith, h, l.whole) in
       let d : 0 + t.steps ≡ t.steps = omega arith in
@@ -109,7 +106,7 @@ one_left (one_step {value = v} {work = w} {left = left} e b rest) =
     }
 
 -- One record.
-one_answered : (p st rec : Bytes) (answer : Ran) (st₁ out₁ : Bytes) (count most type : ℕ) → input_at rec 0 ≡ rec
+one_answered : (p st rec : Bytes) (answer : RunAnswer) (st₁ out₁ : Bytes) (count most type : ℕ) → input_at rec 0 ≡ rec
     → Finishes p st rec 1 answer st₁ out₁ count most type → Answers p st rec answer st₁ out₁ count most type
 one_answered p st rec answer st₁ out₁ count most type same f =
     let one = one_left f.through in
@@ -145,7 +142,7 @@ one_lent p st rec out l =
     }
 
 pub step_answers : (p st rec out : Bytes) (o : RunOutcome) → Small p → Small rec → (count cells most type : ℕ)
-    → check_call p ≡ Accepted count cells most type → StepLent p st rec out → Outcome p st rec out o
+    → check_call p ≡ accepted_with count cells most type → StepLent p st rec out → Outcome p st rec out o
     → Answers p st rec o.answer o.state o.output count most type
 step_answers p st rec out o hp hr count cells most type a l x =
     one_answered p st rec o.answer o.state o.output count most type (one_record rec l.right.long)

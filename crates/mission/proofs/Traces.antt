@@ -1,5 +1,7 @@
 -- A run that is made is steps by the published rules, one after the other; and such steps are a run.
 -- Assumes nothing.
+use Rattle.std.specs.Prelude.{Ok, Err}
+use Rattle.rules.specs.Verdicts.{finished_with, refused_after}
 use mathlib.Core.Path.{◌≡◌, refl, sym, ap, ◌∙◌}
 use mathlib.Core.Bool.{Bool, true}
 use mathlib.Core.List.{[], ◌++◌}
@@ -18,9 +20,6 @@ use Rattle.rules.specs.Calls.{RunOutcome, record_verdict, first_wrapped, run_fro
 use Rattle.rules.specs.declared.Value.{Value}
 use Rattle.rules.specs.declared.Tally.{Tally}
 use Rattle.rules.specs.declared.Refusal.{Refusal}
-use Rattle.rules.specs.declared.Verdict.TheVariants.{Fine, Refuse}
-use Rattle.rules.specs.declared.Ran.{Ran}
-use Rattle.rules.specs.declared.Ran.TheVariants.{Finished}
 use Rattle.promises.specs.Step.{StepMade}
 use Rattle.promises.specs.Run.{RunMade, finished, refused, stepped}
 use Rattle.promises.proofs.Steps.{well_parts}
@@ -61,9 +60,9 @@ by_rules p rec st well m =
 
 -- How a run ends after so many steps: all records are done, or the next one is refused.
 pub data Ends (recs : Bytes) (o : RunOutcome) (left done work steps total mark : ℕ) : Type 0 where
-  all_of : steps ≡ left → o.answer ≡ Finished (done + steps) (work + total) mark → Ends recs o left done work steps total mark
-  stopped : (r : Refusal) → steps < left → record_verdict (done + steps) o.state (input_at recs (done + steps)) ≡ Refuse r
-      → o.answer ≡ Ran.Refused r (work + total) mark → Ends recs o left done work steps total mark
+  all_of : steps ≡ left → o.answer ≡ finished_with (done + steps) (work + total) mark → Ends recs o left done work steps total mark
+  stopped : (r : Refusal) → steps < left → record_verdict (done + steps) o.state (input_at recs (done + steps)) ≡ Err r
+      → o.answer ≡ refused_after r (work + total) mark → Ends recs o left done work steps total mark
 
 pub record Traced (p recs : Bytes) (o : RunOutcome) (left done work mark : ℕ) (st out : Bytes) : Type 0 where
   pub steps : ℕ
@@ -81,11 +80,11 @@ ends_later : {recs : Bytes} {o : RunOutcome} {left done work steps total mark : 
 ends_later {done = done} {work = work} {steps = steps} {total = total} {mark = mark} w (all_of e a) =
     let d : suc done + steps ≡ done + suc steps = omega arith in
     let t : work + w + total ≡ work + (w + total) = omega arith in
-    all_of (omega arith) (a ∙ λ i. Finished (d i) (t i) mark)
+    all_of (omega arith) (a ∙ λ i. finished_with (d i) (t i) mark)
 ends_later {recs = recs} {o = o} {done = done} {work = work} {steps = steps} {total = total} {mark = mark} w (stopped r h v a) =
     let d : suc done + steps ≡ done + suc steps = omega arith in
     let t : work + w + total ≡ work + (w + total) = omega arith in
-    stopped r (omega arith) (sym (ap (λ (k : ℕ). record_verdict k o.state (input_at recs k)) d) ∙ v) (a ∙ ap (λ (n : ℕ). Ran.Refused r n mark) t)
+    stopped r (omega arith) (sym (ap (λ (k : ℕ). record_verdict k o.state (input_at recs k)) d) ∙ v) (a ∙ ap (λ (n : ℕ). refused_after r n mark) t)
 
 write_next : (out shown : Bytes) (done : ℕ) (v : Value)
     → write_at (write_at out (8 * done) (value_bytes v)) (8 * suc done) shown ≡ write_at out (8 * done) (value_bytes v ++ shown)
@@ -107,7 +106,7 @@ trace zero p recs o done work mark st out well (finished e) =
       mark₁ = mark;
       through = at_end;
       output = refl;
-      ends = all_of refl λ i. Finished (sym d i) (sym t i) mark;
+      ends = all_of refl λ i. finished_with (sym d i) (sym t i) mark;
     })
 trace (suc left) p recs o done work mark st out well (refused r v e) =
     let d : done + 0 ≡ done = omega arith in
@@ -120,7 +119,7 @@ trace (suc left) p recs o done work mark st out well (refused r v e) =
       mark₁ = mark;
       through = at_end;
       output = refl;
-      ends = stopped r (omega arith) (ap (λ (k : ℕ). record_verdict k st (input_at recs k)) d ∙ v) (ap (λ (n : ℕ). Ran.Refused r n mark) (sym t));
+      ends = stopped r (omega arith) (ap (λ (k : ℕ). record_verdict k st (input_at recs k)) d ∙ v) (ap (λ (n : ℕ). refused_after r n mark) (sym t));
     })
 trace (suc left) p recs o done work mark st out well (stepped v m more) =
     let t = trace left p recs o (suc done) (work + m.tally.work) (mark_after mark done m.tally.wrapped) m.state (write_at out (8 * done) (value_bytes m.output)) m.well more in
@@ -137,7 +136,7 @@ trace (suc left) p recs o done work mark st out well (stepped v m more) =
 
 -- One step by the rules, in a run.
 run_step : (p recs : Bytes) (left done work mark : ℕ) (st out : Bytes) {v : Value} {st₁ : Bytes} {n : ℕ}
-    → record_verdict done st (input_at recs done) ≡ Fine → (d : Steps p (input_at recs done) st v st₁ n)
+    → record_verdict done st (input_at recs done) ≡ Ok tt → (d : Steps p (input_at recs done) st v st₁ n)
     → run_from p recs (suc left) done work mark st out
     ≡ run_from p recs left (suc done) (work + n) (mark_after mark done (left_of d)) st₁ (write_at out (8 * done) (value_bytes v))
 unfolding run_from first_wrapped

@@ -1,6 +1,9 @@
 -- Document 01's wrong programs do not keep the demands, nor does one that invents the first wrapped step (document 02, f). A hypothesis asks only
 -- what such a program does where it goes through: its refusals may leave all as it was. Shown on rows of the table of readings: A, D and twice a distance.
 -- Assumes nothing.
+use Rattle.std.specs.Prelude.{Err}
+use Rattle.rules.proofs.Same.{same_finished}
+use Rattle.rules.specs.Verdicts.{CheckAnswer, accepted_with, finished_with}
 use mathlib.Core.Path.{◌≡◌, refl, sym, ap, ◌∙◌}
 use mathlib.Core.Bool.{Bool, true, false}
 use mathlib.Core.List.{List, [], ◌∷◌}
@@ -19,10 +22,6 @@ use Rattle.rules.specs.Samples.{joined, quiet, measured, event}
 use Rattle.rules.specs.Readings.{Step, Seen, int, counting, selfish, switching, doubling, row_a, row_d, readings, sights, expected}
 use Rattle.rules.specs.declared.Value.{Value}
 use Rattle.rules.specs.declared.Refusal.TheVariants.{NotReady}
-use Rattle.rules.specs.declared.Checked.{Checked}
-use Rattle.rules.specs.declared.Checked.TheVariants.{Accepted}
-use Rattle.rules.specs.declared.Ran.{Ran}
-use Rattle.rules.specs.declared.Ran.TheVariants.{Finished}
 use Rattle.rules.proofs.Static.{and_both}
 use Rattle.rules.proofs.Table.{readings_hold}
 use Rattle.promises.specs.Small.{Small}
@@ -70,7 +69,7 @@ step_at zero none (s ∷ l) = s
 step_at (suc k) none (s ∷ l) = step_at k none l
 
 abbrev any_step : Step
-any_step = record { answer = Finished 0 0 no_step; value = int 0 }
+any_step = record { answer = finished_with 0 0 no_step; value = int 0 }
 
 abbrev seen_a : List Seen → Seen
 seen_a l = seen_at 0 row_a.sight l
@@ -126,7 +125,7 @@ abbrev shown : ℕ → Bytes → Value
 shown k out = unpacked (u64_at out (8 * k))
 
 -- What the table says of them.
-a_accepted : check_call (counting 0) ≡ Accepted 8 1 13 3
+a_accepted : check_call (counting 0) ≡ accepted_with 8 1 13 3
 a_accepted = ap (λ (l : List Seen). (seen_a l).check) readings_hold
 
 a_first : shown 0 first_a.output ≡ int 0
@@ -138,34 +137,34 @@ a_second = ap (λ (l : List Seen). (step_at 1 any_step (seen_a l).steps).value) 
 a_third : shown 0 third_a.output ≡ int 2
 a_third = ap (λ (l : List Seen). (step_at 2 any_step (seen_a l).steps).value) readings_hold
 
-a_made : first_a.answer ≡ Finished 1 13 no_step
+a_made : first_a.answer ≡ finished_with 1 13 no_step
 a_made = ap (λ (l : List Seen). (step_at 0 any_step (seen_a l).steps).answer) readings_hold
 
-a_made_2 : second_a.answer ≡ Finished 1 13 no_step
+a_made_2 : second_a.answer ≡ finished_with 1 13 no_step
 a_made_2 = ap (λ (l : List Seen). (step_at 1 any_step (seen_a l).steps).answer) readings_hold
 
-d_accepted : check_call switching ≡ Accepted 6 1 7 3
+d_accepted : check_call switching ≡ accepted_with 6 1 7 3
 d_accepted = ap (λ (l : List Seen). (seen_d l).check) readings_hold
 
-d_first : first_d.answer ≡ Finished 1 6 no_step
+d_first : first_d.answer ≡ finished_with 1 6 no_step
 d_first = ap (λ (l : List Seen). (step_at 0 any_step (seen_d l).steps).answer) readings_hold
 
-d_second : second_d.answer ≡ Finished 1 7 no_step
+d_second : second_d.answer ≡ finished_with 1 7 no_step
 d_second = ap (λ (l : List Seen). (step_at 1 any_step (seen_d l).steps).answer) readings_hold
 
-d_ran : (run_call switching start_d records_d room_d).answer ≡ Finished 4 26 no_step
+d_ran : (run_call switching start_d records_d room_d).answer ≡ finished_with 4 26 no_step
 d_ran = ap (λ (l : List Seen). (seen_d l).run) readings_hold
 
 d_output : (run_call switching start_d records_d room_d).output ≡ row_d.sight.output
 d_output = ap (λ (l : List Seen). (seen_d l).output) readings_hold
 
-w_accepted : check_call doubling ≡ Accepted 6 0 10 3
+w_accepted : check_call doubling ≡ accepted_with 6 0 10 3
 w_accepted = ap (λ (l : List Seen). (seen_w l).check) readings_hold
 
-w_first : first_w.answer ≡ Finished 1 10 no_step
+w_first : first_w.answer ≡ finished_with 1 10 no_step
 w_first = ap (λ (l : List Seen). (step_at 0 any_step (seen_w l).steps).answer) readings_hold
 
-w_second : second_w.answer ≡ Finished 1 10 0
+w_second : second_w.answer ≡ finished_with 1 10 0
 w_second = ap (λ (l : List Seen). (step_at 1 any_step (seen_w l).steps).answer) readings_hold
 
 -- They are lists of bytes, and the states are states.
@@ -240,25 +239,25 @@ state_w1 : State doubling first_w.state
 state_w1 = on_w.run_leaves start_w (measured 0 5) room state_w near
 
 -- A check that refuses all, for whatever reasons; and one that accepts all.
-accepting : (p : Bytes) (count cells most type : ℕ) → check_call p ≡ Accepted count cells most type → Accepts p
+accepting : (p : Bytes) (count cells most type : ℕ) → check_call p ≡ accepted_with count cells most type → Accepts p
 accepting p count cells most type e = record { count = count; cells = cells; most = most; type = type; answer = e }
 
-pub no_refusing_checks : {call : Bytes → Checked} → ChecksSo call → ((p : Bytes) → Accepting (call p) → ⊥) → ⊥
+pub no_refusing_checks : {call : Bytes → CheckAnswer} → ChecksSo call → ((p : Bytes) → Accepting (call p) → ⊥) → ⊥
 no_refusing_checks c wrong =
     wrong (counting 0) ((c.meets (counting 0) bytes_a).exactly.if₀
     ((accepted_exactly (counting 0)).by_sentences.only_if (accepting (counting 0) 8 1 13 3 a_accepted)))
 
-c_refused : check_call selfish ≡ Checked.Refused (NotReady 4)
+c_refused : check_call selfish ≡ Err (NotReady 4)
 c_refused = ap (λ (l : List Seen). (seen_at 2 row_a.sight l).check) readings_hold
 
 bytes_c : Small selfish
 unfolding all_small ◌and◌ bytes_of check_of weighed
 bytes_c = small_of selfish refl
 
-pub no_accepting_checks : {call : Bytes → Checked} → ChecksSo call → ((p : Bytes) → Accepting (call p)) → ⊥
+pub no_accepting_checks : {call : Bytes → CheckAnswer} → ChecksSo call → ((p : Bytes) → Accepting (call p)) → ⊥
 no_accepting_checks c wrong =
     let a = (accepted_exactly selfish).by_sentences.if₀ ((c.meets selfish bytes_c).exactly.only_if (wrong selfish)) in
-    let e : Checked.Refused (NotReady 4) ≡ Accepted a.count a.cells a.most a.type = sym c_refused ∙ a.answer in
+    let e : Err (NotReady 4) ≡ accepted_with a.count a.cells a.most a.type = sym c_refused ∙ a.answer in
     let z : ◌≡◌ {A = ℕ} 0 1 = cc in omega arith
 
 -- A run that keeps the demands, on these rows.
@@ -285,13 +284,13 @@ module _ {call : Bytes → Bytes → Bytes → Bytes → RunOutcome} (c : KeepsD
   is_w2 = kept_is c doubling first_w.state (measured 0 1073741824) room bytes_w state_w1.bytes full_scale
 
   -- A run that makes no step, whatever reason it gives: one that refuses all.
-  pub no_refusing_runs : ((p st recs out : Bytes) (s w m : ℕ) → 1 ≤ s → (call p st recs out).answer ≡ Finished s w m → ⊥) → ⊥
+  pub no_refusing_runs : ((p st recs out : Bytes) (s w m : ℕ) → 1 ≤ s → (call p st recs out).answer ≡ finished_with s w m → ⊥) → ⊥
   no_refusing_runs wrong =
       wrong (counting 0) start_a (quiet 0) room 1 13 no_step (omega arith) (ap (λ (o : RunOutcome). o.answer) is_a ∙ a_made)
 
   -- One fixed value, or one that goes by the program alone, wherever a step is made.
   pub no_one_value : (v : Bytes → Value)
-      → ((p st rec out : Bytes) (w m : ℕ) → (call p st rec out).answer ≡ Finished 1 w m → shown 0 (call p st rec out).output ≡ v p) → ⊥
+      → ((p st rec out : Bytes) (w m : ℕ) → (call p st rec out).answer ≡ finished_with 1 w m → shown 0 (call p st rec out).output ≡ v p) → ⊥
   no_one_value v wrong =
       let first : shown 0 first_a.output ≡ v (counting 0)
       = sym (ap (λ (o : RunOutcome). shown 0 o.output) is_a)
@@ -303,7 +302,7 @@ module _ {call : Bytes → Bytes → Bytes → Bytes → RunOutcome} (c : KeepsD
       let z : ◌≡◌ {A = ℕ} 0 1 = cc in omega arith
 
   -- A step that writes no state, wherever it is made.
-  pub no_unwritten_state : ((p st rec out : Bytes) (w m : ℕ) → (call p st rec out).answer ≡ Finished 1 w m → (call p st rec out).state ≡ st) → ⊥
+  pub no_unwritten_state : ((p st rec out : Bytes) (w m : ℕ) → (call p st rec out).answer ≡ finished_with 1 w m → (call p st rec out).state ≡ st) → ⊥
   no_unwritten_state wrong =
       let same : second_a.state ≡ first_a.state
       = sym (ap (λ (o : RunOutcome). o.state) is_a2)
@@ -313,7 +312,7 @@ module _ {call : Bytes → Bytes → Bytes → Bytes → RunOutcome} (c : KeepsD
       let z : ◌≡◌ {A = ℕ} 1 2 = cc in omega arith
 
   -- A run that works its first record and repeats it: where two steps or more are made, the first two values are equal.
-  pub no_repeating : ((p st recs out : Bytes) (s w m : ℕ) → 2 ≤ s → (call p st recs out).answer ≡ Finished s w m
+  pub no_repeating : ((p st recs out : Bytes) (s w m : ℕ) → 2 ≤ s → (call p st recs out).answer ≡ finished_with s w m
       → shown 0 (call p st recs out).output ≡ shown 1 (call p st recs out).output) → ⊥
   unfolding unpacked value_from is_plain type_in present_in word_in ◌and◌ u64_at u32_at u16_at byte_at bytes_of value_bytes packed
   no_repeating wrong =
@@ -326,21 +325,21 @@ module _ {call : Bytes → Bytes → Bytes → Bytes → RunOutcome} (c : KeepsD
 
   -- An invented work figure: one that goes by the program and the number of steps, as the bound does; and any other than the rules' in row A.
   pub no_invented_work : (figure : Bytes → ℕ → ℕ)
-      → ((p st recs out : Bytes) (s w m : ℕ) → (call p st recs out).answer ≡ Finished s w m → w ≡ figure p s) → ⊥
+      → ((p st recs out : Bytes) (s w m : ℕ) → (call p st recs out).answer ≡ finished_with s w m → w ≡ figure p s) → ⊥
   no_invented_work figure wrong =
       let six : 6 ≡ figure switching 1 = wrong switching start_d (event 0 5) room 1 6 no_step (ap (λ (o : RunOutcome). o.answer) is_d1 ∙ d_first) in
       let seven : 7 ≡ figure switching 1
       = wrong switching first_d.state (quiet 1) room 1 7 no_step (ap (λ (o : RunOutcome). o.answer) is_d2 ∙ d_second) in
       omega arith
 
-  pub no_other_work : (w m : ℕ) → (w ≡ 13 → ⊥) → (call (counting 0) start_a (quiet 0) room).answer ≡ Finished 1 w m → ⊥
+  pub no_other_work : (w m : ℕ) → (w ≡ 13 → ⊥) → (call (counting 0) start_a (quiet 0) room).answer ≡ finished_with 1 w m → ⊥
   no_other_work w m other wrong =
-      let e : Finished 1 w m ≡ Finished 1 13 no_step = sym wrong ∙ ap (λ (o : RunOutcome). o.answer) is_a ∙ a_made in
-      other cc
+      let e : finished_with 1 w m ≡ finished_with 1 13 no_step = sym wrong ∙ ap (λ (o : RunOutcome). o.answer) is_a ∙ a_made in
+      other (same_finished e).1
 
   -- An invented wrapped step: one that goes by the program, the number of steps and the work. So none answers 65535 always, and none the first step always.
   pub no_invented_mark : (figure : Bytes → ℕ → ℕ → ℕ)
-      → ((p st recs out : Bytes) (s w m : ℕ) → (call p st recs out).answer ≡ Finished s w m → m ≡ figure p s w) → ⊥
+      → ((p st recs out : Bytes) (s w m : ℕ) → (call p st recs out).answer ≡ finished_with s w m → m ≡ figure p s w) → ⊥
   no_invented_mark figure wrong =
       let unmarked : no_step ≡ figure doubling 1 10
       = wrong doubling start_w (measured 0 5) room 1 10 no_step (ap (λ (o : RunOutcome). o.answer) is_w1 ∙ w_first) in

@@ -1,13 +1,13 @@
 -- A check and a run that keep the demands, whatever bytes they are lent.
 -- Assumes nothing: these are definitions.
+use Rattle.rules.specs.Verdicts.{CheckAnswer}
 use Rattle.rules.specs.Bytes.{Bytes}
 use Rattle.rules.specs.Calls.{RunOutcome}
-use Rattle.rules.specs.declared.Checked.{Checked}
 use Rattle.promises.specs.Small.{Small}
 use Rattle.mission.specs.Mission.{CheckDemands, RunDemands}
 
 -- Check takes a program to an answer.
-pub record ChecksSo (call : Bytes → Checked) : Type 0 where
+pub record ChecksSo (call : Bytes → CheckAnswer) : Type 0 where
   pub meets : (p : Bytes) → Small p → CheckDemands p (call p)
 
 -- Run takes what it is lent, lists of bytes, to an answer and the memory after.

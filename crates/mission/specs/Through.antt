@@ -1,15 +1,13 @@
 -- Steps by the published rules, one after the other.
 -- Assumes nothing: these are definitions.
-use Rattle.std.specs.Prelude.{◌≡◌, Bool, true, [], ◌++◌, ℕ, zero, suc, ◌+◌, ◌≤◌, eqb, length, if◌then◌else◌}
+use Rattle.std.specs.Prelude.{◌≡◌, Bool, true, [], ◌++◌, ℕ, zero, suc, ◌+◌, ◌≤◌, eqb, length, if◌then◌else◌, Ok, Err}
+use Rattle.rules.specs.Verdicts.{RunAnswer}
 use Rattle.rules.specs.Bytes.{Bytes, ◌and◌}
 use Rattle.rules.specs.Values.{type_of, value_bytes}
 use Rattle.rules.specs.Layout.{input_at}
 use Rattle.rules.specs.WellFormed.{well_formed}
 use Rattle.rules.specs.Calls.{record_verdict, no_step}
 use Rattle.rules.specs.declared.Value.{Value}
-use Rattle.rules.specs.declared.Verdict.TheVariants.{Fine}
-use Rattle.rules.specs.declared.Ran.{Ran}
-use Rattle.rules.specs.declared.Ran.TheVariants.{Finished}
 use Rattle.promises.specs.Valid.{Valid}
 use Rattle.published.specs.Steps.{Steps, size_of}
 use Rattle.published.specs.Marks.{left_of}
@@ -34,15 +32,15 @@ abbrev pub mark_after : ℕ → ℕ → Bool → ℕ
 mark_after mark k left = if eqb mark no_step and left then k else mark
 
 -- The first wrapped step that an answer names.
-unfoldable pub mark_in : Ran → ℕ
-mark_in (Finished steps work mark) = mark
-mark_in (Ran.Refused r work mark) = mark
+unfoldable pub mark_in : RunAnswer → ℕ
+mark_in (Ok end) = end.wrapped
+mark_in (Err stop) = stop.wrapped
 
 -- So many steps from the record numbered k on, none of them refused: from a state, what they show, 8 bytes each, their work summed, the first
 -- wrapped step before and after them, and the state after them.
 pub data Through (p recs : Bytes) (most type : ℕ) : ℕ → ℕ → Bytes → Bytes → ℕ → ℕ → ℕ → Bytes → Type 0 where
   at_end : {k mark : ℕ} {st : Bytes} → Through p recs most type zero k st [] 0 mark mark st
-  one_step : {n k : ℕ} {st st₁ st₂ shown : Bytes} {value : Value} {work total mark mark₁ : ℕ} {left : Bool} → record_verdict k st (input_at recs k) ≡ Fine
+  one_step : {n k : ℕ} {st st₁ st₂ shown : Bytes} {value : Value} {work total mark mark₁ : ℕ} {left : Bool} → record_verdict k st (input_at recs k) ≡ Ok tt
       → ByRules p (input_at recs k) st most type value st₁ work left
       → Through p recs most type n (suc k) st₁ shown total (mark_after mark k left) mark₁ st₂
       → Through p recs most type (suc n) k st (value_bytes value ++ shown) (work + total) mark mark₁ st₂

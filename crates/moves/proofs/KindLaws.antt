@@ -1,6 +1,6 @@
 -- An update of each kind, by what its parts did.
 -- Assumes nothing.
-use Rattle.std.specs.Prelude.{if◌then◌else◌}
+use Rattle.std.specs.Prelude.{if◌then◌else◌, Option, Some, None}
 use mathlib.Core.Path.{◌≡◌, refl, sym, ap, ◌∙◌}
 use mathlib.Core.Bool.{Bool, true, false}
 use Prim.Native.Nat.{ℕ, ◌≤◌}
@@ -23,22 +23,16 @@ use Rattle.recalled.specs.Recall.{Memory, Recalled, fill_s, leaving, on_outcome,
 use Rattle.rules.specs.declared.Node.{Node}
 use Rattle.rules.specs.declared.Tally.{Tally}
 use Rattle.rules.specs.declared.Value.{Value}
-use Rattle.rules.specs.declared.Opened.{Opened}
-use Rattle.rules.specs.declared.Opened.TheVariants.{Here, Gone, Amiss}
-use Rattle.rules.specs.declared.Moved.{Moved}
-use Rattle.rules.specs.declared.Evaluated.{Evaluated}
-use Rattle.rules.specs.declared.Evaluated.TheVariants.{Done, Stuck}
+use Rattle.rules.specs.Opened.{Opened, Here, Gone, Amiss}
+use Rattle.rules.specs.Moved.{Moved}
+use Rattle.rules.specs.Evaluated.{Evaluated, Done, Stuck}
 use Rattle.rules.proofs.Nodes.{signal_input, signal_time}
 use Rattle.rules.proofs.Signals.{less, ext_tree, delay_tree, let_tree, switch_tree, group_tree, group_kids}
-use Rattle.outcomes.specs.Combine.{parts_by, parts_of}
-use Rattle.outcomes.specs.declared.Event.{Event}
-use Rattle.outcomes.specs.declared.Event.TheVariants.{Occurs, Quiet}
-use Rattle.outcomes.specs.declared.Parts.TheVariants.{Maybe, Wrong}
-use Rattle.outcomes.proofs.Outcomes.{parts_here}
+use Rattle.outcomes.specs.Combine.{parts, parts_by, parts_of}
+use Rattle.outcomes.proofs.Outcomes.{parts_here, parts_same, parts_apart}
 use Rattle.noted.proofs.FillLaws.{few_fills}
 use Rattle.moves.specs.Outcomes.{count_in, tally_in, moved_in, calm_of}
 use Rattle.moves.specs.Parts.{in_switch, switched, in_group}
-use Rattle.moves.specs.declared.Calm.TheVariants.{Still, Broken}
 use Rattle.moves.proofs.OutcomeLaws.{then_still, then_broken}
 use Rattle.moves.proofs.BranchLaws.{branch_goes, missing_goes}
 
@@ -51,74 +45,64 @@ module _ {r E : Evaluated} (q : r ≡ E) (mem : Memory) where
 
   module _ {v : Value} {u : Tally} (d : r ≡ Done v u) (X : Value → Recalled) (f : Value → Bytes → Memory → Recalled) (m : Moved) (st : Bytes)
       {mem₁ : Memory} (x : leaving (moved m st) mem₁ ≡ X v) where
-    pub second_broken : calm_of m ≡ Broken → leaving Halted mem₁ ≡ on_outcome ruleᵘ (withᵐ E mem λ a. thenᵐ (X a) (f a))
+    pub second_broken : calm_of m ≡ None → leaving Halted mem₁ ≡ on_outcome ruleᵘ (withᵐ E mem λ a. thenᵐ (X a) (f a))
     unfolding withᵐ on_outcome ruleᵘ afterᵘ
     second_broken c = rw (← q, d, ← x, then_broken m st mem₁ (f v) c)
 
-    pub both_go : {w : Tally} → calm_of m ≡ Still w
+    pub both_go : {w : Tally} → calm_of m ≡ Some w
         → on_outcome ruleᵘ (on_outcome (afterᵘ u) (on_outcome (afterᵘ w) (f v st mem₁))) ≡ on_outcome ruleᵘ (withᵐ E mem λ a. thenᵐ (X a) (f a))
     unfolding withᵐ
     both_go c = rw (← q, d, ← x, then_still m st mem₁ (f v) c)
-
--- No constructor is another.
-pub wrong_maybe : {e : Event} {w : Tally} → Wrong ≡ Maybe e w → ⊥
-wrong_maybe e = let z : ◌≡◌ {A = ℕ} 0 1 = cc in omega arith
-
-pub maybe_wrong : {e : Event} {w : Tally} → Maybe e w ≡ Wrong → ⊥
-maybe_wrong e = let z : ◌≡◌ {A = ℕ} 0 1 = cc in omega arith
-
-pub occurs_quiet : {v : ℕ} {w u : Tally} → Maybe (Occurs v) u ≡ Maybe Quiet w → ⊥
-occurs_quiet e = let z : ◌≡◌ {A = ℕ} 0 1 = cc in omega arith
 
 -- A switch's event: no maybe, present, or absent.
 module _ (mem : Memory) (X : Recalled) (C : Bytes → Value → Updated) (Q : Bytes → Memory → Recalled) where
   on : Opened → Recalled
   on o = eventᵐ o mem (thenᵐ X λ st m. on_eventᵐ o m (λ v. C st v) (Q st m))
 
-  wrong_by : (o : Opened) (u : Tally) → parts_by o u ≡ Wrong → on_outcome (afterᵘ u) (on o) ≡ leaving Halted mem
+  wrong_by : (o : Opened) (u : Tally) → parts_by o u ≡ None → on_outcome (afterᵘ u) (on o) ≡ leaving Halted mem
   unfolding parts_by on eventᵐ on_outcome afterᵘ
-  wrong_by (Here v) u e = absurd (maybe_wrong e)
-  wrong_by Gone u e = absurd (maybe_wrong e)
+  wrong_by (Here v) u e = cc
+  wrong_by Gone u e = cc
   wrong_by Amiss u e = refl
 
-  event_wrong : (r : Evaluated) → parts_of r ≡ Wrong → withᵐ r mem (λ a. on (opened a)) ≡ leaving Halted mem
+  event_wrong : (r : Evaluated) → parts_of r ≡ None → withᵐ r mem (λ a. on (opened a)) ≡ leaving Halted mem
   unfolding parts_of withᵐ
   event_wrong (Done v u) e = wrong_by (opened v) u e
   event_wrong Stuck e = refl
 
-  event_here : (r : Evaluated) {v : ℕ} {u : Tally} → parts_of r ≡ Maybe (Occurs v) u
+  event_here : (r : Evaluated) {v : ℕ} {u : Tally} → parts_of r ≡ parts (Some v) u
       → withᵐ r mem (λ a. on (opened a)) ≡ on_outcome (afterᵘ u) (thenᵐ X λ st m. leaving (C st (unpacked v)) m)
   unfolding parts_of withᵐ on eventᵐ on_eventᵐ
   event_here (Done a u₀) e = let k = parts_here a u₀ e in rw (k.0, k.1)
-  event_here Stuck e = absurd (wrong_maybe e)
+  event_here Stuck e = cc
 
-  gone_by : (o : Opened) (u₀ : Tally) {u : Tally} → parts_by o u₀ ≡ Maybe Quiet u → on_outcome (afterᵘ u₀) (on o) ≡ on_outcome (afterᵘ u) (thenᵐ X λ st m. Q st m)
+  gone_by : (o : Opened) (u₀ : Tally) {u : Tally} → parts_by o u₀ ≡ parts None u → on_outcome (afterᵘ u₀) (on o) ≡ on_outcome (afterᵘ u) (thenᵐ X λ st m. Q st m)
   unfolding parts_by on eventᵐ on_eventᵐ
-  gone_by (Here v) u₀ e = absurd (occurs_quiet e)
-  gone_by Gone u₀ {u} e = let b : u₀ ≡ u = cc in λ i. on_outcome (afterᵘ (b i)) (thenᵐ X λ st m. Q st m)
-  gone_by Amiss u₀ e = absurd (wrong_maybe e)
+  gone_by (Here v) u₀ e = absurd (parts_apart e)
+  gone_by Gone u₀ {u} e = let b : u₀ ≡ u = (parts_same e).1 in λ i. on_outcome (afterᵘ (b i)) (thenᵐ X λ st m. Q st m)
+  gone_by Amiss u₀ e = cc
 
-  event_gone : (r : Evaluated) {u : Tally} → parts_of r ≡ Maybe Quiet u → withᵐ r mem (λ a. on (opened a)) ≡ on_outcome (afterᵘ u) (thenᵐ X λ st m. Q st m)
+  event_gone : (r : Evaluated) {u : Tally} → parts_of r ≡ parts None u → withᵐ r mem (λ a. on (opened a)) ≡ on_outcome (afterᵘ u) (thenᵐ X λ st m. Q st m)
   unfolding parts_of withᵐ
   event_gone (Done v u) e = gone_by (opened v) u e
-  event_gone Stuck e = absurd (wrong_maybe e)
+  event_gone Stuck e = cc
 
   -- Where the event's update does not stay, nothing goes on.
-  module _ (m : Moved) (st : Bytes) {mem₁ : Memory} (x : leaving (moved m st) mem₁ ≡ X) (c : calm_of m ≡ Broken) where
+  module _ (m : Moved) (st : Bytes) {mem₁ : Memory} (x : leaving (moved m st) mem₁ ≡ X) (c : calm_of m ≡ None) where
     breaks : (u : Tally) (f : Bytes → Memory → Recalled) → on_outcome (afterᵘ u) (thenᵐ X f) ≡ leaving Halted mem₁
     unfolding on_outcome afterᵘ
     breaks u f = ap (λ (y : Recalled). on_outcome (afterᵘ u) (thenᵐ y f)) (sym x) ∙ ap (on_outcome (afterᵘ u)) (then_broken m st mem₁ f c)
 
-    broken_by : (o : Opened) (u₀ : Tally) {e : Event} {u : Tally} → parts_by o u₀ ≡ Maybe e u → on_outcome (afterᵘ u₀) (on o) ≡ leaving Halted mem₁
+    broken_by : (o : Opened) (u₀ : Tally) {e : Option ℕ} {u : Tally} → parts_by o u₀ ≡ parts e u → on_outcome (afterᵘ u₀) (on o) ≡ leaving Halted mem₁
     unfolding parts_by on eventᵐ
     broken_by (Here v) u₀ e = breaks u₀ _
     broken_by Gone u₀ e = breaks u₀ _
-    broken_by Amiss u₀ e = absurd (wrong_maybe e)
+    broken_by Amiss u₀ e = cc
 
-    event_broken : (r : Evaluated) {e : Event} {u : Tally} → parts_of r ≡ Maybe e u → withᵐ r mem (λ a. on (opened a)) ≡ leaving Halted mem₁
+    event_broken : (r : Evaluated) {e : Option ℕ} {u : Tally} → parts_of r ≡ parts e u → withᵐ r mem (λ a. on (opened a)) ≡ leaving Halted mem₁
     unfolding parts_of withᵐ
     event_broken (Done v u) e = broken_by (opened v) u e
-    event_broken Stuck e = absurd (wrong_maybe e)
+    event_broken Stuck e = cc
 
 -- By the content m of a cell: zeros, or not.
 module _ {A : Type 0} (st : Bytes) {k k' m : ℕ} (c : m ≡ cell st k') (q : k' ≡ k) {x : A} (a b : A) where
@@ -187,13 +171,13 @@ module _ (p : Bytes) (i : ℕ) (w : NodeOf is_signal p i) {n : Node} (f : IsNode
       delayed : leaving (moved m st₁) mem₂ ≡ recall_s rec env (signal_at p n.a) st (fill_of n.a)
       delayed = x ∙ λ j. recall_s rec (h j) (signal_at p n.a) st (g j)
 
-      pub delay_broken : calm_of m ≡ Broken → leaving Halted mem₂ ≡ recall_s rec env (signal_at p i) st mem
+      pub delay_broken : calm_of m ≡ None → leaving Halted mem₂ ≡ recall_s rec env (signal_at p i) st mem
       delay_broken c =
           second_broken q (fill_of n.a) d (λ a. recall_s rec env (signal_at p n.a) st (fill_of n.a))
           (λ a s y. leaving (leave (hold s (cells_before p i) a)) y) m st₁ delayed c
           ∙ sym (delay_law k)
 
-      pub delay_done : {w : Tally} → calm_of m ≡ Still w → {c : ℕ} {st₂ : Bytes} → st₂ ≡ hold st₁ c v → c ≡ cells_before p i
+      pub delay_done : {w : Tally} → calm_of m ≡ Some w → {c : ℕ} {st₂ : Bytes} → st₂ ≡ hold st₁ c v → c ≡ cells_before p i
           → {t : Updated} → t ≡ ruleᵘ (afterᵘ u (afterᵘ w (leave st₂))) → leaving t mem₂ ≡ recall_s rec env (signal_at p i) st mem
       unfolding on_outcome
       delay_done {w} c s e z =
@@ -209,13 +193,13 @@ module _ (p : Bytes) (i : ℕ) (w : NodeOf is_signal p i) {n : Node} (f : IsNode
 
     module _ {v : Value} {u : Tally} (d : mem i ≡ Done v u) (m : Moved) (st₁ : Bytes) {mem₁ : Memory}
         (x : leaving (moved m st₁) mem₁ ≡ recall_s rec (bind env i v) (signal_at p n.a) st mem) where
-      pub let_broken : calm_of m ≡ Broken → leaving Halted mem₁ ≡ recall_s rec env (signal_at p i) st mem
+      pub let_broken : calm_of m ≡ None → leaving Halted mem₁ ≡ recall_s rec env (signal_at p i) st mem
       let_broken c =
           second_broken refl mem d (λ a. recall_s rec (bind env i a) (signal_at p n.a) st mem)
           (λ a s y. recall_s rec (bind env i a) (signal_at p n.b) s y) m st₁ x c
           ∙ sym (let_law k)
 
-      pub let_done : {w : Tally} → calm_of m ≡ Still w → {env₁ : Env} → env₁ ≡ env → {y : Updated} {mem₂ : Memory}
+      pub let_done : {w : Tally} → calm_of m ≡ Some w → {env₁ : Env} → env₁ ≡ env → {y : Updated} {mem₂ : Memory}
           → leaving y mem₂ ≡ recall_s rec (bind env₁ i v) (signal_at p n.b) st₁ mem₁
           → {t : Updated} → t ≡ ruleᵘ (afterᵘ u (afterᵘ w y)) → leaving t mem₂ ≡ recall_s rec env (signal_at p i) st mem
       unfolding on_outcome
@@ -238,7 +222,7 @@ module _ (p : Bytes) (i : ℕ) (w : NodeOf is_signal p i) {n : Node} (f : IsNode
         switch_law k
         ∙ λ j. on_outcome ruleᵘ (withᵐ (sym q j) (sym g j) λ a. on (sym g j) (recall_s rec env (signal_at p n.b) st (sym g j)) C Q (opened a))
 
-    pub switch_wrong : parts_of r ≡ Wrong → leaving Halted mem₁ ≡ recall_s rec env (signal_at p i) st mem
+    pub switch_wrong : parts_of r ≡ None → leaving Halted mem₁ ≡ recall_s rec env (signal_at p i) st mem
     unfolding on_outcome ruleᵘ afterᵘ
     switch_wrong d = sym (by_event ∙ ap (on_outcome ruleᵘ) (event_wrong mem₁ E C Q r d))
 
@@ -248,21 +232,21 @@ module _ (p : Bytes) (i : ℕ) (w : NodeOf is_signal p i) {n : Node} (f : IsNode
       unfolding E
       event_is = x ∙ ap (λ (y : Env). recall_s rec y (signal_at p n.b) st mem₁) h
 
-      pub switch_broken : {e : Event} {u : Tally} → parts_of r ≡ Maybe e u → calm_of m ≡ Broken → leaving Halted mem₂ ≡ recall_s rec env (signal_at p i) st mem
+      pub switch_broken : {e : Option ℕ} {u : Tally} → parts_of r ≡ parts e u → calm_of m ≡ None → leaving Halted mem₂ ≡ recall_s rec env (signal_at p i) st mem
       unfolding on_outcome ruleᵘ afterᵘ
       switch_broken d c = sym (by_event ∙ ap (on_outcome ruleᵘ) (event_broken mem₁ E C Q m st₁ event_is c r d))
 
-      after_event : {w : Tally} → calm_of m ≡ Still w → (f : Bytes → Memory → Recalled) → thenᵐ E f ≡ on_outcome (afterᵘ w) (f st₁ mem₂)
+      after_event : {w : Tally} → calm_of m ≡ Some w → (f : Bytes → Memory → Recalled) → thenᵐ E f ≡ on_outcome (afterᵘ w) (f st₁ mem₂)
       after_event c f = ap (λ (y : Recalled). thenᵐ y f) (sym event_is) ∙ then_still m st₁ mem₂ f c
 
-      pub switch_caught : {v : ℕ} {u : Tally} → parts_of r ≡ Maybe (Occurs v) u → {w : Tally} → calm_of m ≡ Still w → {st₂ : Bytes} → st₂ ≡ switched p i st₁ (unpacked v)
+      pub switch_caught : {v : ℕ} {u : Tally} → parts_of r ≡ parts (Some v) u → {w : Tally} → calm_of m ≡ Some w → {st₂ : Bytes} → st₂ ≡ switched p i st₁ (unpacked v)
           → {t : Updated} → t ≡ ruleᵘ (afterᵘ u (afterᵘ w (leave st₂))) → leaving t mem₂ ≡ recall_s rec env (signal_at p i) st mem
       unfolding C on_outcome
       switch_caught {v} {u} d {w} c s z =
           ap (λ (o : Updated). leaving o mem₂) (z ∙ ap (λ (b : Bytes). ruleᵘ (afterᵘ u (afterᵘ w (leave b)))) s)
           ∙ sym (by_event ∙ ap (on_outcome ruleᵘ) (event_here mem₁ E C Q r d ∙ ap (on_outcome (afterᵘ u)) (after_event c λ b y. leaving (C b (unpacked v)) y)))
 
-      pub switch_quiet : {u : Tally} → parts_of r ≡ Maybe Quiet u → {w : Tally} → calm_of m ≡ Still w → {env₂ : Env} → env₂ ≡ env
+      pub switch_quiet : {u : Tally} → parts_of r ≡ parts None u → {w : Tally} → calm_of m ≡ Some w → {env₂ : Env} → env₂ ≡ env
           → {o : Updated} {mem₃ : Memory} → leaving o mem₃ ≡ in_switch p i rec env₂ st₁ mem₂ → {y : Updated} → y ≡ stays o
           → {t : Updated} → t ≡ ruleᵘ (afterᵘ u (afterᵘ w y)) → leaving t mem₃ ≡ recall_s rec env (signal_at p i) st mem
       unfolding Q on_outcome

@@ -1,6 +1,6 @@
 -- The number of an update's outcome: the outcome by its size, its value's 8 bytes, and so much more counted.
 -- Assumes nothing.
-use Rattle.std.specs.Prelude.{if◌then◌else◌}
+use Rattle.std.specs.Prelude.{if◌then◌else◌, Some, None}
 use mathlib.Core.Path.{◌≡◌, refl, sym, ap, ◌∙◌}
 use mathlib.Core.Bool.{Bool, true, false, true≢false, ◌||◌}
 use Prim.Native.Nat.{ℕ, ◌+◌, ◌*◌, ◌/◌, ◌%◌, ◌<◌, ◌≤◌}
@@ -13,8 +13,7 @@ use Rattle.rules.specs.Work.{Updated, Next, Jump, Halted, moved, stays, leave, n
 use Rattle.rules.specs.declared.Value.{Value}
 use Rattle.rules.specs.declared.Value.TheVariants.{Plain}
 use Rattle.rules.specs.declared.Tally.{Tally}
-use Rattle.rules.specs.declared.Moved.{Moved}
-use Rattle.rules.specs.declared.Moved.TheVariants.{Stay}
+use Rattle.rules.specs.Moved.{Moved, Stay}
 use Rattle.rules.proofs.Static.{and_both}
 use Rattle.outcomes.specs.Outcome.{IsValue}
 use Rattle.outcomes.proofs.Numbers.{sort_of, plain_in, plain_known, other_known, exact_plain, exact_present}
@@ -22,7 +21,6 @@ use Rattle.outcomes.proofs.Combining.{plain_most}
 use Rattle.outcomes.proofs.Tallies.{counted, same_tally, same_leb, no_more, plus_assoc}
 use Rattle.current.specs.Current.{shortly}
 use Rattle.moves.specs.Outcomes.{work_of, calm_of, count_in, tally_in, target_in, jump_value, moved_in}
-use Rattle.moves.specs.declared.Calm.TheVariants.{Still, Broken}
 
 -- The outcome of 0, of another number below 1,048,576, and of one from there on.
 pub moved_stuck : moved_in 0 ≡ Moved.Stuck
@@ -252,13 +250,13 @@ caught_is m h =
 
 -- A number that stays or is stuck, and a jump: what is settled, and what no jump leaves.
 module _ (m : ℕ) where
-  pub settled_stays : 0 < m → m < 1048576 → Still (record { work = m % 524288; wrapped = leb 524288 m }) ≡ calm_of (moved_in m)
+  pub settled_stays : 0 < m → m < 1048576 → Some (record { work = m % 524288; wrapped = leb 524288 m }) ≡ calm_of (moved_in m)
   unfolding calm_of tally_in count_in
   settled_stays n h =
       let z : m ≡ m % 1048576 = omega arith in
-      rw (moved_stays m n h) (ap Still (same_tally (ap (λ (x : ℕ). x % 524288) z) (ap (λ (x : ℕ). leb 524288 x) z)))
+      rw (moved_stays m n h) (ap Some (same_tally (ap (λ (x : ℕ). x % 524288) z) (ap (λ (x : ℕ). leb 524288 x) z)))
 
-  pub settled_jumps : 1048576 ≤ m → Broken ≡ calm_of (moved_in m)
+  pub settled_jumps : 1048576 ≤ m → None ≡ calm_of (moved_in m)
   unfolding calm_of
   settled_jumps h = rw (moved_jumps m h)
 

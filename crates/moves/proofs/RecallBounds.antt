@@ -20,12 +20,9 @@ use Rattle.rules.specs.Work.{Updated, Next, Jump, Halted, stays, ruleᵘ, ◌wit
 use Rattle.rules.specs.Evaluate.{Env, opened, eval_s}
 use Rattle.rules.specs.Update.{on_occurrence}
 use Rattle.rules.specs.declared.Value.{Value}
-use Rattle.rules.specs.declared.Opened.{Opened}
-use Rattle.rules.specs.declared.Opened.TheVariants.{Here, Gone, Amiss}
-use Rattle.rules.specs.declared.Evaluated.{Evaluated}
-use Rattle.rules.specs.declared.Evaluated.TheVariants.{Done, Stuck}
-use Rattle.rules.specs.declared.Occurrence.{Occurrence}
-use Rattle.rules.specs.declared.Occurrence.TheVariants.{Took, Quiet}
+use Rattle.rules.specs.Opened.{Opened, Here, Gone, Amiss}
+use Rattle.rules.specs.Evaluated.{Evaluated, Done, Stuck}
+use Rattle.rules.specs.Occurrence.{Occurrence, Took, Quiet}
 use Rattle.rules.proofs.Nodes.{signal_input, signal_time}
 use Rattle.rules.proofs.Signals.{ext_tree, delay_kid, delay_tree, let_kids, let_tree, switch_kids, switch_tree, group_kids, group_tree, until_kids, until_tree, branch_kid, branch_next, branch_end, branch_on, case_kid, case_next, case_end, case_on}
 use Rattle.rules.proofs.ByKind.{SignalKind, is_input, is_time, is_ext, is_delay, is_let, is_switch, is_group, is_until, signal_kind, choose}

@@ -1,7 +1,7 @@
 -- No count is too large: each part's is at most its bound, and the sum of the parts' is below what a number's count may be, since the bound of
 -- the whole is.
 -- Assumes nothing.
-use Rattle.std.specs.Prelude.{if◌then◌else◌}
+use Rattle.std.specs.Prelude.{if◌then◌else◌, Option, Some}
 use mathlib.Core.Path.{◌≡◌, refl, sym, ap, ◌∙◌}
 use mathlib.Core.Bool.{Bool, true, false}
 use mathlib.Core.List.{List}
@@ -21,22 +21,17 @@ use Rattle.rules.specs.Evaluate.{Env, bind, eval_s}
 use Rattle.rules.specs.declared.Node.{Node}
 use Rattle.rules.specs.declared.Tally.{Tally}
 use Rattle.rules.specs.declared.Value.{Value}
-use Rattle.rules.specs.declared.Moved.{Moved}
-use Rattle.rules.specs.declared.Moved.TheVariants.{Stay}
-use Rattle.rules.specs.declared.Evaluated.{Evaluated}
-use Rattle.rules.specs.declared.Evaluated.TheVariants.{Done}
+use Rattle.rules.specs.Moved.{Moved, Stay}
+use Rattle.rules.specs.Evaluated.{Evaluated, Done}
 use Rattle.rules.proofs.Signals.{delay_tree, let_tree, switch_kids, switch_tree, group_tree, until_tree, case_law, case_on}
 use Rattle.rules.proofs.Within.{Withinᵘ, eval_s_within}
 use Rattle.rules.proofs.Branches.{found}
 use Rattle.current.specs.Current.{leaves}
 use Rattle.recalled.specs.Recall.{Memory, Recalled, leaving, recall_s}
 use Rattle.noted.specs.Noted.{memory_in, Noted}
-use Rattle.outcomes.specs.Combine.{work_of as evalWork, parts_of}
-use Rattle.outcomes.specs.declared.Event.{Event}
-use Rattle.outcomes.specs.declared.Parts.TheVariants.{Maybe}
+use Rattle.outcomes.specs.Combine.{work_of as evalWork, parts, parts_of}
 use Rattle.outcomes.proofs.Outcomes.{work_within, take_work}
 use Rattle.moves.specs.Outcomes.{calm_of, count_in, moved_in}
-use Rattle.moves.specs.declared.Calm.TheVariants.{Still}
 use Rattle.moves.specs.Parts.{in_switch}
 use Rattle.moves.specs.Lent.{ReadyAs, CaseAs}
 use Rattle.moves.proofs.OutcomeLaws.{still_work, moved_within}
@@ -52,7 +47,7 @@ module _ (rec st : Bytes) (env : Env) (s : Signal) {r : Evaluated} (q : r ≡ ev
   pub done_work : {v : Value} {u : Tally} → r ≡ Done v u → u.work ≤ bound_s s
   done_work e = omega (arith, ap evalWork e, eval_work)
 
-  pub parts_work : {e : Event} {u : Tally} → parts_of r ≡ Maybe e u → u.work ≤ bound_s s
+  pub parts_work : {e : Option ℕ} {u : Tally} → parts_of r ≡ parts e u → u.work ≤ bound_s s
   parts_work e = omega (arith, take_work r e, eval_work)
 
 -- Of a let's definition, by the slot that it is noted in.
@@ -70,7 +65,7 @@ module _ {p : Bytes} {l : List ℕ} (i : ℕ) (w : NodeOf is_signal p i) (h : No
   pub number_work : count_in r ≤ bound_u (signal_at p i)
   number_work = number_within r st₁ q (recall_within i w h rec env st)
 
-  pub calm_work : {u : Tally} → calm_of (moved_in r) ≡ Still u → u.work ≤ bound_u (signal_at p i)
+  pub calm_work : {u : Tally} → calm_of (moved_in r) ≡ Some u → u.work ≤ bound_u (signal_at p i)
   calm_work c = omega (arith, still_work (moved_in r) c, count_of r, number_work)
 
 -- Of a switch's part that is current.
@@ -100,7 +95,7 @@ module _ {p : Bytes} {index : List ℕ} {s i : ℕ} {e : Env} {n : Node} where
   -- a let by what is noted of its definition, by the definition's update and by the body's count k, which is 0 before the body is updated
   pub let_sum : ReadyAs 5 p index s e i n → {l : List ℕ} → Noted p l → {v : Value} {u : Tally} → memory_in l i ≡ Done v u
       → (rec : Bytes) (env : Env) (st : Bytes) (x : ℕ) (st₁ : Bytes) {mem : Memory} → leaving (moved (moved_in x) st₁) mem ≡ recall_s rec env (signal_at p n.a) st (memory_in l)
-      → {w : Tally} → calm_of (moved_in x) ≡ Still w → {k : ℕ} → k ≤ bound_u (signal_at p n.b) → u.work + w.work + k < 524287
+      → {w : Tally} → calm_of (moved_in x) ≡ Some w → {k : ℕ} → k ≤ bound_u (signal_at p n.b) → u.work + w.work + k < 524287
   unfolding bound_u
   let_sum r {l} t d rec env st x st₁ q c h =
       let b = ap bound_u (let_tree p i r.ready.node r.kind) in

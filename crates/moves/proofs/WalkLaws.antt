@@ -1,6 +1,6 @@
 -- The walk over an until's cases, from case to case, and the until itself by its walk.
 -- Assumes nothing.
-use Rattle.std.specs.Prelude.{if◌then◌else◌}
+use Rattle.std.specs.Prelude.{if◌then◌else◌, Some, None}
 use mathlib.Core.Path.{◌≡◌, refl, sym, ap, ◌∙◌, subst}
 use mathlib.Core.Bool.{Bool, true, false}
 use mathlib.Core.List.{List}
@@ -26,31 +26,21 @@ use Rattle.rules.specs.declared.Node.{Node}
 use Rattle.rules.specs.declared.Tally.{Tally}
 use Rattle.rules.specs.declared.Value.{Value}
 use Rattle.rules.specs.declared.Value.TheVariants.{Plain, Absent, Present}
-use Rattle.rules.specs.declared.Opened.{Opened}
-use Rattle.rules.specs.declared.Opened.TheVariants.{Here, Gone, Amiss}
-use Rattle.rules.specs.declared.Moved.{Moved}
-use Rattle.rules.specs.declared.Moved.TheVariants.{Stay}
-use Rattle.rules.specs.declared.Evaluated.{Evaluated}
-use Rattle.rules.specs.declared.Evaluated.TheVariants.{Done, Stuck}
-use Rattle.rules.specs.declared.Occurrence.{Occurrence}
-use Rattle.rules.specs.declared.Occurrence.TheVariants.{Took, Quiet}
+use Rattle.rules.specs.Opened.{Opened, Here, Gone, Amiss}
+use Rattle.rules.specs.Moved.{Moved, Stay}
+use Rattle.rules.specs.Evaluated.{Evaluated, Done, Stuck}
+use Rattle.rules.specs.Occurrence.{Occurrence, Took, Quiet}
 use Rattle.rules.proofs.Nodes.{below_lt, below_ge}
 use Rattle.rules.proofs.Signals.{until_tree, case_law, case_next}
 use Rattle.rules.proofs.Within.{Withinᵘ}
-use Rattle.outcomes.specs.Combine.{parts_by, parts_of}
-use Rattle.outcomes.specs.declared.Event.{Event}
-use Rattle.outcomes.specs.declared.Event.TheVariants.{Occurs}
-use Rattle.outcomes.specs.declared.Parts.TheVariants.{Maybe, Wrong}
+use Rattle.outcomes.specs.Combine.{parts, parts_by, parts_of}
 use Rattle.outcomes.specs.Outcome.{IsValue}
-use Rattle.outcomes.proofs.Outcomes.{take_value, parts_here}
+use Rattle.outcomes.proofs.Outcomes.{take_value, parts_here, parts_same, parts_apart}
 use Rattle.outcomes.proofs.Tallies.{same_tally, plus_assoc}
 use Rattle.moves.specs.Outcomes.{work_of, calm_of, walked, on_walked, walked_on, next_cases}
-use Rattle.moves.specs.declared.Calm.TheVariants.{Still, Broken}
-use Rattle.moves.proofs.OutcomeLaws.{still_broken, broken_still, still_work, moved_within}
+use Rattle.moves.proofs.OutcomeLaws.{still_work, moved_within}
 use Rattle.moves.proofs.RecallBounds.{own_cases, noted_bounded, fill_c_bounded, occurrence_fine, recall_c_fine}
-use Rattle.moves.proofs.KindLaws.{wrong_maybe, maybe_wrong, occurs_quiet}
 
--- No constructor is another.
 amiss_here : {x : Value} → Amiss ≡ Here x → ⊥
 amiss_here e = let z : ◌≡◌ {A = ℕ} 0 1 = cc in omega arith
 
@@ -132,36 +122,36 @@ on_later u Occurrence.Stuck st m X = refl
 
 -- The first case, by its event: what it noted, and what all events up to the first present one did.
 module _ (target : ℕ) (F : Occurrence) (st : Bytes) (X : Memory → Recalled) (mem all : Memory) where
-  wrong_by : (o : Opened) (u : Tally) → parts_by o u ≡ Wrong
+  wrong_by : (o : Opened) (u : Tally) → parts_by o u ≡ None
       → on_occurrenceᵐ (occurs_if o u target F) st (past_if o mem all) (X (past_if o mem all)) ≡ leaving Halted mem
   unfolding parts_by occurs_if on_occurrenceᵐ past_if
-  wrong_by (Here v) u e = absurd (maybe_wrong e)
-  wrong_by Gone u e = absurd (maybe_wrong e)
+  wrong_by (Here v) u e = cc
+  wrong_by Gone u e = cc
   wrong_by Amiss u e = refl
 
-  case_wrong : (r : Evaluated) → parts_of r ≡ Wrong → on_occurrenceᵐ (occurs r target F) st (past r mem all) (X (past r mem all)) ≡ leaving Halted mem
+  case_wrong : (r : Evaluated) → parts_of r ≡ None → on_occurrenceᵐ (occurs r target F) st (past r mem all) (X (past r mem all)) ≡ leaving Halted mem
   unfolding parts_of occurs on_occurrenceᵐ past
   case_wrong (Done v u) e = wrong_by (opened v) u e
   case_wrong Stuck e = refl
 
-  case_here : (r : Evaluated) {v : ℕ} {u : Tally} → parts_of r ≡ Maybe (Occurs v) u
+  case_here : (r : Evaluated) {v : ℕ} {u : Tally} → parts_of r ≡ parts (Some v) u
       → on_occurrenceᵐ (occurs r target F) st (past r mem all) (X (past r mem all)) ≡ leaving (Jump target (unpacked v) st u) mem
   unfolding parts_of occurs occurs_if on_occurrenceᵐ past past_if
   case_here (Done a u₀) e = let k = parts_here a u₀ e in rw (k.0, k.1)
-  case_here Stuck e = absurd (wrong_maybe e)
+  case_here Stuck e = cc
 
-  gone_by : (o : Opened) (u₀ : Tally) {u : Tally} → parts_by o u₀ ≡ Maybe Event.Quiet u
+  gone_by : (o : Opened) (u₀ : Tally) {u : Tally} → parts_by o u₀ ≡ parts None u
       → on_occurrenceᵐ (occurs_if o u₀ target F) st (past_if o mem all) (X (past_if o mem all)) ≡ on_outcome (afterᵘ u) (on_occurrenceᵐ F st all (X all))
   unfolding parts_by occurs_if past_if
-  gone_by (Here v) u₀ e = absurd (occurs_quiet e)
-  gone_by Gone u₀ {u} e = let b : u₀ ≡ u = cc in on_later u₀ F st all (X all) ∙ ap (λ (x : Tally). on_outcome (afterᵘ x) (on_occurrenceᵐ F st all (X all))) b
-  gone_by Amiss u₀ e = absurd (wrong_maybe e)
+  gone_by (Here v) u₀ e = absurd (parts_apart e)
+  gone_by Gone u₀ {u} e = let b : u₀ ≡ u = (parts_same e).1 in on_later u₀ F st all (X all) ∙ ap (λ (x : Tally). on_outcome (afterᵘ x) (on_occurrenceᵐ F st all (X all))) b
+  gone_by Amiss u₀ e = cc
 
-  case_gone : (r : Evaluated) {u : Tally} → parts_of r ≡ Maybe Event.Quiet u
+  case_gone : (r : Evaluated) {u : Tally} → parts_of r ≡ parts None u
       → on_occurrenceᵐ (occurs r target F) st (past r mem all) (X (past r mem all)) ≡ on_outcome (afterᵘ u) (on_occurrenceᵐ F st all (X all))
   unfolding parts_of occurs past
   case_gone (Done v u) e = gone_by (opened v) u e
-  case_gone Stuck e = absurd (wrong_maybe e)
+  case_gone Stuck e = cc
 
 -- What a walk has counted, with the memory in slots, and what where it stays.
 pub walked_within : {p : Bytes} {l : List ℕ} (j : ℕ) → NodeOf is_case p j → Noted p l → (rec : Bytes) (env : Env) (st : Bytes)
@@ -177,7 +167,7 @@ module _ {p : Bytes} {l : List ℕ} (j : ℕ) (w : NodeOf is_case p j) (h : Note
   pub walk_count : work_of m ≤ bound_sc (cases_at p j) + bound_uc (cases_at p j)
   walk_count = moved_within m st₁ (ap (λ (x : Recalled). x.outcome) e) (walked_within j w h rec env st)
 
-  pub walk_still : {u : Tally} → calm_of m ≡ Still u → u.work ≤ bound_sc (cases_at p j) + bound_uc (cases_at p j)
+  pub walk_still : {u : Tally} → calm_of m ≡ Some u → u.work ≤ bound_sc (cases_at p j) + bound_uc (cases_at p j)
   walk_still {u} c = omega (arith, still_work m c, walk_count)
 
 -- What was counted after so much, where both together are within a bound.
@@ -188,18 +178,18 @@ rest_within u (Moved.Jump target v w) st h l = omega (arith, h.most)
 rest_within u Moved.Stuck st h l = omega (arith, l)
 
 -- A walk that does not stay leaves its result as it is, and one that does goes on.
-same_on : (m : Moved) (st : Bytes) (mem : Memory) (g : Bytes → Memory → Recalled) → calm_of m ≡ Broken → leaving (moved m st) mem ≡ walked_on (leaving (moved m st) mem) g
+same_on : (m : Moved) (st : Bytes) (mem : Memory) (g : Bytes → Memory → Recalled) → calm_of m ≡ None → leaving (moved m st) mem ≡ walked_on (leaving (moved m st) mem) g
 unfolding calm_of moved on_walked
-same_on (Stay w) st mem g e = absurd (still_broken e)
+same_on (Stay w) st mem g e = cc
 same_on (Moved.Jump target v w) st mem g e = refl
 same_on Moved.Stuck st mem g e = refl
 
-still_on : (m : Moved) (st : Bytes) (mem : Memory) (g : Bytes → Memory → Recalled) {w : Tally} → calm_of m ≡ Still w
+still_on : (m : Moved) (st : Bytes) (mem : Memory) (g : Bytes → Memory → Recalled) {w : Tally} → calm_of m ≡ Some w
     → on_outcome (afterᵘ w) (g st mem) ≡ walked_on (leaving (moved m st) mem) g
 unfolding calm_of moved on_walked
 still_on (Stay u) st mem g {w} e = let q : w ≡ u = cc in ap (λ (x : Tally). on_outcome (afterᵘ x) (g st mem)) q
-still_on (Moved.Jump target v w) st mem g e = absurd (broken_still e)
-still_on Moved.Stuck st mem g e = absurd (broken_still e)
+still_on (Moved.Jump target v w) st mem g e = cc
+still_on Moved.Stuck st mem g e = cc
 
 module _ (p : Bytes) (j : ℕ) (k : NodeOf is_case p j) {n : Node} (f : IsNode p j n) (rec : Bytes) (env : Env) (st : Bytes) (mem : Memory) where
   -- the event of case j, updated
@@ -233,23 +223,23 @@ module _ (p : Bytes) (j : ℕ) (k : NodeOf is_case p j) {n : Node} (f : IsNode p
         ∙ λ i. on_occurrenceᵐ (occurs (sym q i) (shortly (c_at p j)) F) st (past (sym q i) (sym g i) (fill_c rec st env (next_cases p j) (sym g i)))
         (X (past (sym q i) (sym g i) (fill_c rec st env (next_cases p j) (sym g i))))
 
-    pub walk_wrong : parts_of r ≡ Wrong → leaving Halted mem₁ ≡ walked rec env (cases_at p j) st mem
+    pub walk_wrong : parts_of r ≡ None → leaving Halted mem₁ ≡ walked rec env (cases_at p j) st mem
     walk_wrong d = sym (by_event ∙ case_wrong (shortly (c_at p j)) F st X mem₁ all r d)
 
-    pub walk_took : {v : ℕ} {u : Tally} → parts_of r ≡ Maybe (Occurs v) u → {y : Updated} → y ≡ Jump (shortly n.c) (unpacked v) st u
+    pub walk_took : {v : ℕ} {u : Tally} → parts_of r ≡ parts (Some v) u → {y : Updated} → y ≡ Jump (shortly n.c) (unpacked v) st u
         → leaving y mem₁ ≡ walked rec env (cases_at p j) st mem
     walk_took {v} {u} d e =
         ap (λ (y : Updated). leaving y mem₁) (e ∙ ap (λ (t : ℕ). Jump (shortly t) (unpacked v) st u) f.c_is)
         ∙ sym (by_event ∙ case_here (shortly (c_at p j)) F st X mem₁ all r d)
 
-    walk_gone : {u : Tally} → parts_of r ≡ Maybe Event.Quiet u
+    walk_gone : {u : Tally} → parts_of r ≡ parts None u
         → walked rec env (cases_at p j) st mem ≡ on_outcome (afterᵘ u) (walked_on (walked rec env (next_cases p j) st mem₁) (then_event env))
     unfolding F all X walked
     walk_gone {u} d =
         by_event ∙ case_gone (shortly (c_at p j)) F st X mem₁ all r d
         ∙ ap (on_outcome (afterᵘ u)) (on_walked_lem F (recall_c rec env (next_cases p j) st all) st all (then_event env) (events_calm rec env (next_cases p j) st all))
 
-    module _ {u : Tally} (d : parts_of r ≡ Maybe Event.Quiet u) {env₁ : Env} (h : env₁ ≡ env) (m : Moved) (st₁ : Bytes) {mem₂ : Memory}
+    module _ {u : Tally} (d : parts_of r ≡ parts None u) {env₁ : Env} (h : env₁ ≡ env) (m : Moved) (st₁ : Bytes) {mem₂ : Memory}
         (x : leaving (moved m st₁) mem₂ ≡ walked_on (walked rec env₁ (next_cases p j) st mem₁) (then_event env₁)) where
       all_after : walked rec env (cases_at p j) st mem ≡ leaving (afterᵘ u (moved m st₁)) mem₂
       unfolding on_outcome
@@ -281,10 +271,10 @@ module _ (p : Bytes) (j : ℕ) (k : NodeOf is_case p j) {n : Node} (f : IsNode p
     rest_is : (g : Bytes → Memory → Recalled) → walked_on (leaving (moved o st₁) mem₁) g ≡ walked_on (walked rec env (next_cases p j) st mem) g
     rest_is g = ap (λ (y : Recalled). walked_on y g) (x ∙ ap (λ (cs : Cases). walked rec env cs st mem) (next_is d))
 
-    pub broken_on : calm_of o ≡ Broken → leaving (moved o st₁) mem₁ ≡ walked_on (walked rec env (next_cases p j) st mem) (then_event env)
+    pub broken_on : calm_of o ≡ None → leaving (moved o st₁) mem₁ ≡ walked_on (walked rec env (next_cases p j) st mem) (then_event env)
     broken_on e = same_on o st₁ mem₁ (then_event env) e ∙ rest_is _
 
-    pub goes_on : {w : Tally} → calm_of o ≡ Still w → {env₁ : Env} → env₁ ≡ env → (m : Moved) (st₂ : Bytes) {mem₂ : Memory}
+    pub goes_on : {w : Tally} → calm_of o ≡ Some w → {env₁ : Env} → env₁ ≡ env → (m : Moved) (st₂ : Bytes) {mem₂ : Memory}
         → leaving (moved m st₂) mem₂ ≡ recall_s rec env₁ (signal_at p n.a) st₁ mem₁
         → {y : Updated} → y ≡ stays (moved m st₂) → {z : Updated} → z ≡ afterᵘ w y
         → leaving z mem₂ ≡ walked_on (walked rec env (next_cases p j) st mem) (then_event env)
@@ -311,12 +301,12 @@ module _ (p : Bytes) (i : ℕ) (k : NodeOf is_signal p i) {n : Node} (f : IsNode
     by_walk : on_outcome ruleᵘ (walked_on (leaving (moved o st₁) mem₁) (then_signal n.a)) ≡ recall_s rec env (signal_at p i) st mem
     by_walk = ap (λ (y : Recalled). on_outcome ruleᵘ (walked_on y (then_signal n.a))) x ∙ sym until_law
 
-    pub until_broken : calm_of o ≡ Broken → {y : Updated} → y ≡ ruleᵘ (moved o st₁) → leaving y mem₁ ≡ recall_s rec env (signal_at p i) st mem
+    pub until_broken : calm_of o ≡ None → {y : Updated} → y ≡ ruleᵘ (moved o st₁) → leaving y mem₁ ≡ recall_s rec env (signal_at p i) st mem
     unfolding on_outcome
     until_broken d y =
         ap (λ (z : Updated). leaving z mem₁) y ∙ ap (on_outcome ruleᵘ) (same_on o st₁ mem₁ (then_signal n.a) d) ∙ by_walk
 
-    pub until_still : {u : Tally} → calm_of o ≡ Still u → {env₁ : Env} → env₁ ≡ env → (m : Moved) (st₂ : Bytes) {mem₂ : Memory}
+    pub until_still : {u : Tally} → calm_of o ≡ Some u → {env₁ : Env} → env₁ ≡ env → (m : Moved) (st₂ : Bytes) {mem₂ : Memory}
         → leaving (moved m st₂) mem₂ ≡ recall_s rec env₁ (signal_at p n.a) st₁ mem₁
         → {y : Updated} → y ≡ stays (moved m st₂) → {z : Updated} → z ≡ afterᵘ u y → {a : Updated} → a ≡ ruleᵘ z → leaving a mem₂ ≡ recall_s rec env (signal_at p i) st mem
     unfolding on_outcome
@@ -351,8 +341,8 @@ plain_type_lem t present word e = go (is_plain t) (eqb present 0) e
     go false true e = absurd (zero_one e)
     go false false e = absurd (zero_one e)
 
-pub occurs_plain : (r : Evaluated) {v : ℕ} {u : Tally} → parts_of r ≡ Maybe (Occurs v) u → IsValue v × (is_plain (type_in v) ≡ true)
+pub occurs_plain : (r : Evaluated) {v : ℕ} {u : Tally} → parts_of r ≡ parts (Some v) u → IsValue v × (is_plain (type_in v) ≡ true)
 unfolding parts_of unpacked
 occurs_plain (Done a w) {v} e =
     (take_value (Done a w) e refl, plain_type_lem (type_in v) (present_in v) (word_in v) (open_plain a (unpacked v) (parts_here a w e).0))
-occurs_plain Stuck e = absurd (wrong_maybe e)
+occurs_plain Stuck e = cc

@@ -1,6 +1,6 @@
 -- Outcomes of updates in place: what they have counted, whether they stay, and what a walk over cases leaves.
 -- Assumes nothing: these are definitions.
-use Rattle.std.specs.Prelude.{List, ℕ, ◌+◌, ◌*◌, ◌/◌, ◌%◌, eqb, ltb, leb, if◌then◌else◌}
+use Rattle.std.specs.Prelude.{List, ℕ, ◌+◌, ◌*◌, ◌/◌, ◌%◌, eqb, ltb, leb, if◌then◌else◌, Option, Some, None}
 use Rattle.rules.specs.Bytes.{Bytes}
 use Rattle.rules.specs.Values.{unpacked}
 use Rattle.rules.specs.Work.{Updated, Next, Jump, Halted, moved, afterᵘ}
@@ -11,10 +11,7 @@ use Rattle.current.specs.Current.{soonest}
 use Rattle.recalled.specs.Recall.{Memory, Recalled, fill_c, leaving, on_outcome, on_occurrenceᵐ, recall_c}
 use Rattle.noted.specs.Noted.{memory_in}
 use Rattle.rules.specs.declared.Tally.{Tally}
-use Rattle.rules.specs.declared.Moved.{Moved}
-use Rattle.rules.specs.declared.Moved.TheVariants.{Stay}
-use Rattle.moves.specs.declared.Calm.{Calm}
-use Rattle.moves.specs.declared.Calm.TheVariants.{Still, Broken}
+use Rattle.rules.specs.Moved.{Moved, Stay}
 
 -- What an update has counted; nothing where it is stuck.
 abbrev pub work_of : Moved → ℕ
@@ -22,11 +19,11 @@ work_of (Stay w) = w.work
 work_of (Moved.Jump target v w) = w.work
 work_of Moved.Stuck = 0
 
--- Whether it stays.
-unfoldable pub calm_of : Moved → Calm
-calm_of (Stay w) = Still w
-calm_of (Moved.Jump target v w) = Broken
-calm_of Moved.Stuck = Broken
+-- What it has counted, where it stays.
+unfoldable pub calm_of : Moved → Option Tally
+calm_of (Stay w) = Some w
+calm_of (Moved.Jump target v w) = None
+calm_of Moved.Stuck = None
 
 -- An outcome as one number: 0 is stuck; else what was counted in bits 0-19, the work in 0-18 (an update's bound is below 2 to the 19th) and the mark
 -- in 19. Below 1,048,576 it stays; else it jumps, with the value's type in bits 20-21, the target in bits 22-31 and the value's word above.

@@ -1,4 +1,5 @@
 // The outcome of an update in place, as one number: each of the rules' small functions once; and the cell of a node, stored.
+// (The contract of update::update_s says it by left_in of such a number; as an enum of 24 bytes it went through memory at every rule.)
 #![tactic(auto)]
 
 ghost use Rattle.std.specs.Prelude.{◌≡◌, true, ◌+◌, ◌≤◌, ◌<◌, length, get_or};
@@ -6,7 +7,7 @@ ghost use Rattle.rules.specs.Bytes.{Bytes};
 ghost use Rattle.rules.specs.Values.{is_plain, type_in, unpacked};
 ghost use Rattle.rules.specs.Layout.{hold as holdIn, hold_branch};
 ghost use Rattle.rules.specs.Work.{Jump, moved, stays, leave, noted, one_rule, ◌plus◌, afterᵘ, ruleᵘ};
-ghost use Rattle.rules.specs.declared.Moved.TheVariants.{Stay};
+ghost use Rattle.rules.specs.Moved.{Stay};
 ghost use Rattle.outcomes.specs.Outcome.{IsValue};
 ghost use Rattle.current.specs.Current.{shortly};
 ghost use Rattle.moves.specs.Outcomes.{count_in, tally_in, target_in, jump_value, moved_in, calm_of};
@@ -16,27 +17,20 @@ use cells::{number_of, set_cell};
 use rules::{Tally, Value};
 use values::{pack, unpack, wide, wide_word};
 
-// Whether an update stays, with what it has counted; a jump that leaves it breaks it as being stuck does.
-#[derive(Clone, Copy)]
-pub enum Calm {
-    Still(Tally),
-    Broken,
-}
-
-// An update that must stay, taken apart.
-pub fn settled(r: u64) -> Calm
+// What an update that must stay has counted; none where it is broken: a jump that leaves it breaks it as being stuck does.
+pub fn settled(r: u64) -> Option<Tally>
     ensures { result ≡ calm_of (moved_in r) }
 {
     if r == 0 {
-        return Calm::Broken;
+        return None;
     }
     if r < 1048576 {
-        return Calm::Still(Tally {
+        return Some(Tally {
             work: r % 524288,
             wrapped: 524288 <= r,
         });
     }
-    Calm::Broken
+    None
 }
 
 // An update that no jump leaves.

@@ -23,8 +23,7 @@ use Rattle.rules.specs.Evaluate.{Env, bind, eval_s}
 use Rattle.rules.specs.Shaped.{NodeOf}
 use Rattle.rules.specs.declared.Value.{Value}
 use Rattle.rules.specs.declared.Tally.{Tally}
-use Rattle.rules.specs.declared.Evaluated.{Evaluated}
-use Rattle.rules.specs.declared.Evaluated.TheVariants.{Done, Stuck}
+use Rattle.rules.specs.Evaluated.{Evaluated, Done, Stuck}
 use Rattle.rules.proofs.Static.{not_both}
 use Rattle.rules.proofs.ByKind.{SignalKind, is_input, is_time, is_ext, is_delay, is_let, is_switch, is_group, is_until, signal_kind}
 use Rattle.rules.proofs.Kids.{or_none}

@@ -10,7 +10,7 @@ use native.Mathlib.Nat.{not-suc-le-zero}
 use lib.Dec.{eqb}
 use lib.ListN.{length, get_or}
 use borrow.Author.Tests.{eq-eqb, ne_eqb, eqb-true, eqb-false}
-use Rattle.rules.specs.Bytes.{Bytes, write_at, bytes_of, ◌or◌}
+use Rattle.rules.specs.Bytes.{Bytes, write_at, bytes_of}
 use Rattle.rules.specs.Values.{packed, unpacked, value_bytes, middle_in}
 use Rattle.rules.specs.Layout.{kind_at, a_at, b_at, c_at, cells_before, cell, held, is_clear, branch_in}
 use Rattle.rules.specs.Kinds.{is_signal, is_branch}
@@ -20,8 +20,7 @@ use Rattle.rules.specs.Evaluate.{Env, bind, eval_s}
 use Rattle.rules.specs.Shaped.{NodeOf}
 use Rattle.rules.specs.declared.Value.{Value}
 use Rattle.rules.specs.declared.Tally.{Tally}
-use Rattle.rules.specs.declared.Evaluated.{Evaluated}
-use Rattle.rules.specs.declared.Evaluated.TheVariants.{Done, Stuck}
+use Rattle.rules.specs.Evaluated.{Evaluated, Done, Stuck}
 use Rattle.rules.proofs.Static.{not_both}
 use Rattle.rules.proofs.Kids.{or_none}
 use Rattle.rules.proofs.Nodes.{signal_input, signal_time}

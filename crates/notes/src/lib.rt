@@ -15,23 +15,20 @@ ghost use Rattle.watched.specs.Note.{put as put_in, keep as keep_in, parts_s, no
 use branches::has_branch;
 use cells::{node_by, own_cell, put64};
 use evaluate::{branch_in, evaluated};
-use outcomes::{Shown, exactly, later, ruled, show};
+use outcomes::{exactly, later, ruled, show};
 
 // The value of an outcome in a place of the room, if the entry of that place names node i.
 fn note_value(entry: u16, room: &mut [u8], at: usize, i: usize, outcome: u64)
     requires { IsOutcome outcome × (at + 8 ≤ length room.old) }
     ensures { room.new ≡ (if eqb i entry then put_in (outcome_in outcome) room.old at else room.old) }
 {
-    if entry as usize != i {
+    if usize::from(entry) != i {
         return;
     }
-    let shown = show(outcome);
-    match shown {
-        Shown::Stuck => {}
-        Shown::Value(v, _) => {
-            put64(room, at, v);
-        }
-    }
+    let Some(shown) = show(outcome) else {
+        return;
+    };
+    put64(room, at, shown.value);
 }
 
 // What node i gives, in the place of each entry that names it: the first entry's place is at.
@@ -39,11 +36,8 @@ fn keep(list: &&[u16], room: &mut [u8], at: usize, i: usize, outcome: u64)
     requires { IsOutcome outcome × (at + 8 * length list.now.now ≤ length room.old) }
     ensures { room.new ≡ keep_in list.now.now at i (outcome_in outcome) room.old }
 {
-    let entries = list.len();
-    let mut j: usize = 0;
-    while j < entries {
-        note_value(list[j], room, at + 8 * j, i, outcome);
-        j += 1;
+    for (j, entry) in list.iter().enumerate() {
+        note_value(*entry, room, at + 8 * j, i, outcome);
     }
 }
 
@@ -70,11 +64,12 @@ fn parts_n(
         5 => {
             let d = note_s(p, ix, rec, st, env, list, room, at, n.a, memo);
             memo[i] = d;
-            let Shown::Value(v, count) = show(d) else {
+            let Some(shown) = show(d) else {
                 return 0;
             };
+            let v = shown.value;
             later(
-                count,
+                shown.count,
                 inside_n(p, ix, rec, st, env, list, room, at, i, v, n.b, memo),
             )
         }

@@ -1,6 +1,6 @@
 -- Each combinator by the parts of the numbers that it is given.
 -- Assumes nothing.
-use Rattle.std.specs.Prelude.{if◌then◌else◌}
+use Rattle.std.specs.Prelude.{if◌then◌else◌, Some, None, Option}
 use mathlib.Core.Path.{◌≡◌, refl, ap, sym, ◌∙◌}
 use mathlib.Core.Bool.{Bool, true, false}
 use Prim.Native.Nat.{ℕ, ◌+◌, ◌-◌, ◌%◌, ◌<◌, ◌≤◌}
@@ -16,17 +16,11 @@ use Rattle.rules.specs.Evaluate.{plain_word, opened, meant, on_words, operate, o
 use Rattle.rules.specs.declared.Value.{Value}
 use Rattle.rules.specs.declared.Value.TheVariants.{Plain, Absent, Present}
 use Rattle.rules.specs.declared.Tally.{Tally}
-use Rattle.rules.specs.declared.Word.{Word}
-use Rattle.rules.specs.declared.Word.TheVariants.{Is, Not}
-use Rattle.rules.specs.declared.Evaluated.{Evaluated}
-use Rattle.rules.specs.declared.Evaluated.TheVariants.{Done, Stuck}
+use Rattle.rules.specs.Evaluated.{Evaluated, Done, Stuck}
 use Rattle.rules.proofs.Static.{and_both}
 use Rattle.rules.proofs.Round.{plain_no}
-use Rattle.outcomes.specs.Combine.{count_of, work_of, word_by, arm_by, arm_in, parts_by, parts_of}
+use Rattle.outcomes.specs.Combine.{count_of, work_of, word_by, arm, arm_by, arm_in, parts, parts_by, parts_of}
 use Rattle.outcomes.specs.Outcome.{tally_in, outcome_in, IsProper}
-use Rattle.outcomes.specs.declared.Arm.TheVariants.{Go, Neither}
-use Rattle.outcomes.specs.declared.Event.TheVariants.{Occurs, Quiet}
-use Rattle.outcomes.specs.declared.Parts.TheVariants.{Maybe, Wrong}
 use Rattle.outcomes.proofs.Tallies.{same_tally, or_no, or_yes, more_tally, no_more, plus_assoc}
 use Rattle.outcomes.proofs.Numbers.{plain_in, proper_present}
 use Rattle.outcomes.proofs.Counted.{Gives, gives_stuck, outcome_done, outcome_stuck, count_is, work_is, middle_small}
@@ -62,19 +56,19 @@ word_of_lem t m = go (eqb m 0) refl
     go false e = refl
 
 module _ (t m : ℕ) {v : Value} (d : v ≡ unpacked m) where
-  pub word_yes : {u w : ℕ} → v ≡ Plain u w → u ≡ t → Is w ≡ word_by t (outcome_in m)
+  pub word_yes : {u w : ℕ} → v ≡ Plain u w → u ≡ t → Some w ≡ word_by t (outcome_in m)
   unfolding plain_word
   word_yes e f = rw (← word_of_lem t m, ← d, e, eq-eqb _ _ f)
 
-  pub word_no : {u w : ℕ} → v ≡ Plain u w → (u ≡ t → ⊥) → Not ≡ word_by t (outcome_in m)
+  pub word_no : {u w : ℕ} → v ≡ Plain u w → (u ≡ t → ⊥) → None ≡ word_by t (outcome_in m)
   unfolding plain_word
   word_no e n = rw (← word_of_lem t m, ← d, e, ne_eqb _ _ n)
 
-  pub word_absent : {u : ℕ} → v ≡ Absent u → Not ≡ word_by t (outcome_in m)
+  pub word_absent : {u : ℕ} → v ≡ Absent u → None ≡ word_by t (outcome_in m)
   unfolding plain_word
   word_absent e = rw (← word_of_lem t m, ← d, e)
 
-  pub word_present : {u w : ℕ} → v ≡ Present u w → Not ≡ word_by t (outcome_in m)
+  pub word_present : {u w : ℕ} → v ≡ Present u w → None ≡ word_by t (outcome_in m)
   unfolding plain_word
   word_present e = rw (← word_of_lem t m, ← d, e)
 
@@ -149,9 +143,9 @@ unfolding operated operate word_by on_words after
 operated_by k (Done u x) (Done v y) = refl
 operated_by k (Done u x) Stuck = go (plain_word (operand_type k) u)
   where
-    go : (a : Word) → Stuck ≡ after (x plus nothing) (on_words (meant k) a Not)
-    go (Is a) = refl
-    go Not = refl
+    go : (a : Option ℕ) → Stuck ≡ after (x plus nothing) (on_words (meant k) a None)
+    go (Some a) = refl
+    go None = refl
 operated_by k Stuck s = refl
 
 negated_by : (r : Evaluated) → negated r ≡ after (count_of r) (not_of (word_by bool_t r))
@@ -180,7 +174,7 @@ few_counted r s c {i} {j} l p q t =
     omega (arith, work_is r, work_is s)
 
 -- An operation on two outcomes that have its words: its result, after what they counted together and one rule.
-pub operated_done : (k r s : ℕ) {a b i j c m : ℕ} → word_by (operand_type k) (outcome_in r) ≡ Is a → word_by (operand_type k) (outcome_in s) ≡ Is b
+pub operated_done : (k r s : ℕ) {a b i j c m : ℕ} → word_by (operand_type k) (outcome_in r) ≡ Some a → word_by (operand_type k) (outcome_in s) ≡ Some b
     → work_of (outcome_in r) + work_of (outcome_in s) < 32767 → i ≡ middle_in r → j ≡ middle_in s → tally_in c ≡ tally_in i plus tally_in j → c < 65535
     → Gives m (after (tally_in (c + 1)) (meant k a b)) → Gives m (rule (operated k (outcome_in r) (outcome_in s)))
 unfolding rule after on_words meant
@@ -195,40 +189,40 @@ operated_done k r s {a} {b} {i} {j} {c} f g l p q t h d =
     )
 
 -- The word of an outcome by the type that an operation takes.
-pub word_by_lem : (k m : ℕ) {t a : ℕ} {x : Word} → operand_type k ≡ t → x ≡ word_by t (outcome_in m) → x ≡ Is a → word_by (operand_type k) (outcome_in m) ≡ Is a
+pub word_by_lem : (k m : ℕ) {t a : ℕ} {x : Option ℕ} → operand_type k ≡ t → x ≡ word_by t (outcome_in m) → x ≡ Some a → word_by (operand_type k) (outcome_in m) ≡ Some a
 word_by_lem k m e f h = rw (e, ← f) h
 
-module _ (k r s : ℕ) {t : ℕ} {x y : Word} (e : t ≡ operand_type k) (f : x ≡ word_by t (outcome_in r)) (g : y ≡ word_by t (outcome_in s)) where
-  pub operated_left : x ≡ Not → Gives 0 (rule (operated k (outcome_in r) (outcome_in s)))
+module _ (k r s : ℕ) {t : ℕ} {x y : Option ℕ} (e : t ≡ operand_type k) (f : x ≡ word_by t (outcome_in r)) (g : y ≡ word_by t (outcome_in s)) where
+  pub operated_left : x ≡ None → Gives 0 (rule (operated k (outcome_in r) (outcome_in s)))
   unfolding rule after on_words
   operated_left h = gives_stuck (rw (operated_by k (outcome_in r) (outcome_in s), ← e, ← f, h))
 
-  pub operated_right : {a : ℕ} → x ≡ Is a → y ≡ Not → Gives 0 (rule (operated k (outcome_in r) (outcome_in s)))
+  pub operated_right : {a : ℕ} → x ≡ Some a → y ≡ None → Gives 0 (rule (operated k (outcome_in r) (outcome_in s)))
   unfolding rule after on_words
   operated_right h i = gives_stuck (rw (operated_by k (outcome_in r) (outcome_in s), ← e, ← f, h, ← g, i))
 
-module _ (r : ℕ) {x : Word} (f : x ≡ word_by bool_t (outcome_in r)) where
-  pub negated_none : x ≡ Not → Gives 0 (rule (negated (outcome_in r)))
+module _ (r : ℕ) {x : Option ℕ} (f : x ≡ word_by bool_t (outcome_in r)) where
+  pub negated_none : x ≡ None → Gives 0 (rule (negated (outcome_in r)))
   unfolding rule after not_of
   negated_none h = gives_stuck (rw (negated_by (outcome_in r), ← f, h))
 
-  pub negated_done : {a i m : ℕ} → x ≡ Is a → i ≡ middle_in r → work_of (outcome_in r) < 32767 → Gives m (Done (truth (eqb a 0)) (tally_in (i + 1)))
+  pub negated_done : {a i m : ℕ} → x ≡ Some a → i ≡ middle_in r → work_of (outcome_in r) < 32767 → Gives m (Done (truth (eqb a 0)) (tally_in (i + 1)))
       → Gives m (rule (negated (outcome_in r)))
   unfolding rule after not_of give
   negated_done {a} h u l d =
       (d.0 ∙ rw (negated_by (outcome_in r), ← f, h, u) (ap (λ (x : Tally). Done (truth (eqb a 0)) x) (one_more r l)), d.1)
 
 -- The arm, by the word of the test.
-module _ (r yes₀ no₀ : ℕ) {x : Word} (f : x ≡ word_by bool_t (outcome_in r)) where
-  pub arm_neither : x ≡ Not → Neither ≡ arm_in (outcome_in r) yes₀ no₀
+module _ (r yes₀ no₀ : ℕ) {x : Option ℕ} (f : x ≡ word_by bool_t (outcome_in r)) where
+  pub arm_neither : x ≡ None → None ≡ arm_in (outcome_in r) yes₀ no₀
   unfolding arm_by
   arm_neither h = rw (arm_by_word (outcome_in r) yes₀ no₀, ← f, h)
 
-  pub arm_first : {a : ℕ} {w : Tally} → x ≡ Is a → a ≡ 1 → w ≡ tally_in (middle_in r) → Go yes₀ w ≡ arm_in (outcome_in r) yes₀ no₀
+  pub arm_first : {a : ℕ} {w : Tally} → x ≡ Some a → a ≡ 1 → w ≡ tally_in (middle_in r) → arm yes₀ w ≡ arm_in (outcome_in r) yes₀ no₀
   unfolding arm_by is_true
   arm_first h z u = rw (arm_by_word (outcome_in r) yes₀ no₀, ← f, h, eq-eqb _ _ z, count_is r, u)
 
-  pub arm_second : {a : ℕ} {w : Tally} → x ≡ Is a → (a ≡ 1 → ⊥) → w ≡ tally_in (middle_in r) → Go no₀ w ≡ arm_in (outcome_in r) yes₀ no₀
+  pub arm_second : {a : ℕ} {w : Tally} → x ≡ Some a → (a ≡ 1 → ⊥) → w ≡ tally_in (middle_in r) → arm no₀ w ≡ arm_in (outcome_in r) yes₀ no₀
   unfolding arm_by is_true
   arm_second h z u = rw (arm_by_word (outcome_in r) yes₀ no₀, ← f, h, ne_eqb _ _ z, count_is r, u)
 
@@ -265,7 +259,7 @@ lifted_proper t w p =
 
 -- The parts of a maybe, by its value.
 module _ (r : ℕ) where
-  pub parts_stuck : r ≡ 0 → Wrong ≡ parts_of (outcome_in r)
+  pub parts_stuck : r ≡ 0 → None ≡ parts_of (outcome_in r)
   unfolding parts_of
   parts_stuck z = rw (z, outcome_stuck)
 
@@ -274,19 +268,19 @@ module _ (r : ℕ) where
     unfolding parts_of
     parts_by_lem = rw (outcome_done r n, d, u)
 
-    pub parts_plain : {t w : ℕ} → v ≡ Plain t w → Wrong ≡ parts_of (outcome_in r)
+    pub parts_plain : {t w : ℕ} → v ≡ Plain t w → None ≡ parts_of (outcome_in r)
     unfolding parts_by opened
     parts_plain e = ap (λ (x : Value). parts_by (opened x) c) (sym e) ∙ parts_by_lem
 
-    pub parts_quiet : {t : ℕ} → v ≡ Absent t → Maybe Quiet c ≡ parts_of (outcome_in r)
+    pub parts_quiet : {t : ℕ} → v ≡ Absent t → parts None c ≡ parts_of (outcome_in r)
     unfolding parts_by opened
     parts_quiet e = ap (λ (x : Value). parts_by (opened x) c) (sym e) ∙ parts_by_lem
 
     pub parts_occurs : {t w m : ℕ} → v ≡ Present t w → is_maybe t ≡ true → m ≡ packed (Plain (t - 4) w)
-        → Maybe (Occurs m) c ≡ parts_of (outcome_in r)
+        → parts (Some m) c ≡ parts_of (outcome_in r)
     unfolding parts_by opened
     parts_occurs e b f = rw (← parts_by_lem, e, b, f)
 
-    pub parts_other : {t w : ℕ} → v ≡ Present t w → is_maybe t ≡ false → Wrong ≡ parts_of (outcome_in r)
+    pub parts_other : {t w : ℕ} → v ≡ Present t w → is_maybe t ≡ false → None ≡ parts_of (outcome_in r)
     unfolding parts_by opened
     parts_other e b = rw (← parts_by_lem, e, b)

@@ -14,8 +14,7 @@ use Rattle.rules.specs.Work.{nothing, noted, one_rule, ◌plus◌, give, after, 
 use Rattle.rules.specs.Evaluate.{Env, look}
 use Rattle.rules.specs.declared.Value.{Value}
 use Rattle.rules.specs.declared.Tally.{Tally}
-use Rattle.rules.specs.declared.Evaluated.{Evaluated}
-use Rattle.rules.specs.declared.Evaluated.TheVariants.{Done, Stuck}
+use Rattle.rules.specs.Evaluated.{Evaluated, Done, Stuck}
 use Rattle.outcomes.specs.Combine.{count_of, work_of}
 use Rattle.outcomes.specs.Outcome.{tally_in, tally_of, outcome_in, outcome_of, IsOutcome, IsValue, IsProper, Slots}
 use Rattle.outcomes.proofs.Tallies.{counted, same_tally, tally_back, more_tally, marked_new, marked_yet}

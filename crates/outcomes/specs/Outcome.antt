@@ -1,13 +1,12 @@
 -- An outcome as one number: 0 is stuck; else the 8 bytes of the value, with what was counted in bytes 2-3, which a value leaves zero. Their lower 15 bits
 -- are the work (no evaluation of 1,008 nodes works more than 1,008), and the highest is the mark.
 -- Assumes nothing: these are definitions.
-use Rattle.std.specs.Prelude.{◌≡◌, ℕ, ◌+◌, ◌*◌, ◌/◌, ◌%◌, eqb, leb, get_or, if◌then◌else◌}
+use Rattle.std.specs.Prelude.{◌≡◌, ℕ, ◌+◌, ◌*◌, ◌/◌, ◌%◌, eqb, leb, get_or, if◌then◌else◌, Option, Some, None}
 use Rattle.rules.specs.Values.{packed, unpacked, middle_in}
 use Rattle.rules.specs.Evaluate.{Env}
 use Rattle.rules.specs.declared.Value.{Value}
 use Rattle.rules.specs.declared.Tally.{Tally}
-use Rattle.rules.specs.declared.Evaluated.{Evaluated}
-use Rattle.rules.specs.declared.Evaluated.TheVariants.{Done, Stuck}
+use Rattle.rules.specs.Evaluated.{Evaluated, Done, Stuck}
 use Rattle.outcomes.specs.declared.Shown.{Shown}
 
 -- What was counted, of a number of 16 bits, and as one.
@@ -47,5 +46,8 @@ unfoldable pub value_in : ℕ → ℕ
 value_in m = m % 65536 + 4294967296 * (m / 4294967296)
 
 -- An outcome taken apart.
-unfoldable pub shown_in : ℕ → Shown
-shown_in m = if eqb m 0 then Shown.Stuck else Shown.Value (value_in m) (tally_in (middle_in m))
+abbrev pub shown : ℕ → Tally → Option Shown
+shown v w = Some (record { value = v; count = w })
+
+unfoldable pub shown_in : ℕ → Option Shown
+shown_in m = if eqb m 0 then None else shown (value_in m) (tally_in (middle_in m))

@@ -1,46 +1,39 @@
 // The combinators of evaluation on outcomes that are one number each: the rules' small functions once, none of them recursive.
+// (The contract of evaluate::evaluated says that number, IsOutcome; as an enum of 24 bytes it went through memory at every rule.)
 #![tactic(auto)]
 
-ghost use Rattle.std.specs.Prelude.{◌≡◌, true, ◌+◌, ◌*◌, ◌≤◌, ◌<◌};
+ghost use Rattle.std.specs.Prelude.{◌≡◌, true, ◌+◌, ◌*◌, ◌≤◌, ◌<◌, Some};
 ghost use Rattle.rules.specs.Values.{packed, unpacked, middle_in};
 ghost use Rattle.rules.specs.Operations.{operand_type, truth as truthIs};
 ghost use Rattle.rules.specs.Work.{noted, ◌plus◌, give, after as after_of, rule};
 ghost use Rattle.rules.specs.Evaluate.{look as look_of, meant, operated as operatedOf, negated as negatedOf, lifted as liftedOf};
-ghost use Rattle.rules.specs.declared.Word.TheVariants.{Is};
-ghost use Rattle.rules.specs.declared.Evaluated.TheVariants.{Done};
+ghost use Rattle.rules.specs.Evaluated.{Done};
 ghost use Rattle.outcomes.specs.Combine.{work_of, word_by, arm_in, parts_of};
 ghost use Rattle.outcomes.specs.Outcome.{tally_in, outcome_in, IsOutcome, IsProper, IsValue, Slots, value_in, shown_in};
 
-use rules::{BOOL, INT, MAYBE, Tally, Value, Word};
+use rules::{BOOL, INT, MAYBE, Tally, Value};
 use values::{is_maybe, pack, pack_from, present_in, type_in, unpack, word_in};
 use words::{divide, number, quotient_left, test};
 
 // The arm that an if evaluates, with what its test counted.
 #[derive(Clone, Copy)]
-pub enum Arm {
-    Go(usize, Tally),
-    Neither,
+pub struct Arm {
+    pub at: usize,
+    pub count: Tally,
 }
 
-// What a maybe holds: the 8 bytes of a plain value.
+// An evaluated maybe: the 8 bytes of the plain value that it holds, where it is present, with what its evaluation counted.
 #[derive(Clone, Copy)]
-pub enum Event {
-    Occurs(u64),
-    Quiet,
-}
-
-// An evaluated maybe, with what its evaluation counted.
-#[derive(Clone, Copy)]
-pub enum Parts {
-    Maybe(Event, Tally),
-    Wrong,
+pub struct Parts {
+    pub event: Option<u64>,
+    pub count: Tally,
 }
 
 // An outcome taken apart: the 8 bytes of its value, with what was counted.
 #[derive(Clone, Copy)]
-pub enum Shown {
-    Value(u64, Tally),
-    Stuck,
+pub struct Shown {
+    pub value: u64,
+    pub count: Tally,
 }
 
 // What was counted, as a number of 16 bits.
@@ -178,18 +171,18 @@ pub fn variable(env: &[u64; 1008], n: usize) -> u64
 }
 
 // The word of an outcome that is a plain value of type t. (Stuck reads as absent.)
-fn plain_word(t: u8, m: u64) -> Word
+fn plain_word(t: u8, m: u64) -> Option<u32>
     ensures { result ≡ word_by t (outcome_in m) }
 {
     match unpack(m) {
         Value::Plain(u, w) => {
             if u == t {
-                return Word::Is(w);
+                return Some(w);
             }
-            Word::Not
+            None
         }
-        Value::Absent(_) => Word::Not,
-        Value::Present(_, _) => Word::Not,
+        Value::Absent(_) => None,
+        Value::Present(_, _) => None,
     }
 }
 
@@ -232,7 +225,7 @@ fn result(k: u8, x: u32, y: u32, count: u64) -> u64
 
 // An operation on two outcomes that have these words, by one rule.
 fn on_words(k: u8, x: u32, y: u32, r: u64, s: u64) -> u64
-    requires { (word_by (operand_type k) (outcome_in r) ≡ Is x) × (word_by (operand_type k) (outcome_in s) ≡ Is y) × (work_of (outcome_in r) + work_of (outcome_in s) < 32767) }
+    requires { (word_by (operand_type k) (outcome_in r) ≡ Some x) × (word_by (operand_type k) (outcome_in s) ≡ Some y) × (work_of (outcome_in r) + work_of (outcome_in s) < 32767) }
     ensures { (outcome_in result ≡ rule (operatedOf k (outcome_in r) (outcome_in s))) × IsOutcome result }
 {
     result(k, x, y, joined(counted_in(r), counted_in(s)) + 1)
@@ -243,10 +236,10 @@ pub fn on_ints(k: u8, r: u64, s: u64) -> u64
     requires { (k ≤ 23) × (work_of (outcome_in r) + work_of (outcome_in s) < 32767) }
     ensures { (outcome_in result ≡ rule (operatedOf k (outcome_in r) (outcome_in s))) × IsOutcome result }
 {
-    let Word::Is(x) = plain_word(INT, r) else {
+    let Some(x) = plain_word(INT, r) else {
         return 0;
     };
-    let Word::Is(y) = plain_word(INT, s) else {
+    let Some(y) = plain_word(INT, s) else {
         return 0;
     };
     on_words(k, x, y, r, s)
@@ -258,10 +251,10 @@ pub fn on_bools(k: u8, r: u64, s: u64) -> u64
     requires { (23 < k) × (work_of (outcome_in r) + work_of (outcome_in s) < 32767) }
     ensures { (outcome_in result ≡ rule (operatedOf k (outcome_in r) (outcome_in s))) × IsOutcome result }
 {
-    let Word::Is(x) = plain_word(BOOL, r) else {
+    let Some(x) = plain_word(BOOL, r) else {
         return 0;
     };
-    let Word::Is(y) = plain_word(BOOL, s) else {
+    let Some(y) = plain_word(BOOL, s) else {
         return 0;
     };
     truth(test(k, x, y), joined(counted_in(r), counted_in(s)) + 1)
@@ -280,7 +273,7 @@ pub fn negated(r: u64) -> u64
     requires { work_of (outcome_in r) < 32767 }
     ensures { (outcome_in result ≡ rule (negatedOf (outcome_in r))) × IsOutcome result }
 {
-    let Word::Is(w) = plain_word(BOOL, r) else {
+    let Some(w) = plain_word(BOOL, r) else {
         return 0;
     };
     truth(w == 0, counted_in(r) + 1)
@@ -298,47 +291,53 @@ pub fn lifted(r: u64) -> u64
     }
 }
 
-// The arm, yes or no, that the outcome of a test chooses.
-pub fn chosen(r: u64, yes: usize, no: usize) -> Arm
+// The arm, yes or no, that the outcome of a test chooses; none where it is no bool.
+pub fn chosen(r: u64, yes: usize, no: usize) -> Option<Arm>
     ensures { result ≡ arm_in (outcome_in r) yes no }
 {
-    let Word::Is(w) = plain_word(BOOL, r) else {
-        return Arm::Neither;
+    let Some(w) = plain_word(BOOL, r) else {
+        return None;
     };
     let count = tally_in(r);
     if w == 1 {
-        return Arm::Go(yes, count);
+        return Some(Arm { at: yes, count });
     }
-    Arm::Go(no, count)
+    Some(Arm { at: no, count })
 }
 
-// The outcome of a maybe, taken apart: a maybe's type is 4 above the type of what it holds.
-pub fn apart(r: u64) -> Parts
+// The outcome of a maybe, taken apart; none where it is no maybe: a maybe's type is 4 above the type of what it holds.
+pub fn apart(r: u64) -> Option<Parts>
     ensures { result ≡ parts_of (outcome_in r) }
 {
     if r == 0 {
-        return Parts::Wrong;
+        return None;
     }
     let count = tally_in(r);
     match unpack(r) {
-        Value::Plain(_, _) => Parts::Wrong,
-        Value::Absent(_) => Parts::Maybe(Event::Quiet, count),
+        Value::Plain(_, _) => None,
+        Value::Absent(_) => Some(Parts { event: None, count }),
         Value::Present(t, w) => {
             if is_maybe(t) {
                 let inner = pack(Value::Plain(t - MAYBE, w));
-                return Parts::Maybe(Event::Occurs(inner), count);
+                return Some(Parts {
+                    event: Some(inner),
+                    count,
+                });
             }
-            Parts::Wrong
+            None
         }
     }
 }
 
-// An outcome taken apart.
-pub fn show(r: u64) -> Shown
+// An outcome taken apart; none where it is stuck.
+pub fn show(r: u64) -> Option<Shown>
     ensures { result ≡ shown_in r }
 {
     if r == 0 {
-        return Shown::Stuck;
+        return None;
     }
-    Shown::Value(value_in(r), tally_in(r))
+    Some(Shown {
+        value: value_in(r),
+        count: tally_in(r),
+    })
 }

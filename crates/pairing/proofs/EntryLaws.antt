@@ -1,5 +1,6 @@
 -- A new node's entry, as the code tries it; and where an old node's children stand.
 -- Assumes nothing.
+use Rattle.std.specs.Prelude.{Option, Some, None, is_some}
 use mathlib.Core.Path.{◌≡◌, refl, sym, ap, ◌∙◌, subst}
 use mathlib.Core.List.{List, [], ◌∷◌}
 use mathlib.Core.Bool.{Bool, true, false, not}
@@ -24,7 +25,9 @@ use Rattle.rules.proofs.Static.{not_both}
 use Rattle.rules.proofs.Kids.{Kid, kids}
 use Rattle.rules.proofs.Rooted.{some_node, shaped_of}
 use Rattle.dropped.specs.Pairing.{Pairing, old_of, reaches, entry_wrong}
-use Rattle.dropped.specs.Clauses.{unless, earlier, field_broken, fields_broken, node_broken, entry_broken}
+use Rattle.dropped.specs.Clauses.{unless, earlier, field_broken, fields_broken, node_broken, entry_broken, number_in}
+use Rattle.dropped.specs.declared.Clause.{Clause}
+use Rattle.dropped.specs.declared.Clause.TheVariants.{OldNode, PlainFields, Next, ChildA, ChildB, ChildC, Named, Root}
 use Rattle.dropped.proofs.ClauseLaws.{entry_broken_lem}
 use Rattle.reaching.specs.Leads.{InField, InFields}
 use Rattle.pairing.proofs.AskedLaws.{Alike}
@@ -108,6 +111,22 @@ module _ (p q : Bytes) (π : ℕ → ℕ) (i : ℕ) where
       → r ≡ entry_broken p q π i
   entry_same n o count olds j ec eo ej h is os e et ea ef el ex er =
       er ∙ rw (ex, ea, et, ef, el, ec, eo, ej) (together n o (omega (arith, h, eo, ej)) is (node_by ej os) e)
+
+-- Some clause has a number that is not 0.
+pub some_number : (o : Option Clause) → is_some o ≡ true → number_in o ≡ 0 → ⊥
+some_number None s e = absurd (not_both s)
+some_number (Some OldNode) s e = cc
+some_number (Some PlainFields) s e = cc
+some_number (Some Next) s e = cc
+some_number (Some ChildA) s e = cc
+some_number (Some ChildB) s e = cc
+some_number (Some ChildC) s e = cc
+some_number (Some Named) s e = cc
+some_number (Some Root) s e = cc
+
+pub no_number : (o : Option Clause) → is_some o ≡ false → number_in o ≡ 0
+no_number None s = refl
+no_number (Some clause) s = absurd (not_both (sym s))
 
 -- An entry that breaks a clause is wrong, and one that breaks none is not.
 pub wrong_when : (p q : Bytes) (l : Pairing) (i : ℕ) {r : ℕ} → r ≡ entry_broken p q (old_of l) i → (r ≡ 0 → ⊥) → entry_wrong p q l i ≡ true

@@ -1,25 +1,24 @@
 -- A watched run, record by record.
 -- Assumes nothing.
+use Rattle.std.specs.Prelude.{Ok, Err}
+use Rattle.rules.specs.Verdicts.{Verdict}
 use mathlib.Core.Path.{◌≡◌, refl, sym, ap, ◌∙◌}
-use mathlib.Core.Bool.{true}
 use mathlib.Core.List.{List}
 use Prim.Native.Nat.{ℕ, zero, suc, ◌+◌, ◌-◌, ◌*◌, ◌/◌, ◌<◌, ◌≤◌}
 use native.Mathlib.Omega.{arith}
 use native.Mathlib.Nat.{mul-le-mul}
 use lib.ListN.{length, take, drop}
 use Rattle.rules.specs.Bytes.{Bytes, write_at, bytes_of}
-use Rattle.rules.specs.Layout.{nodes, most_nodes, input_at}
+use Rattle.rules.specs.Layout.{nodes, input_at}
 use Rattle.rules.specs.Tree.{root, signal_at}
-use Rattle.rules.specs.Evaluate.{Env, unbound}
+use Rattle.rules.specs.Evaluate.{Env}
 use Rattle.rules.specs.Update.{Made, step_of}
 use Rattle.rules.specs.Calls.{record_verdict, no_step, first_wrapped}
 use Rattle.rules.specs.declared.Value.{Value}
 use Rattle.rules.specs.declared.Tally.{Tally}
 use Rattle.rules.specs.declared.Refusal.{Refusal}
-use Rattle.rules.specs.declared.Verdict.{Verdict}
-use Rattle.rules.specs.declared.Verdict.TheVariants.{Fine, Refuse}
 use Rattle.rules.proofs.Cells.{length_write_at}
-use Rattle.steps.specs.Going.{Going, Held, Taken, OnTheWay}
+use Rattle.steps.specs.Going.{Going, Held, Taken}
 use Rattle.steps.proofs.RunLaws.{goes_on, begun}
 use Rattle.watched.specs.Note.{note_s}
 use Rattle.watched.specs.Watch.{shown, shown_from}
@@ -47,14 +46,14 @@ row_shown {p} {count = count} g rec st l at room e f =
 
 -- The record at a number: the room after it, or as it is.
 shown_on : (p recs : Bytes) (l : List ℕ) (left done : ℕ) (st room : Bytes) {v : Value} {st₁ : Bytes} {w : Tally}
-    → record_verdict done st (input_at recs done) ≡ Fine → step_of p (input_at recs done) st ≡ Made v st₁ w
+    → record_verdict done st (input_at recs done) ≡ Ok tt → step_of p (input_at recs done) st ≡ Made v st₁ w
     → shown_from p recs l (suc left) done st room
     ≡ shown_from p recs l left (suc done) st₁ (write_at room (8 * length l * done) (shown p (input_at recs done) st l))
 unfolding shown_from
 shown_on p recs l left done st room e f = rw (e, shown_from, f)
 
 shown_stops : (p recs : Bytes) (l : List ℕ) (left done : ℕ) (st room : Bytes) {r : Refusal}
-    → record_verdict done st (input_at recs done) ≡ Refuse r → shown_from p recs l (suc left) done st room ≡ room
+    → record_verdict done st (input_at recs done) ≡ Err r → shown_from p recs l (suc left) done st room ≡ room
 unfolding shown_from
 shown_stops p recs l left done st room e = rw (e, shown_from)
 
@@ -77,7 +76,7 @@ module _ {p : Bytes} {index : List ℕ} {recs st₀ out₀ st : Bytes} {env : En
     again : left - done ≡ suc (left - (done + 1))
     again = omega arith
 
-    pub watch_on : v ≡ Fine → {st₁ out₁ room₁ : Bytes} {n : Tally}
+    pub watch_on : v ≡ Ok tt → {st₁ out₁ room₁ : Bytes} {n : Tally}
         → room₁ ≡ write_at room (8 * length l * done) (shown p (take (40 * done + 40 - 40 * done) (drop (40 * done) recs)) st l)
         → Taken p (take (40 * done + 40 - 40 * done) (drop (40 * done) recs)) st st₁ out out₁ (8 * done) n → {env₁ : Env} → env₁ ≡ env
         → Watching p index recs st₀ out₀ st₁ env₁ out₁ count left (done + 1) (work + n.work) (first_wrapped mark done n) l room₀ room₁
@@ -97,7 +96,7 @@ module _ {p : Bytes} {index : List ℕ} {recs st₀ out₀ st : Bytes} {env : En
               ∙ w.rows;
         }
 
-    pub watch_stops : {r : Refusal} → v ≡ Refuse r → room ≡ shown_from p recs l left 0 st₀ room₀
+    pub watch_stops : {r : Refusal} → v ≡ Err r → room ≡ shown_from p recs l left 0 st₀ room₀
     watch_stops f =
         sym (ap (λ (k : ℕ). shown_from p recs l k done st room) again ∙ shown_stops p recs l (left - (done + 1)) done st room (sym judged ∙ f)) ∙ w.rows
 

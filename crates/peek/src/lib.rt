@@ -14,7 +14,7 @@ ghost use Rattle.noted.specs.Noted.{Noted};
 use cells::put;
 use notes::noted;
 use record::{first_wrapped, record_verdict};
-use rules::{NO_STEP, Ran, Tally, Verdict};
+use rules::{NO_STEP, Ran, Stopped, Tally};
 use steps::{advance, display};
 
 // The output of a step and its row of the second room: the row is cleared, and the root evaluated with what listed nodes give noted in it.
@@ -80,23 +80,26 @@ pub fn watch_records(
     out: &mut [u8],
     room: &mut [u8],
     count: usize,
-) -> Ran
+) -> Result<Ran, Stopped>
     requires { Going p.now index.now st.old env.old count × (length recs.now ≤ 163840) × (length out.old ≡ 8 * (length recs.now / input_length)) × (length list.now ≤ 8) × (length room.old ≡ 8 * length list.now * (length recs.now / input_length)) }
     ensures { Leaves (run_from p.now recs.now (length recs.now / input_length) 0 0 no_step st.old out.old) result st.new out.new × (room.new ≡ shown_from p.now recs.now list.now (length recs.now / input_length) 0 st.old room.old) }
 {
     let mut memo: [u64; 1008] = [0; 1008];
     let left = recs.len() / 40;
     let width = 8 * list.len();
-    let mut done: usize = 0;
     let mut work: u32 = 0;
     let mut mark: u32 = NO_STEP;
-    while done < left {
+    for done in 0..left {
         let from = 40 * done;
         let to = from + 40;
         let rec = &recs[from..to];
         let found = record_verdict(st, rec, done as u32);
-        if let Verdict::Refuse(r) = found {
-            return Ran::Refused(r, work, mark);
+        if let Err(r) = found {
+            return Err(Stopped {
+                why: r,
+                work,
+                wrapped: mark,
+            });
         }
         let spent = watch_step(
             p,
@@ -114,7 +117,10 @@ pub fn watch_records(
         );
         work += spent.work as u32;
         mark = first_wrapped(mark, done as u32, spent);
-        done += 1;
     }
-    Ran::Finished(done as u32, work, mark)
+    Ok(Ran {
+        steps: left as u32,
+        work,
+        wrapped: mark,
+    })
 }

@@ -13,14 +13,14 @@ ghost use Rattle.steps.specs.Going.{Leaves};
 ghost use Rattle.watched.specs.Watch.{list_wrong, entry_off, list_fault, rooms_fit, watch_lent, watch_room, watch_listed, watch_accepted, watch_call};
 ghost use Rattle.peeking.specs.Left.{LeavesAll};
 
-use answers::{otherwise, refuse_if};
+use answers::refuse_if;
 use cells::{index_cells, kind_of, number_of};
 use kinds::is_signal;
 use peek::watch_records;
-use rules::{NO_STEP, Place, Ran, Refusal, Verdict};
+use rules::{Ran, Refusal, Stopped};
 use verdict::judge;
 use watch::run_fits;
-use watched::Watched;
+use watched::ListFault;
 use well::state_verdict;
 
 // Code 17: not 1 to 8 entries.
@@ -55,19 +55,16 @@ fn entry_off(p: &[u8], list: &[u16], j: usize, count: usize) -> bool
 }
 
 // The first entry that is off.
-fn list_fault(p: &[u8], list: &[u16], count: usize) -> Place
+fn list_fault(p: &[u8], list: &[u16], count: usize) -> Option<u32>
     requires { Shaped p.now × (count ≡ nodes p.now) × (length list.now ≤ 8) }
     ensures { result ≡ list_fault p.now list.now }
 {
-    let entries = list.len();
-    let mut j: usize = 0;
-    while j < entries {
+    for j in 0..list.len() {
         if entry_off(p, list, j, count) {
-            return Place::At(j as u32);
+            return Some(j as u32);
         }
-        j += 1;
     }
-    Place::Nowhere
+    None
 }
 
 // Both rooms are of the right length: 8 bytes for each record, and 8 for each record and entry.
@@ -93,16 +90,13 @@ fn lent_verdict(
     room: &[u8],
     count: usize,
     held: usize,
-) -> Verdict
+) -> Result<(), Refusal>
     requires { NodeOf is_signal p.now (nodes p.now - 1) × Indexed p.now index.now × (count ≡ nodes p.now) × (held ≡ cells_of p.now) × (checks_of p.now < 4294967296) × (length list.now ≤ 8) }
     ensures { result ≡ watch_lent p.now st.now recs.now list.now out.now room.now }
 {
-    let state = state_verdict(p, index, st, count, held);
-    let fit = run_fits(recs);
-    let right = rooms_fit(recs, list, out, room);
-    let records = refuse_if(!fit, Refusal::RecordsLength);
-    let output = refuse_if(!right, Refusal::OutputLength);
-    otherwise(state, otherwise(records, output))
+    state_verdict(p, index, st, count, held)?;
+    refuse_if(!run_fits(recs), Refusal::RecordsLength)?;
+    refuse_if(!rooms_fit(recs, list, out, room), Refusal::OutputLength)
 }
 
 // The run of an accepted program with a list that is right.
@@ -114,20 +108,15 @@ fn watch_listed(
     out: &mut [u8],
     room: &mut [u8],
     count: usize,
-) -> Ran
+) -> Result<Ran, Stopped>
     requires { Accepted p.now × (count ≡ nodes p.now) × (length list.now ≤ 8) }
     ensures { Leaves (run_outcome p.now st.old recs.now out.old (watch_lent p.now st.old recs.now list.now out.old room.old)) result st.new out.new × (room.new ≡ watch_room p.now st.old recs.now list.now room.old (watch_lent p.now st.old recs.now list.now out.old room.old)) }
 {
     let mut index: [u16; 10080] = [0; 10080];
     let held = index_cells(p, &mut index, count);
-    let fault = lent_verdict(p, &index, st, recs, list, out, room, count, held);
-    match fault {
-        Verdict::Refuse(r) => Ran::Refused(r, 0, NO_STEP),
-        Verdict::Fine => {
-            let mut env: [u64; 1008] = [0; 1008];
-            watch_records(p, &index, recs, st, &mut env, list, out, room, count)
-        }
-    }
+    lent_verdict(p, &index, st, recs, list, out, room, count, held)?;
+    let mut env: [u64; 1008] = [0; 1008];
+    watch_records(p, &index, recs, st, &mut env, list, out, room, count)
 }
 
 // Code 18, or the run of an accepted program with a list of 1 to 8 entries.
@@ -139,14 +128,14 @@ fn watch_entries(
     out: &mut [u8],
     room: &mut [u8],
     count: usize,
-) -> Watched
+) -> Result<Result<Ran, Stopped>, ListFault>
     requires { Accepted p.now × (count ≡ nodes p.now) × (length list.now ≤ 8) }
     ensures { LeavesAll (watch_listed p.now st.old recs.now list.now out.old room.old (list_fault p.now list.now)) result st.new out.new room.new }
 {
     let off = list_fault(p, list, count);
     match off {
-        Place::At(j) => Watched::ListEntry(j),
-        Place::Nowhere => Watched::AsRun(watch_listed(p, st, recs, list, out, room, count)),
+        Some(j) => Err(ListFault::ListEntry(j)),
+        None => Ok(watch_listed(p, st, recs, list, out, room, count)),
     }
 }
 
@@ -159,12 +148,12 @@ fn watch_accepted(
     out: &mut [u8],
     room: &mut [u8],
     count: usize,
-) -> Watched
+) -> Result<Result<Ran, Stopped>, ListFault>
     requires { Accepted p.now × (count ≡ nodes p.now) }
     ensures { LeavesAll (watch_accepted p.now st.old recs.now list.now out.old room.old) result st.new out.new room.new }
 {
     if list_wrong(list) {
-        return Watched::ListLength;
+        return Err(ListFault::ListLength);
     }
     watch_entries(p, st, recs, list, out, room, count)
 }
@@ -178,13 +167,11 @@ pub fn watched(
     list: &[u16],
     output: &mut [u8],
     shown: &mut [u8],
-) -> Watched
+) -> Result<Result<Ran, Stopped>, ListFault>
     ensures { (result ≡ (watch_call program.now state.old records.now list.now output.old shown.old).answer) × (state.new ≡ (watch_call program.now state.old records.now list.now output.old shown.old).state) × (output.new ≡ (watch_call program.now state.old records.now list.now output.old shown.old).output) × (shown.new ≡ (watch_call program.now state.old records.now list.now output.old shown.old).room) }
 {
-    let found = judge(program);
-    let fault = found.verdict;
-    match fault {
-        Verdict::Refuse(r) => Watched::AsRun(Ran::Refused(r, 0, NO_STEP)),
-        Verdict::Fine => watch_accepted(program, state, records, list, output, shown, found.count),
+    match judge(program) {
+        Err(r) => Ok(Err(Stopped::from(r))),
+        Ok(found) => watch_accepted(program, state, records, list, output, shown, found.count),
     }
 }

@@ -1,6 +1,6 @@
 -- The steps one behind the other: what a step that stopped, or gave something, makes of what follows it.
 -- Assumes nothing.
-use Rattle.std.specs.Prelude.{if◌then◌else◌}
+use Rattle.std.specs.Prelude.{if◌then◌else◌, Option, Some, None, Result, Ok, Err, IsErrAnd}
 use mathlib.Core.Path.{◌≡◌, refl, sym, ap, ap₂, subst, ◌∙◌}
 use mathlib.Core.Bool.{Bool, true, false}
 use mathlib.Core.List.{List, [], ◌∷◌}
@@ -10,7 +10,6 @@ use lib.Dec.{ltb}
 use lib.ListN.{length, get_or}
 use borrow.Author.Tests.{lt-ltb, le-ltb, eq-eqb, ne_eqb}
 use Rattle.rules.specs.Bytes.{Bytes, ◌and◌, ◌or◌, first, first_from}
-use Rattle.rules.specs.declared.Place.{Place}
 use Rattle.texts.specs.Tokens.{Token, token, from, part}
 use Rattle.texts.specs.Spelled.{same, is_among}
 use Rattle.texts.specs.Spelling.{open₀, type_named, true_word, false_word, unit_word, some_word, none_word}
@@ -23,45 +22,51 @@ use Rattle.rules.specs.declared.TypeField.{TypeField}
 use Rattle.texts.specs.declared.Unread.{Unread}
 use Rattle.texts.specs.declared.Unread.TheVariants.{Word, Name, Range}
 use Rattle.tokens.specs.Ahead.{Ahead}
-use Rattle.tokens.specs.declared.Next.{Next}
-use Rattle.spell.specs.Vocabulary.{IsPart, number_in, allowed}
+use Rattle.tokens.specs.declared.Span.{Span}
+use Rattle.spell.specs.Vocabulary.{number_in, allowed}
 use Rattle.rules.specs.Values.{is_plain, is_type}
-use Rattle.spell.specs.declared.Number.{Number}
+use Rattle.spell.specs.declared.NumberFault.TheVariants.{Outside, Other}
 use Rattle.labels.specs.Noted.{named_by, names_in, noted}
 use Rattle.labels.proofs.NoteLaws.{named_part, noted_names_lem, noted_after, noted_before', noted_other, noted_count, noted_length}
-use Rattle.phrases.specs.declared.Step.{Step}
+use Rattle.phrases.specs.declared.Read.{Read}
 use Rattle.phrases.specs.declared.Constant.{Constant}
-use Rattle.phrases.specs.declared.Valued.{Valued}
-use Rattle.phrases.specs.declared.Headed.{Headed}
-use Rattle.phrases.specs.Gave.{Past, with_names, Tables, gave, NamePart, Below, written, gave_value, PlainTyped, head_of, gave_head, some_value, none_value}
+use Rattle.phrases.specs.Gave.{Past, with_names, Tables, gave, gave_word, NamePart, Below, PlainTyped, head_of, gave_head, some_value, none_value}
 
 -- The next word.
-module _ (text : Bytes) (at : ℕ) (r : Next) (a : Ahead text at r) where
-  pub at_end : r ≡ Next.End → from text at ≡ []
+module _ (text : Bytes) (at : ℕ) (r : Option Span) (a : Ahead text at r) where
+  pub at_end : r ≡ None → from text at ≡ []
   at_end e = subst (Ahead text at) e a
 
-  pub at_word : (s e : ℕ) → r ≡ Next.Word s e → (at ≤ s) × (s < e) × (e ≤ length text) × (from text at ≡ token s (part text s e) ∷ from text e)
-  at_word s e q = subst (Ahead text at) q a
+  pub at_word : (w : Span) → r ≡ Some w → (at ≤ w.first) × (w.first < w.end) × (w.end ≤ length text) × (from text at ≡ token w.first (part text w.first w.end) ∷ from text w.end)
+  at_word w q = subst (Ahead text at) q a
 
-  pub word_part : (s e : ℕ) → r ≡ Next.Word s e → IsPart text s e
-  word_part s e q = let w = at_word s e q in (omega (arith, w.1), w.2)
+  pub word_part : (w : Span) → r ≡ Some w → (w.first < w.end) × (w.end ≤ length text)
+  word_part w q = let x = at_word w q in (x.1, x.2)
+
+  pub next_none : r ≡ None → (finish : ℕ) (so : Sofar) → stopped (Word finish) ≡ S.next finish (from text at) so
+  unfolding S.next
+  next_none e finish so = rw (at_end e) refl
+
+  pub next_some : (w : Span) → r ≡ Some w → (finish : ℕ) (so : Sofar) → got (token w.first (part text w.first w.end)) (from text w.end) so ≡ S.next finish (from text at) so
+  unfolding S.next
+  next_some w q finish so = rw (at_word w q).3 refl
 
   module _ {A : Type 0} (finish : ℕ) (so : Sofar) (k : Token → List Token → Sofar → Got A) where
-    pub none_next : r ≡ Next.End → stopped (Word finish) ≡ (S.next finish (from text at) so onward k)
-    unfolding S.next ◌onward◌
-    none_next e = rw (at_end e) refl
+    pub none_next : r ≡ None → stopped (Word finish) ≡ (S.next finish (from text at) so onward k)
+    unfolding ◌onward◌
+    none_next e = ap (λ (m : Got Token). m onward k) (next_none e finish so)
 
-    pub some_next : (s e : ℕ) → r ≡ Next.Word s e → k (token s (part text s e)) (from text e) so ≡ (S.next finish (from text at) so onward k)
-    unfolding S.next ◌onward◌
-    some_next s e q = rw (at_word s e q).3 refl
+    pub some_next : (w : Span) → r ≡ Some w → k (token w.first (part text w.first w.end)) (from text w.end) so ≡ (S.next finish (from text at) so onward k)
+    unfolding ◌onward◌
+    some_next w q = ap (λ (m : Got Token). m onward k) (next_some w q finish so)
 
-  pub position_none : r ≡ Next.End → (finish : ℕ) → finish ≡ S.position finish (from text at)
+  pub position_none : r ≡ None → (finish : ℕ) → finish ≡ S.position finish (from text at)
   unfolding S.position
   position_none e finish = rw (at_end e) refl
 
-  pub position_some : (s e : ℕ) → r ≡ Next.Word s e → (finish : ℕ) → s ≡ S.position finish (from text at)
+  pub position_some : (w : Span) → r ≡ Some w → (finish : ℕ) → w.first ≡ S.position finish (from text at)
   unfolding S.position token
-  position_some s e q finish = rw (at_word s e q).3 refl
+  position_some w q finish = rw (at_word w q).3 refl
 
 -- A test that holds, or does not.
 module _ {A : Type 0} (b : Bool) (why : Unread) (ts : List Token) (so : Sofar) (k : Unit {0} → List Token → Sofar → Got A) where
@@ -82,59 +87,77 @@ module _ (b : Bool) (why : Unread) (ts : List Token) (so : Sofar) where
   unfolding S.given
   given_false e = rw e refl
 
--- A step of the code before others.
-module _ {A B : Type 0} (f : ℕ → ℕ → A) (text : Bytes) (so : Sofar) (r : Step) (m : Got A) (e : gave f text so r ≡ m) (k : A → List Token → Sofar → Got B) where
-  pub step_stop : (why : Unread) → r ≡ Step.Stop why → stopped why ≡ (m onward k)
+-- A step of the code before others: one that reads a word, and any other.
+module _ {A B : Type 0} (f : ℕ → ℕ → A) (text : Bytes) (so : Sofar) (r : Result Span Unread) (m : Got A) (e : gave_word f text so r ≡ m) (k : A → List Token → Sofar → Got B) where
+  pub word_stop : (why : Unread) → r ≡ Err why → stopped why ≡ (m onward k)
+  unfolding gave_word ◌onward◌
+  word_stop why q = ap (λ (x : Got A). x onward k) (ap (gave_word f text so) (sym q) ∙ e)
+
+  pub word_read : (w : Span) → r ≡ Ok w → k (f w.first w.end) (from text w.end) so ≡ (m onward k)
+  unfolding gave_word ◌onward◌
+  word_read w q = ap (λ (x : Got A). x onward k) (ap (gave_word f text so) (sym q) ∙ e)
+
+module _ {A B V : Type 0} (f : V → ℕ → A) (text : Bytes) (so : Sofar) (r : Result (Read V) Unread) (m : Got A) (e : gave f text so r ≡ m) (k : A → List Token → Sofar → Got B) where
+  pub step_stop : (why : Unread) → r ≡ Err why → stopped why ≡ (m onward k)
   unfolding gave ◌onward◌
   step_stop why q = ap (λ (x : Got A). x onward k) (ap (gave f text so) (sym q) ∙ e)
 
-  pub step_read : (x at : ℕ) → r ≡ Step.Read x at → k (f x at) (from text at) so ≡ (m onward k)
+  pub step_read : (v : Read V) → r ≡ Ok v → k (f v.value v.behind) (from text v.behind) so ≡ (m onward k)
   unfolding gave ◌onward◌
-  step_read x at q = ap (λ (x : Got A). x onward k) (ap (gave f text so) (sym q) ∙ e)
+  step_read v q = ap (λ (x : Got A). x onward k) (ap (gave f text so) (sym q) ∙ e)
 
-pub part_of : (text : Bytes) (r : Step) → NamePart text r → (s e : ℕ) → r ≡ Step.Read s e → (s < e) × (e ≤ length text)
-part_of text r p s e q = subst (NamePart text) q p
+-- What `?` hands on is the reason that it was given.
+pub err_is : {T E : Type 0} (r : Result T E) (e : E) → IsErrAnd r (λ x. x ≡ e) → r ≡ Err e
+err_is (Ok x) e h = absurd h
+err_is (Err x) e h = ap Err h
 
-pub below_of : (n : ℕ) (r : Step) → Below n r → (x at : ℕ) → r ≡ Step.Read x at → x < n
-below_of n r p x at q = subst (Below n) q p
+pub word_err : {A : Type 0} (f : ℕ → ℕ → A) (text : Bytes) (so : Sofar) (r : Result Span Unread) (why : Unread) → r ≡ Err why → gave_word f text so r ≡ stopped why
+unfolding gave_word
+word_err f text so r why q = ap (gave_word f text so) q
 
--- A value before other steps.
-module _ {B : Type 0} (text : Bytes) (so : Sofar) (r : Valued) (m : Got S.Written) (e : gave_value text so r ≡ m) (k : S.Written → List Token → Sofar → Got B) where
-  pub value_stop : (why : Unread) → r ≡ Valued.Stop why → stopped why ≡ (m onward k)
-  unfolding gave_value ◌onward◌
-  value_stop why q = ap (λ (x : Got S.Written). x onward k) (ap (gave_value text so) (sym q) ∙ e)
+pub step_err : {A V : Type 0} (f : V → ℕ → A) (text : Bytes) (so : Sofar) (r : Result (Read V) Unread) (why : Unread) → r ≡ Err why → gave f text so r ≡ stopped why
+unfolding gave
+step_err f text so r why q = ap (gave f text so) q
 
-  pub value_read : (v : Constant) (at : ℕ) → r ≡ Valued.Read v at → k (written v) (from text at) so ≡ (m onward k)
-  unfolding gave_value ◌onward◌
-  value_read v at q = ap (λ (x : Got S.Written). x onward k) (ap (gave_value text so) (sym q) ∙ e)
+pub part_err : (text : Bytes) (r : Result Span Unread) (why : Unread) → r ≡ Err why → NamePart text r
+part_err text r why q = subst (NamePart text) (sym q) tt
 
-pub typed_of : (r : Valued) → PlainTyped r → (v : Constant) (at : ℕ) → r ≡ Valued.Read v at → v.ty < 4
-typed_of r p v at q = subst PlainTyped q p
+pub below_err : (n : ℕ) (r : Result (Read ℕ) Unread) (why : Unread) → r ≡ Err why → Below n r
+below_err n r why q = subst (Below n) (sym q) tt
+
+pub part_of : (text : Bytes) (r : Result Span Unread) → NamePart text r → (w : Span) → r ≡ Ok w → (w.first < w.end) × (w.end ≤ length text)
+part_of text r p w q = subst (NamePart text) q p
+
+pub below_of : (n : ℕ) (r : Result (Read ℕ) Unread) → Below n r → (v : Read ℕ) → r ≡ Ok v → v.value < n
+below_of n r p v q = subst (Below n) q p
+
+pub typed_of : (r : Result (Read Constant) Unread) → PlainTyped r → (v : Read Constant) → r ≡ Ok v → v.value.ty < 4
+typed_of r p v q = subst PlainTyped q p
 
 -- A word as a number.
-pub number_other : (w : Bytes) → number_in w ≡ Number.Other → is_number w ≡ false
+pub number_other : (w : Bytes) → number_in w ≡ Err Other → is_number w ≡ false
 unfolding number_in
 number_other w e = go (is_number w) (in_range w) refl e
   where
-    go : (b c : Bool) → is_number w ≡ b → (if b then if c then Number.Inside (word_of w) else Number.Outside else Number.Other) ≡ Number.Other → is_number w ≡ false
+    go : (b c : Bool) → is_number w ≡ b → (if b then if c then Ok (word_of w) else Err Outside else Err Other) ≡ Err Other → is_number w ≡ false
     go true true q z = absurd (let y : ◌≡◌ {A = ℕ} 0 1 = cc in omega arith)
     go true false q z = absurd (let y : ◌≡◌ {A = ℕ} 0 1 = cc in omega arith)
     go false c q z = q
 
-pub number_outside : (w : Bytes) → number_in w ≡ Number.Outside → (is_number w ≡ true) × (in_range w ≡ false)
+pub number_outside : (w : Bytes) → number_in w ≡ Err Outside → (is_number w ≡ true) × (in_range w ≡ false)
 unfolding number_in
 number_outside w e = go (is_number w) (in_range w) refl refl e
   where
-    go : (b c : Bool) → is_number w ≡ b → in_range w ≡ c → (if b then if c then Number.Inside (word_of w) else Number.Outside else Number.Other) ≡ Number.Outside → (is_number w ≡ true) × (in_range w ≡ false)
+    go : (b c : Bool) → is_number w ≡ b → in_range w ≡ c → (if b then if c then Ok (word_of w) else Err Outside else Err Other) ≡ Err Outside → (is_number w ≡ true) × (in_range w ≡ false)
     go true true q p z = absurd (let y : ◌≡◌ {A = ℕ} 0 1 = cc in omega arith)
     go true false q p z = (q, p)
     go false c q p z = absurd (let y : ◌≡◌ {A = ℕ} 0 1 = cc in omega arith)
 
-pub number_inside : (w : Bytes) (n : ℕ) → number_in w ≡ Number.Inside n → (is_number w ≡ true) × (in_range w ≡ true) × (word_of w ≡ n)
+pub number_inside : (w : Bytes) (n : ℕ) → number_in w ≡ Ok n → (is_number w ≡ true) × (in_range w ≡ true) × (word_of w ≡ n)
 unfolding number_in
 number_inside w n e = go (is_number w) (in_range w) refl refl e
   where
-    go : (b c : Bool) → is_number w ≡ b → in_range w ≡ c → (if b then if c then Number.Inside (word_of w) else Number.Outside else Number.Other) ≡ Number.Inside n → (is_number w ≡ true) × (in_range w ≡ true) × (word_of w ≡ n)
+    go : (b c : Bool) → is_number w ≡ b → in_range w ≡ c → (if b then if c then Ok (word_of w) else Err Outside else Err Other) ≡ Ok n → (is_number w ≡ true) × (in_range w ≡ true) × (word_of w ≡ n)
     go true true q p z = (q, p, (cc))
     go true false q p z = absurd (let y : ◌≡◌ {A = ℕ} 0 1 = cc in omega arith)
     go false c q p z = absurd (let y : ◌≡◌ {A = ℕ} 0 1 = cc in omega arith)
@@ -147,10 +170,10 @@ module _ (w : Bytes) (at : ℕ) (ts : List Token) (so : Sofar) where
       S.given (ltb (word_of w) 8 and in_range w) (Range at) ts so onward λ _ ts so.
       got (word_of w) ts so
 
-  pub channel_other : number_in w ≡ Number.Other → stopped (Word at) ≡ behind_channel
+  pub channel_other : number_in w ≡ Err Other → stopped (Word at) ≡ behind_channel
   channel_other e = given_off (is_number w) (Word at) ts so _ (number_other w e)
 
-  pub channel_outside : number_in w ≡ Number.Outside → stopped (Range at) ≡ behind_channel
+  pub channel_outside : number_in w ≡ Err Outside → stopped (Range at) ≡ behind_channel
   unfolding ◌and◌
   channel_outside e =
       given_off (ltb (word_of w) 8 and in_range w) (Range at) ts so _ (and_false (ltb (word_of w) 8) (in_range w) (number_outside w e).1)
@@ -160,14 +183,14 @@ module _ (w : Bytes) (at : ℕ) (ts : List Token) (so : Sofar) where
       and_false true c q = q
       and_false false c q = refl
 
-  pub channel_inside : (n : ℕ) → number_in w ≡ Number.Inside n → n < 8 → got n ts so ≡ behind_channel
+  pub channel_inside : (n : ℕ) → number_in w ≡ Ok n → n < 8 → got n ts so ≡ behind_channel
   unfolding ◌and◌
   channel_inside n e l =
       ap (λ (x : ℕ). got x ts so) (sym (number_inside w n e).2)
       ∙ given_on (ltb (word_of w) 8 and in_range w) (Range at) ts so _ (rw (lt-ltb (word_of w) 8 (subst (λ (x : ℕ). x < 8) (sym (number_inside w n e).2) l), (number_inside w n e).1) refl)
       ∙ given_on (is_number w) (Word at) ts so _ (number_inside w n e).0
 
-  pub channel_above : (n : ℕ) → number_in w ≡ Number.Inside n → 8 ≤ n → stopped (Range at) ≡ behind_channel
+  pub channel_above : (n : ℕ) → number_in w ≡ Ok n → 8 ≤ n → stopped (Range at) ≡ behind_channel
   unfolding ◌and◌
   channel_above n e l =
       given_off (ltb (word_of w) 8 and in_range w) (Range at) ts so _ (rw (le-ltb (word_of w) 8 (subst (λ (x : ℕ). 8 ≤ x) (sym (number_inside w n e).2) l)) refl)
@@ -176,13 +199,13 @@ module _ (w : Bytes) (at : ℕ) (ts : List Token) (so : Sofar) where
 -- A type.
 module _ (test : ℕ → Bool) (w : Bytes) (at : ℕ) (ts : List Token) (so : Sofar) where
   abbrev behind_type : Got ℕ
-  behind_type = elim (type_named test w) [ Place.At k ↦ got k ts so | Place.Nowhere ↦ stopped (Word at) ]
+  behind_type = elim (type_named test w) [ Some k ↦ got k ts so | None ↦ stopped (Word at) ]
 
-  pub type_none : (q : Place) → q ≡ type_named test w → q ≡ Place.Nowhere → stopped (Word at) ≡ behind_type
-  type_none q e z = ap (λ (x : Place). elim x [ Place.At k ↦ got k ts so | Place.Nowhere ↦ stopped (Word at) ]) (sym z ∙ e)
+  pub type_none : (q : Option ℕ) → q ≡ type_named test w → q ≡ None → stopped (Word at) ≡ behind_type
+  type_none q e z = ap (λ (x : Option ℕ). elim x [ Some k ↦ got k ts so | None ↦ stopped (Word at) ]) (sym z ∙ e)
 
-  pub type_some : (q : Place) (k : ℕ) → q ≡ type_named test w → q ≡ Place.At k → got k ts so ≡ behind_type
-  type_some q k e z = ap (λ (x : Place). elim x [ Place.At k ↦ got k ts so | Place.Nowhere ↦ stopped (Word at) ]) (sym z ∙ e)
+  pub type_some : (q : Option ℕ) (k : ℕ) → q ≡ type_named test w → q ≡ Some k → got k ts so ≡ behind_type
+  type_some q k e z = ap (λ (x : Option ℕ). elim x [ Some k ↦ got k ts so | None ↦ stopped (Word at) ]) (sym z ∙ e)
 
 -- A name that is bound, or is not.
 abbrev pub fresh_by : Bool → Bytes → ℕ → List Token → Sofar → Got Bytes
@@ -264,12 +287,12 @@ module _ (w : Bytes) (at : ℕ) (finish : ℕ) (ts : List Token) (so : Sofar) wh
       ∙ ap (λ (x : Bool). plain_by (is_number w) (in_range w) x f u w at ts so) (sym c) ∙ ap (λ (x : Bool). plain_by (is_number w) (in_range w) (same w true_word) x u w at ts so) (sym d)
       ∙ ap (λ (x : Bool). plain_by (is_number w) (in_range w) (same w true_word) (same w false_word) x w at ts so) (sym e)
 
-  pub plain_inside : (n : ℕ) → number_in w ≡ Number.Inside n → got (S.plain 3 n) ts so ≡ S.plain_value (token at w) finish ts so
+  pub plain_inside : (n : ℕ) → number_in w ≡ Ok n → got (S.plain 3 n) ts so ≡ S.plain_value (token at w) finish ts so
   unfolding S.given ◌onward◌
   plain_inside n e =
       ap (λ (x : ℕ). got (S.plain 3 x) ts so) (sym (number_inside w n e).2) ∙ plain_by_lem true true _ _ _ (number_inside w n e).0 (number_inside w n e).1 refl refl refl
 
-  pub plain_outside : number_in w ≡ Number.Outside → stopped (Range at) ≡ S.plain_value (token at w) finish ts so
+  pub plain_outside : number_in w ≡ Err Outside → stopped (Range at) ≡ S.plain_value (token at w) finish ts so
   unfolding S.given ◌onward◌
   plain_outside e = plain_by_lem true false _ _ _ (number_outside w e).0 (number_outside w e).1 refl refl refl
 
@@ -289,17 +312,17 @@ module _ (w : Bytes) (at : ℕ) (finish : ℕ) (ts : List Token) (so : Sofar) wh
     plain_none e d b = plain_by_lem false _ false false false no_number refl e d b
 
 -- A type's number is small.
-below_step : (test : ℕ → Bool) (k left n : ℕ) → (first_from test (suc k) left ≡ Place.At n → n < suc k + left) → (b : Bool)
-    → elim b [ true ↦ Place.At k | false ↦ first_from test (suc k) left ] ≡ Place.At n → n < k + suc left
+below_step : (test : ℕ → Bool) (k left n : ℕ) → (first_from test (suc k) left ≡ Some n → n < suc k + left) → (b : Bool)
+    → elim b [ true ↦ Some k | false ↦ first_from test (suc k) left ] ≡ Some n → n < k + suc left
 below_step test k left n h true q = let z : k ≡ n = cc in omega arith
 below_step test k left n h false q = let z : n < suc k + left = h q in omega arith
 
-pub from_below : (test : ℕ → Bool) (k left n : ℕ) → first_from test k left ≡ Place.At n → n < k + left
+pub from_below : (test : ℕ → Bool) (k left n : ℕ) → first_from test k left ≡ Some n → n < k + left
 unfolding first_from
 from_below test k zero n e = absurd (let y : ◌≡◌ {A = ℕ} 0 1 = cc in omega arith)
 from_below test k (suc left) n e = below_step test k left n (λ q. from_below test (suc k) left n q) (test k) e
 
-pub type_small : (test : ℕ → Bool) (w : Bytes) (q : Place) (k : ℕ) → q ≡ type_named test w → q ≡ Place.At k → k < 8
+pub type_small : (test : ℕ → Bool) (w : Bytes) (q : Option ℕ) (k : ℕ) → q ≡ type_named test w → q ≡ Some k → k < 8
 unfolding type_named first
 type_small test w q k e z = from_below _ 0 8 k (sym e ∙ z)
 
@@ -308,17 +331,9 @@ pub is_number_true : (w : Bytes) → is_number w ≡ true → true ≡ S.is_plai
 unfolding ◌or◌ S.is_plain_value
 is_number_true w e = ap (λ (b : Bool). b or same w true_word or same w false_word or same w unit_word) (sym e)
 
-pub is_word_value : (w : Bytes) (t f u : Bool) → is_number w ≡ false → t ≡ same w true_word → f ≡ same w false_word → u ≡ same w unit_word → (t or (f or u)) ≡ S.is_plain_value w
+pub is_word_value : (w : Bytes) → is_number w ≡ false → S.is_plain_value w ≡ (same w true_word or same w false_word or same w unit_word)
 unfolding ◌or◌ S.is_plain_value
-is_word_value w t f u e a b c =
-    ap (λ (x : Bool). x or (f or u)) a ∙ ap (λ (x : Bool). same w true_word or (x or u)) b ∙ ap (λ (x : Bool). same w true_word or (same w false_word or x)) c
-    ∙ assoc (same w true_word) (same w false_word) (same w unit_word)
-    ∙ ap (λ (x : Bool). x or same w true_word or same w false_word or same w unit_word) (sym e)
-  where
-    assoc : (x y z : Bool) → (x or (y or z)) ≡ (false or x or y or z)
-    assoc true y z = refl
-    assoc false true z = refl
-    assoc false false z = refl
+is_word_value w e = rw e refl
 
 -- Some, none, and what is neither.
 module _ (w : Bytes) (at : ℕ) (finish : ℕ) (ts : List Token) (so : Sofar) where
@@ -379,24 +394,21 @@ pub no_name : (text : Bytes) → named_by text 0 0 ≡ []
 unfolding part
 no_name text = named_part text 0 0 (omega arith) (omega arith)
 
-pub is_word_plain : (w : Bytes) (x y t f u : Bool) → x ≡ (t or y) → y ≡ (f or u) → is_number w ≡ false → t ≡ same w true_word → f ≡ same w false_word → u ≡ same w unit_word → x ≡ S.is_plain_value w
-is_word_plain w x y t f u a b e c d g = a ∙ ap (λ (z : Bool). t or z) b ∙ is_word_value w t f u e c d g
-
 -- A heading before other steps, and headings of no name.
-module _ (text : Bytes) (own ownend : ℕ) where
+module _ (text : Bytes) (own : Span) where
   pub head_none : (ty present word : ℕ) (at : ℕ) (so : Sofar)
-      → gave_head text so (Headed.Read (record { label = own; labelend = ownend; binds = 0; bindsend = 0; ty = ty; present = present; word = word }) at)
-      ≡ got (record { label = named_by text own ownend; binds = []; type = ty; present = present; word = word }) (from text at) so
-  unfolding gave_head head_of
+      → gave_head text so (Ok (record { value = record { label = own; binds = record { first = 0; end = 0 }; ty = ty; present = present; word = word }; behind = at }))
+      ≡ got (record { label = named_by text own.first own.end; binds = []; type = ty; present = present; word = word }) (from text at) so
+  unfolding head_of gave
   head_none ty present word at so =
-      ap (λ (n : Bytes). got (record { label = named_by text own ownend; binds = n; type = ty; present = present; word = word }) (from text at) so) (no_name text)
+      ap (λ (n : Bytes). got (record { label = named_by text own.first own.end; binds = n; type = ty; present = present; word = word }) (from text at) so) (no_name text)
 
-  pub head_binds : (s e ty : ℕ) (at : ℕ) (so : Sofar) → s < e → e ≤ length text
-      → gave_head text so (Headed.Read (record { label = own; labelend = ownend; binds = s; bindsend = e; ty = ty; present = 0; word = 0 }) at)
-      ≡ got (record { label = named_by text own ownend; binds = part text s e; type = ty; present = 0; word = 0 }) (from text at) so
-  unfolding gave_head head_of
-  head_binds s e ty at so h k =
-      ap (λ (n : Bytes). got (record { label = named_by text own ownend; binds = n; type = ty; present = 0; word = 0 }) (from text at) so) (named_part text s e (omega arith) k)
+  pub head_binds : (w : Span) (ty : ℕ) (at : ℕ) (so : Sofar) → w.first < w.end → w.end ≤ length text
+      → gave_head text so (Ok (record { value = record { label = own; binds = w; ty = ty; present = 0; word = 0 }; behind = at }))
+      ≡ got (record { label = named_by text own.first own.end; binds = part text w.first w.end; type = ty; present = 0; word = 0 }) (from text at) so
+  unfolding head_of gave
+  head_binds w ty at so h k =
+      ap (λ (n : Bytes). got (record { label = named_by text own.first own.end; binds = n; type = ty; present = 0; word = 0 }) (from text at) so) (named_part text w.first w.end (omega arith) k)
 
 -- What a type field asks for.
 module _ (f : TypeField) (own : Bytes) (finish : ℕ) (ts : List Token) (so : Sofar) where

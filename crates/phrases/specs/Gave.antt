@@ -1,6 +1,6 @@
 -- What the code's steps say of the definitions': each as what it gives, the words left and what is so far.
 -- Assumes nothing: these are definitions.
-use Rattle.std.specs.Prelude.{ℕ, ◌≤◌, ◌<◌, ◌≡◌, List, length, get_or}
+use Rattle.std.specs.Prelude.{ℕ, ◌≤◌, ◌<◌, ◌≡◌, List, length, get_or, Result, Ok, Err}
 use Rattle.rules.specs.Bytes.{Bytes}
 use Rattle.texts.specs.Tokens.{Token, from}
 use Rattle.texts.specs.Rows.{Row, Sofar, Got, got, stopped, ◌onward◌}
@@ -9,11 +9,11 @@ use Rattle.texts.specs.Spelling.{close₀}
 use Rattle.texts.specs.Steps.{Written, next, expect, type, plain_value}
 use Rattle.texts.specs.Reader.{Heading}
 use Rattle.labels.specs.Noted.{named_by, names_in}
-use Rattle.phrases.specs.declared.Step.{Step}
+use Rattle.texts.specs.declared.Unread.{Unread}
+use Rattle.tokens.specs.declared.Span.{Span}
+use Rattle.phrases.specs.declared.Read.{Read}
 use Rattle.phrases.specs.declared.Constant.{Constant}
-use Rattle.phrases.specs.declared.Valued.{Valued}
 use Rattle.phrases.specs.declared.Head.{Head}
-use Rattle.phrases.specs.declared.Headed.{Headed}
 
 -- What steps that note names leave alone.
 pub record Past : Type 0 where
@@ -32,10 +32,15 @@ pub record Tables (names : List ℕ) (n : ℕ) : Type 0 where
   pub variables : get_or names 0 0 ≤ n
   pub branches : get_or names 2017 0 ≤ n
 
--- A step: something made of its number and of the position behind it, and the words from there on; or why the text is not read.
-unfoldable pub gave : {A : Type 0} → (ℕ → ℕ → A) → Bytes → Sofar → Step → Got A
-gave f text so (Step.Read x at) = got (f x at) (from text at) so
-gave f text so (Step.Stop why) = stopped why
+-- A step: something made of what it read and of the position behind it, and the words from there on; or why the text is not read.
+unfoldable pub gave : {A V : Type 0} → (V → ℕ → A) → Bytes → Sofar → Result (Read V) Unread → Got A
+gave f text so (Ok r) = got (f r.value r.behind) (from text r.behind) so
+gave f text so (Err why) = stopped why
+
+-- A step that is one word: something made of where it begins and ends.
+unfoldable pub gave_word : {A : Type 0} → (ℕ → ℕ → A) → Bytes → Sofar → Result Span Unread → Got A
+gave_word f text so (Ok w) = got (f w.first w.end) (from text w.end) so
+gave_word f text so (Err why) = stopped why
 
 abbrev pub number : ℕ → ℕ → ℕ
 number x at = x
@@ -43,41 +48,39 @@ number x at = x
 abbrev pub nothing : ℕ → ℕ → Unit {0}
 nothing x at = tt
 
--- A name that was read is a part of the text.
-abbrev pub NamePart : Bytes → Step → Type 0
-NamePart text (Step.Read s e) = (s < e) × (e ≤ length text)
-NamePart text (Step.Stop why) = Unit {0}
+-- A word that was read is a part of the text.
+abbrev pub NamePart : Bytes → Result Span Unread → Type 0
+NamePart text (Ok w) = (w.first < w.end) × (w.end ≤ length text)
+NamePart text (Err why) = Unit {0}
 
 -- A number that was read is below another.
-abbrev pub Below : ℕ → Step → Type 0
-Below n (Step.Read x at) = x < n
-Below n (Step.Stop why) = Unit {0}
+abbrev pub Below : ℕ → Result (Read ℕ) Unread → Type 0
+Below n (Ok r) = r.value < n
+Below n (Err why) = Unit {0}
 
 -- A value.
 unfoldable pub written : Constant → Written
 written v = record { type = v.ty; present = v.present; word = v.word }
 
-unfoldable pub gave_value : Bytes → Sofar → Valued → Got Written
-gave_value text so (Valued.Read v at) = got (written v) (from text at) so
-gave_value text so (Valued.Stop why) = stopped why
+abbrev pub gave_value : Bytes → Sofar → Result (Read Constant) Unread → Got Written
+gave_value text so r = gave (λ v at. written v) text so r
 
-abbrev pub PlainTyped : Valued → Type 0
-PlainTyped (Valued.Read v at) = v.ty < 4
-PlainTyped (Valued.Stop why) = Unit {0}
+abbrev pub PlainTyped : Result (Read Constant) Unread → Type 0
+PlainTyped (Ok r) = r.value.ty < 4
+PlainTyped (Err why) = Unit {0}
 
 -- A heading.
 unfoldable pub head_of : Bytes → Head → Heading
 head_of text h = record {
-  label = named_by text h.label h.labelend;
-  binds = named_by text h.binds h.bindsend;
+  label = named_by text h.label.first h.label.end;
+  binds = named_by text h.binds.first h.binds.end;
   type = h.ty;
   present = h.present;
   word = h.word;
 }
 
-unfoldable pub gave_head : Bytes → Sofar → Headed → Got Heading
-gave_head text so (Headed.Read h at) = got (head_of text h) (from text at) so
-gave_head text so (Headed.Stop why) = stopped why
+abbrev pub gave_head : Bytes → Sofar → Result (Read Head) Unread → Got Heading
+gave_head text so r = gave (λ h at. head_of text h) text so r
 
 -- Behind some: a plain value; behind none: a plain type. (The two arms of maybe_value.)
 unfoldable pub some_value : ℕ → List Token → Sofar → Got Written

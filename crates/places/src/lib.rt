@@ -6,8 +6,6 @@ ghost use Rattle.std.specs.Prelude.{◌≡◌, ◌<◌};
 ghost use Rattle.rules.specs.Places.{sooner as soonerOf, wrong_unless, wrong_if};
 ghost use Rattle.places.specs.Numbers.{place_in};
 
-use rules::Place;
-
 // No place: above every node's number.
 pub const NOWHERE: u32 = 65535;
 
@@ -35,12 +33,8 @@ pub fn wrong_if(wrong: bool, n: usize) -> u32
 }
 
 // The place that a number stands for.
-pub fn place(m: u32) -> Place
+pub fn place(m: u32) -> Option<u32>
     ensures { result ≡ place_in m }
 {
-    if m < NOWHERE {
-        Place::At(m)
-    } else {
-        Place::Nowhere
-    }
+    if m < NOWHERE { Some(m) } else { None }
 }

@@ -1,6 +1,7 @@
 -- The parts make up what watchrun prints, for every input.
 -- Assumes nothing.
-use Rattle.std.specs.Prelude.{if◌then◌else◌}
+use Rattle.std.specs.Prelude.{if◌then◌else◌, Ok, Err}
+use Rattle.rules.specs.Verdicts.{CheckAnswer, Verdict}
 use mathlib.Core.Path.{◌≡◌, refl, sym, ap, ◌∙◌}
 use mathlib.Core.Bool.{Bool, true, false}
 use mathlib.Core.List.{[], ◌∷◌, ◌++◌, append-nil}
@@ -19,10 +20,6 @@ use Rattle.rules.specs.declared.Value.{Value}
 use Rattle.rules.specs.declared.Tally.{Tally}
 use Rattle.rules.specs.declared.Refusal.{Refusal}
 use Rattle.rules.specs.declared.Refusal.TheVariants.{StateFault}
-use Rattle.rules.specs.declared.Verdict.{Verdict}
-use Rattle.rules.specs.declared.Verdict.TheVariants.{Fine, Refuse}
-use Rattle.rules.specs.declared.Checked.{Checked}
-use Rattle.rules.specs.declared.Checked.TheVariants.{Accepted}
 use Rattle.rules.proofs.Static.{and_both}
 use Rattle.lines.specs.Print.{first_line, step_line, refused_line}
 use Rattle.turns.specs.Decided.{blocks_taken, most_records, blocks_left, wanted, is_record}
@@ -77,18 +74,18 @@ unfolding step_lines
 lines_none p recs steps total st = refl
 
 lines_refused : (p : Bytes) (more : ℕ) (recs : Bytes) (steps total : ℕ) (st : Bytes) {r : Refusal} → input_length ≤ length recs
-    → record_verdict steps st (take input_length recs) ≡ Refuse r → step_lines p (suc more) recs steps total st ≡ refused_line r
+    → record_verdict steps st (take input_length recs) ≡ Err r → step_lines p (suc more) recs steps total st ≡ refused_line r
 unfolding step_lines
 lines_refused p more recs steps total st h e = rw (le-ltb (length recs) input_length h, e, step_lines)
 
 lines_stuck : (p : Bytes) (more : ℕ) (recs : Bytes) (steps total : ℕ) (st : Bytes) → input_length ≤ length recs
-    → record_verdict steps st (take input_length recs) ≡ Fine → step_of p (take input_length recs) st ≡ NotMade
+    → record_verdict steps st (take input_length recs) ≡ Ok tt → step_of p (take input_length recs) st ≡ NotMade
     → step_lines p (suc more) recs steps total st ≡ refused_line StateFault
 unfolding step_lines
 lines_stuck p more recs steps total st h e f = rw (le-ltb (length recs) input_length h, e, step_lines, f)
 
 lines_made : (p : Bytes) (more : ℕ) (recs : Bytes) (steps total : ℕ) (st : Bytes) {v : Value} {st₁ : Bytes} {w : Tally} → input_length ≤ length recs
-    → record_verdict steps st (take input_length recs) ≡ Fine → step_of p (take input_length recs) st ≡ Made v st₁ w
+    → record_verdict steps st (take input_length recs) ≡ Ok tt → step_of p (take input_length recs) st ≡ Made v st₁ w
     → step_lines p (suc more) recs steps total st
     ≡ step_line (time_in (take input_length recs)) v w.work ++ step_lines p more (drop input_length recs) (suc steps) (total + w.work) st₁
 unfolding step_lines
@@ -101,17 +98,17 @@ turns_over : (p : Bytes) (left : ℕ) (rest : Bytes) (steps total : ℕ) (st lin
 turns_over p left rest steps total st line e = turns_by p left rest steps total st _ e ∙ append-nil line
 
 -- a whole record's turn, by its verdict and its step
-turn_refused : (p rec : Bytes) (steps total : ℕ) (st : Bytes) {r : Refusal} → record_verdict steps st rec ≡ Refuse r
+turn_refused : (p rec : Bytes) (steps total : ℕ) (st : Bytes) {r : Refusal} → record_verdict steps st rec ≡ Err r
     → record_turn p rec steps total st ≡ record { line = refused_line r; more = false; steps = steps; total = total; state = st }
 unfolding record_turn step_turn
 turn_refused p rec steps total st e = rw e
 
-turn_stuck : (p rec : Bytes) (steps total : ℕ) (st : Bytes) → record_verdict steps st rec ≡ Fine → step_of p rec st ≡ NotMade
+turn_stuck : (p rec : Bytes) (steps total : ℕ) (st : Bytes) → record_verdict steps st rec ≡ Ok tt → step_of p rec st ≡ NotMade
     → record_turn p rec steps total st ≡ record { line = refused_line StateFault; more = false; steps = steps; total = total; state = st }
 unfolding record_turn step_turn
 turn_stuck p rec steps total st e f = rw (e, f)
 
-turn_made : (p rec : Bytes) (steps total : ℕ) (st : Bytes) {v : Value} {st₁ : Bytes} {w : Tally} → record_verdict steps st rec ≡ Fine
+turn_made : (p rec : Bytes) (steps total : ℕ) (st : Bytes) {v : Value} {st₁ : Bytes} {w : Tally} → record_verdict steps st rec ≡ Ok tt
     → step_of p rec st ≡ Made v st₁ w
     → record_turn p rec steps total st
     ≡ record { line = step_line (time_in rec) v w.work; more = true; steps = suc steps; total = total + w.work; state = st₁ }
@@ -141,7 +138,7 @@ module _ (p : Bytes) (more : ℕ)
         ap (λ (q : Bytes). turn_of p q steps total st) piece
         ∙ whole_turn p (take input_length rest) steps total st early (omega (arith, length-take-le input_length rest g))
 
-    stepped : record_verdict steps st (take input_length rest) ≡ Fine → (s : Stepped) → step_of p (take input_length rest) st ≡ s
+    stepped : record_verdict steps st (take input_length rest) ≡ Ok tt → (s : Stepped) → step_of p (take input_length rest) st ≡ s
         → turns_from p (suc (suc more)) rest steps total st ≡ step_lines p (suc more) rest steps total st
     stepped e NotMade f =
         turns_over p (suc more) rest steps total st _ (turn_is ∙ turn_stuck p (take input_length rest) steps total st e f)
@@ -155,10 +152,10 @@ module _ (p : Bytes) (more : ℕ)
 
     judged : (v : Verdict) → record_verdict steps st (take input_length rest) ≡ v
         → turns_from p (suc (suc more)) rest steps total st ≡ step_lines p (suc more) rest steps total st
-    judged (Refuse r) e =
+    judged (Err r) e =
         turns_over p (suc more) rest steps total st _ (turn_is ∙ turn_refused p (take input_length rest) steps total st e)
         ∙ sym (lines_refused p more rest steps total st g e)
-    judged Fine e = stepped e (step_of p (take input_length rest) st) refl
+    judged (Ok _) e = stepped e (step_of p (take input_length rest) st) refl
 
   next : (b : Bool) → ltb (length rest) input_length ≡ b → turns_from p (suc (suc more)) rest steps total st ≡ step_lines p (suc more) rest steps total st
   next true e = short (ltb-true _ _ e)
@@ -240,10 +237,10 @@ module _ (input : Bytes) where
       (read_so ∙ ap (λ (k : ℕ). take k input) a, unread_so ∙ ap (λ (k : ℕ). drop k input) a)
 
 -- a program and its records, by what check found
-on : (p recs : Bytes) (found : Checked) → played_on p recs found ≡ lines_of p recs found
+on : (p recs : Bytes) (found : CheckAnswer) → played_on p recs found ≡ lines_of p recs found
 unfolding played_on lines_of opening_line
-on p recs (Accepted count cells most type) = ap (λ (q : Bytes). first_line count cells most type ++ q) (turns p most_records recs 0 0 (start_state p) refl)
-on p recs (Checked.Refused r) = refl
+on p recs (Ok found) = ap (λ (q : Bytes). first_line found.nodes found.cells found.bound found.root ++ q) (turns p most_records recs 0 0 (start_state p) refl)
+on p recs (Err r) = refl
 
 -- What the parts make, put together as watchrun does, is what watchrun prints: for every input.
 pub parts_make_printed : (input : Bytes) → played input ≡ printed input

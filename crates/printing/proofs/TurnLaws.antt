@@ -1,6 +1,8 @@
 -- A turn by the run of its one record.
 -- Assumes nothing.
-use Rattle.std.specs.Prelude.{if◌then◌else◌}
+use Rattle.std.specs.Prelude.{if◌then◌else◌, Ok, Err}
+use Rattle.rules.proofs.Same.{same_finished, same_refused}
+use Rattle.rules.specs.Verdicts.{RunAnswer, Verdict, finished_with, refused_after}
 use mathlib.Core.Path.{◌≡◌, refl, sym, ap, ◌∙◌}
 use mathlib.Core.Bool.{Bool, true, false}
 use Prim.Native.Nat.{ℕ, zero, suc, ◌+◌, ◌*◌, ◌/◌, ◌≤◌, ◌<◌}
@@ -20,10 +22,6 @@ use Rattle.rules.specs.declared.Value.TheVariants.{Plain, Absent, Present}
 use Rattle.rules.specs.declared.Tally.{Tally}
 use Rattle.rules.specs.declared.Refusal.{Refusal}
 use Rattle.rules.specs.declared.Refusal.TheVariants.{InputFault, TimeBack}
-use Rattle.rules.specs.declared.Verdict.{Verdict}
-use Rattle.rules.specs.declared.Verdict.TheVariants.{Fine, Refuse}
-use Rattle.rules.specs.declared.Ran.{Ran}
-use Rattle.rules.specs.declared.Ran.TheVariants.{Finished}
 use Rattle.rules.proofs.Static.{and_both}
 use Rattle.rules.proofs.Cells.{u64_same, in_write_at}
 use Rattle.rules.proofs.Round.{Fits, round}
@@ -67,41 +65,41 @@ read_back out v l h =
     ap unpacked (same ∙ eight_bytes m (omega (arith, packed_small v 0 h (omega arith)))) ∙ round v (fits v h)
 
 -- the verdict on a record, whatever the number of steps before it
-fine_later : (a b : Bool) (steps : ℕ) → (refuse_if a (InputFault 0) otherwise refuse_if b (TimeBack 0)) ≡ Fine
-    → (refuse_if a (InputFault steps) otherwise refuse_if b (TimeBack steps)) ≡ Fine
+fine_later : (a b : Bool) (steps : ℕ) → (refuse_if a (InputFault 0) otherwise refuse_if b (TimeBack 0)) ≡ Ok tt
+    → (refuse_if a (InputFault steps) otherwise refuse_if b (TimeBack steps)) ≡ Ok tt
 unfolding refuse_if ◌otherwise◌
 fine_later true b steps e = absurd (not_fine e)
 fine_later false true steps e = absurd (not_fine e)
 fine_later false false steps e = refl
 
-refused_later : (a b : Bool) (steps : ℕ) (r : Refusal) → (refuse_if a (InputFault 0) otherwise refuse_if b (TimeBack 0)) ≡ Refuse r
-    → (refuse_if a (InputFault steps) otherwise refuse_if b (TimeBack steps)) ≡ Refuse (placed_at steps r)
+refused_later : (a b : Bool) (steps : ℕ) (r : Refusal) → (refuse_if a (InputFault 0) otherwise refuse_if b (TimeBack 0)) ≡ Err r
+    → (refuse_if a (InputFault steps) otherwise refuse_if b (TimeBack steps)) ≡ Err (placed_at steps r)
 unfolding refuse_if ◌otherwise◌ placed_at
-refused_later true b steps r e = let f : ◌≡◌ {A = Refusal} (InputFault 0) r = cc in ap (λ (q : Refusal). Refuse (placed_at steps q)) f
-refused_later false true steps r e = let f : ◌≡◌ {A = Refusal} (TimeBack 0) r = cc in ap (λ (q : Refusal). Refuse (placed_at steps q)) f
+refused_later true b steps r e = let f : ◌≡◌ {A = Refusal} (InputFault 0) r = cc in ap (λ (q : Refusal). Err (placed_at steps q)) f
+refused_later false true steps r e = let f : ◌≡◌ {A = Refusal} (TimeBack 0) r = cc in ap (λ (q : Refusal). Err (placed_at steps q)) f
 refused_later false false steps r e = absurd (not_fine (sym e))
 
 module _ (p rec st out : Bytes) where
-  verdict_fine : (steps : ℕ) → record_verdict 0 st rec ≡ Fine → record_verdict steps st rec ≡ Fine
+  verdict_fine : (steps : ℕ) → record_verdict 0 st rec ≡ Ok tt → record_verdict steps st rec ≡ Ok tt
   unfolding record_verdict
   verdict_fine steps e = fine_later (input_wrong rec) (time_wrong st rec) steps e
 
-  verdict_refused : (steps : ℕ) {r : Refusal} → record_verdict 0 st rec ≡ Refuse r → record_verdict steps st rec ≡ Refuse (placed_at steps r)
+  verdict_refused : (steps : ℕ) {r : Refusal} → record_verdict 0 st rec ≡ Err r → record_verdict steps st rec ≡ Err (placed_at steps r)
   unfolding record_verdict
   verdict_refused steps {r} e = refused_later (input_wrong rec) (time_wrong st rec) steps r e
 
-  in_its_time : record_verdict 0 st rec ≡ Fine → time_in rec ≤ last_moment
+  in_its_time : record_verdict 0 st rec ≡ Ok tt → time_in rec ≤ last_moment
   unfolding record_verdict
   in_its_time e = in_time rec (if_fine _ _ (both_fine _ _ e).0)
 
   -- a run of one record: it is refused, or its step is made
-  stops : {r : Refusal} → record_verdict 0 st (input_at rec 0) ≡ Refuse r
-      → run_from p rec (suc zero) 0 0 no_step st out ≡ record { answer = Ran.Refused r 0 no_step; state = st; output = out }
+  stops : {r : Refusal} → record_verdict 0 st (input_at rec 0) ≡ Err r
+      → run_from p rec (suc zero) 0 0 no_step st out ≡ record { answer = refused_after r 0 no_step; state = st; output = out }
   unfolding run_from
   stops e = rw (e, run_from)
 
-  makes : {v : Value} {st₁ : Bytes} {w : Tally} → record_verdict 0 st (input_at rec 0) ≡ Fine → step_of p (input_at rec 0) st ≡ Made v st₁ w
-      → run_from p rec (suc zero) 0 0 no_step st out ≡ record { answer = Finished 1 (0 + w.work) (first_wrapped no_step 0 w); state = st₁; output = write_at out 0 (value_bytes v) }
+  makes : {v : Value} {st₁ : Bytes} {w : Tally} → record_verdict 0 st (input_at rec 0) ≡ Ok tt → step_of p (input_at rec 0) st ≡ Made v st₁ w
+      → run_from p rec (suc zero) 0 0 no_step st out ≡ record { answer = finished_with 1 (0 + w.work) (first_wrapped no_step 0 w); state = st₁; output = write_at out 0 (value_bytes v) }
   unfolding run_from
   makes e f = rw (e, run_from, f)
 
@@ -113,26 +111,26 @@ module _ (p rec st out : Bytes) where
     one : run_from p rec (length rec / input_length) 0 0 no_step st out ≡ run_from p rec (suc zero) 0 0 no_step st out
     one = ap (λ (k : ℕ). run_from p rec k 0 0 no_step st out) (let e : length rec / 40 ≡ suc zero = omega (arith, long) in e)
 
-    run_stops : {r : Refusal} → record_verdict 0 st rec ≡ Refuse r
-        → run_from p rec (length rec / input_length) 0 0 no_step st out ≡ record { answer = Ran.Refused r 0 no_step; state = st; output = out }
+    run_stops : {r : Refusal} → record_verdict 0 st rec ≡ Err r
+        → run_from p rec (length rec / input_length) 0 0 no_step st out ≡ record { answer = refused_after r 0 no_step; state = st; output = out }
     run_stops e = one ∙ stops (ap (record_verdict 0 st) whole ∙ e)
 
-    run_makes : {v : Value} {st₁ : Bytes} {w : Tally} → record_verdict 0 st rec ≡ Fine → step_of p rec st ≡ Made v st₁ w
+    run_makes : {v : Value} {st₁ : Bytes} {w : Tally} → record_verdict 0 st rec ≡ Ok tt → step_of p rec st ≡ Made v st₁ w
         → run_from p rec (length rec / input_length) 0 0 no_step st out
-        ≡ record { answer = Finished 1 (0 + w.work) (first_wrapped no_step 0 w); state = st₁; output = write_at out 0 (value_bytes v) }
+        ≡ record { answer = finished_with 1 (0 + w.work) (first_wrapped no_step 0 w); state = st₁; output = write_at out 0 (value_bytes v) }
     run_makes e f = one ∙ makes (ap (record_verdict 0 st) whole ∙ e) (ap (λ (q : Bytes). step_of p q st) whole ∙ f)
 
 -- what a run of one record leaves, as a turn after so many steps and so much work
-module _ (out : Bytes) {p rec st st₁ out₁ : Bytes} {answer : Ran} (steps total : ℕ) (long : length rec ≡ 40) (room : length out ≡ 8)
+module _ (out : Bytes) {p rec st st₁ out₁ : Bytes} {answer : RunAnswer} (steps total : ℕ) (long : length rec ≡ 40) (room : length out ≡ 8)
     (hp : Small p) (hs : Small st) (hr : Small rec) (acc : Accepted p) (well : well_formed p st ≡ true)
     (l : Leaves (run_from p rec (length rec / input_length) 0 0 no_step st out) answer st₁ out₁) where
-  made : record_verdict 0 st rec ≡ Fine → StepMade p rec st
+  made : record_verdict 0 st rec ≡ Ok tt → StepMade p rec st
   made e = step_goes_on p rec st acc (seated p hp acc) well hs hr (in_its_time p rec st out e)
 
   outcome : {o : RunOutcome} → run_from p rec (length rec / input_length) 0 0 no_step st out ≡ o → Leaves o answer st₁ out₁
   outcome e = rw e at l
 
-  pub finishes : {k w mark : ℕ} → answer ≡ Finished k w mark
+  pub finishes : {k w mark : ℕ} → answer ≡ finished_with k w mark
       → record_turn p rec steps total st
       ≡ record { line = step_line (time_in rec) (unpacked (u64_at out₁ 0)) w; more = true; steps = suc steps; total = total + w; state = st₁ }
   unfolding record_turn step_turn
@@ -141,21 +139,21 @@ module _ (out : Bytes) {p rec st st₁ out₁ : Bytes} {answer : Ran} (steps tot
       go : (v : Verdict) → record_verdict 0 st rec ≡ v
           → step_turn rec steps total st (record_verdict steps st rec) (step_of p rec st)
           ≡ record { line = step_line (time_in rec) (unpacked (u64_at out₁ 0)) w; more = true; steps = suc steps; total = total + w; state = st₁ }
-      go (Refuse r) e =
-          let b : Finished k w mark ≡ Ran.Refused r 0 no_step = sym a ∙ (outcome (run_stops p rec st out long e)).answer_is in
+      go (Err r) e =
+          let b : finished_with k w mark ≡ refused_after r 0 no_step = sym a ∙ (outcome (run_stops p rec st out long e)).answer_is in
           absurd (let z : ◌≡◌ {A = ℕ} 0 1 = cc in omega arith)
-      go Fine e =
+      go (Ok _) e =
           let m = made e in
           let o = outcome (run_makes p rec st out long e m.made) in
-          let b : Finished k w mark ≡ Finished 1 (0 + m.tally.work) (first_wrapped no_step 0 m.tally) = sym a ∙ o.answer_is in
-          let c : w ≡ 0 + m.tally.work = cc in
+          let b : finished_with k w mark ≡ finished_with 1 (0 + m.tally.work) (first_wrapped no_step 0 m.tally) = sym a ∙ o.answer_is in
+          let c : w ≡ 0 + m.tally.work = (same_finished b).1 in
           let d : m.tally.work ≡ w = omega (arith, c) in
           let f : m.output ≡ unpacked (u64_at out₁ 0)
           = sym (ap (λ (q : Bytes). unpacked (u64_at q 0)) o.output_is ∙ read_back out m.output room m.valid) in
           rw (verdict_fine p rec st out steps e, m.made)
           (λ i. record { line = step_line (time_in rec) (f i) (d i); more = true; steps = suc steps; total = total + d i; state = sym o.state_is i })
 
-  pub refuses : {r : Refusal} {w mark : ℕ} → answer ≡ Ran.Refused r w mark
+  pub refuses : {r : Refusal} {w mark : ℕ} → answer ≡ refused_after r w mark
       → record_turn p rec steps total st
       ≡ record { line = refused_line (placed_at steps r); more = false; steps = steps; total = total; state = st₁ }
   unfolding record_turn step_turn
@@ -164,22 +162,22 @@ module _ (out : Bytes) {p rec st st₁ out₁ : Bytes} {answer : Ran} (steps tot
       go : (v : Verdict) → record_verdict 0 st rec ≡ v
           → step_turn rec steps total st (record_verdict steps st rec) (step_of p rec st)
           ≡ record { line = refused_line (placed_at steps r); more = false; steps = steps; total = total; state = st₁ }
-      go (Refuse q) e =
+      go (Err q) e =
           let o = outcome (run_stops p rec st out long e) in
-          let b : Ran.Refused r w mark ≡ Ran.Refused q 0 no_step = sym a ∙ o.answer_is in
-          let c : ◌≡◌ {A = Refusal} q r = cc in
+          let b : refused_after r w mark ≡ refused_after q 0 no_step = sym a ∙ o.answer_is in
+          let c : ◌≡◌ {A = Refusal} q r = sym (same_refused b).0 in
           rw (verdict_refused p rec st out steps e)
           (λ i. record { line = refused_line (placed_at steps (c i)); more = false; steps = steps; total = total; state = sym o.state_is i })
-      go Fine e =
+      go (Ok _) e =
           let m = made e in
-          let b : Ran.Refused r w mark ≡ Finished 1 (0 + m.tally.work) (first_wrapped no_step 0 m.tally) = sym a ∙ (outcome (run_makes p rec st out long e m.made)).answer_is in
+          let b : refused_after r w mark ≡ finished_with 1 (0 + m.tally.work) (first_wrapped no_step 0 m.tally) = sym a ∙ (outcome (run_makes p rec st out long e m.made)).answer_is in
           absurd (let z : ◌≡◌ {A = ℕ} 0 1 = cc in omega arith)
 
 -- so much work has the step of a run of one
-pub spent : {k w mark size : ℕ} {answer : Ran} → answer ≡ Finished k w mark → work_in answer ≤ most_work * (size / input_length) → size ≡ 40 → w ≤ most_work
+pub spent : {k w mark size : ℕ} {answer : RunAnswer} → answer ≡ finished_with k w mark → work_in answer ≤ most_work * (size / input_length) → size ≡ 40 → w ≤ most_work
 unfolding work_in
 spent {k} {w} {mark} {size} e h l =
-    let g : work_in (Finished k w mark) ≤ most_work * (size / input_length) = rw e at h in
+    let g : work_in (finished_with k w mark) ≤ most_work * (size / input_length) = rw e at h in
     omega (arith, g, l)
 
 -- an outcome that is known, and a line that is its own
@@ -197,32 +195,24 @@ pub record_early : (got : ℕ) {steps : ℕ} → is_record got steps ≡ true �
 unfolding is_record
 record_early got e = let a = and_both _ _ e in (ltb-true _ _ a.0, leb-true _ _ a.1)
 
--- the turn on the first bytes of a room of 40: that of the record, or the last
-module _ (p rec : Bytes) (got steps total : ℕ) (st : Bytes) (h : got ≤ 40) (l : length rec ≡ 40) where
-  long : length (take got rec) ≡ got
-  long = length-take-le got rec (omega (arith, h, l))
-
-  pub turn_record : is_record got steps ≡ true → turn_of p (take got rec) steps total st ≡ record_turn p rec steps total st
+-- the turn on the bytes that were read for it: that of the record, or the last
+module _ (p piece : Bytes) (steps total : ℕ) (st : Bytes) where
+  pub turn_record : is_record (length piece) steps ≡ true → turn_of p piece steps total st ≡ record_turn p piece steps total st
   unfolding turn_of
-  turn_record e =
-      let f : is_record (length (take got rec)) steps ≡ true = ap (λ (n : ℕ). is_record n steps) long ∙ e in
-      let g : take got rec ≡ rec = take_all got rec (omega (arith, l, (record_early got e).1)) in
-      rw f (ap (λ (q : Bytes). record_turn p q steps total st) g)
+  turn_record e = rw e refl
 
-  pub turn_last : is_record got steps ≡ false
-      → turn_of p (take got rec) steps total st ≡ record { line = last_line got steps total; more = false; steps = steps; total = total; state = st }
+  pub turn_last : is_record (length piece) steps ≡ false
+      → turn_of p piece steps total st ≡ record { line = last_line (length piece) steps total; more = false; steps = steps; total = total; state = st }
   unfolding turn_of
-  turn_last e =
-      let f : is_record (length (take got rec)) steps ≡ false = ap (λ (n : ℕ). is_record n steps) long ∙ e in
-      rw f (λ i. record { line = last_line (long i) steps total; more = false; steps = steps; total = total; state = st })
+  turn_last e = rw e refl
 
 -- a turn with more to come has counted its step
 step_counts : (rec : Bytes) (steps total : ℕ) (st : Bytes) (v : Verdict) (s : Stepped) → (step_turn rec steps total st v s).more ≡ true
     → (step_turn rec steps total st v s).steps ≡ suc steps
 unfolding step_turn
-step_counts rec steps total st (Refuse r) s e = absurd (let z : ◌≡◌ {A = ℕ} 0 1 = cc in omega arith)
-step_counts rec steps total st Fine (Made v st₁ w) e = refl
-step_counts rec steps total st Fine NotMade e = absurd (let z : ◌≡◌ {A = ℕ} 0 1 = cc in omega arith)
+step_counts rec steps total st (Err r) s e = absurd (let z : ◌≡◌ {A = ℕ} 0 1 = cc in omega arith)
+step_counts rec steps total st (Ok _) (Made v st₁ w) e = refl
+step_counts rec steps total st (Ok _) NotMade e = absurd (let z : ◌≡◌ {A = ℕ} 0 1 = cc in omega arith)
 
 pub counts : (p piece : Bytes) (steps total : ℕ) (st : Bytes) → (turn_of p piece steps total st).more ≡ true
     → (turn_of p piece steps total st).steps ≡ suc steps

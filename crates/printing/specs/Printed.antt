@@ -1,15 +1,13 @@
 -- What watchrun prints for a whole input: document 01, 'What watchrun prints', as one definition.
 -- Assumes nothing: these are definitions.
-use Rattle.std.specs.Prelude.{ℕ, zero, suc, ◌+◌, ◌*◌, ◌++◌, length, take, drop, eqb, ltb, if◌then◌else◌}
+use Rattle.std.specs.Prelude.{ℕ, zero, suc, ◌+◌, ◌*◌, ◌++◌, length, take, drop, eqb, ltb, if◌then◌else◌, Ok, Err}
+use Rattle.rules.specs.Verdicts.{CheckAnswer}
 use Rattle.rules.specs.Bytes.{Bytes}
 use Rattle.rules.specs.Layout.{input_length, time_in}
 use Rattle.rules.specs.Reset.{start_state}
 use Rattle.rules.specs.Update.{Made, NotMade, step_of}
 use Rattle.rules.specs.Calls.{check_call, record_verdict}
 use Rattle.rules.specs.declared.Refusal.TheVariants.{RecordsLength, StateFault}
-use Rattle.rules.specs.declared.Verdict.TheVariants.{Fine, Refuse}
-use Rattle.rules.specs.declared.Checked.{Checked}
-use Rattle.rules.specs.declared.Checked.TheVariants.{Accepted}
 use Rattle.turns.specs.Decided.{blocks_taken, most_records}
 use Rattle.lines.specs.Print.{first_line, step_line, end_line, refused_line}
 
@@ -36,8 +34,8 @@ step_lines p (suc more) recs steps total st =
     if ltb (length recs) input_length then last_line (length recs) steps total
     else
     elim (record_verdict steps st (take input_length recs)) [
-      | Refuse r ↦ refused_line r
-      | Fine ↦
+      | Err r ↦ refused_line r
+      | Ok _ ↦
           elim (step_of p (take input_length recs) st) [
             | Made v st₁ w ↦
                 step_line (time_in (take input_length recs)) v w.work ++ step_lines p more (drop input_length recs) (suc steps) (total + w.work) st₁
@@ -46,9 +44,9 @@ step_lines p (suc more) recs steps total st =
     ]
 
 -- It checks what it got. First line: N, cells, bound, root type; then it starts from the start state. A refused program prints no other line.
-unfoldable pub lines_of : Bytes → Bytes → Checked → Bytes
-lines_of p recs (Accepted count cells most type) = first_line count cells most type ++ step_lines p most_records recs 0 0 (start_state p)
-lines_of p recs (Checked.Refused r) = refused_line r
+unfoldable pub lines_of : Bytes → Bytes → CheckAnswer → Bytes
+lines_of p recs (Ok found) = first_line found.nodes found.cells found.bound found.root ++ step_lines p most_records recs 0 0 (start_state p)
+lines_of p recs (Err r) = refused_line r
 
 unfoldable pub printed : Bytes → Bytes
 printed input = lines_of (program_of input) (records_of input) (check_call (program_of input))

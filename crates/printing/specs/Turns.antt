@@ -1,7 +1,8 @@
 -- The parts of which watchrun makes what it prints: what it reads of the blocks, its opening line, and its turns, one for each record and the last.
 -- Each is what a function of this crate or of crate turns answers; `played` puts them together as the program does.
 -- Assumes nothing: these are definitions.
-use Rattle.std.specs.Prelude.{◌≡◌, Bool, true, false, List, [], ◌++◌, ℕ, zero, suc, ◌+◌, ◌*◌, ◌≤◌, length, take, drop, if◌then◌else◌}
+use Rattle.std.specs.Prelude.{◌≡◌, Bool, true, false, List, [], ◌++◌, ℕ, zero, suc, ◌+◌, ◌*◌, ◌≤◌, length, take, drop, if◌then◌else◌, Ok, Err}
+use Rattle.rules.specs.Verdicts.{CheckAnswer, Verdict}
 use Rattle.rules.specs.Bytes.{Bytes}
 use Rattle.rules.specs.Layout.{time_in}
 use Rattle.rules.specs.Evaluate.{Env}
@@ -9,10 +10,6 @@ use Rattle.rules.specs.Reset.{start_state}
 use Rattle.rules.specs.Update.{Stepped, Made, NotMade, step_of}
 use Rattle.rules.specs.Calls.{check_call, record_verdict}
 use Rattle.rules.specs.declared.Refusal.TheVariants.{StateFault}
-use Rattle.rules.specs.declared.Verdict.{Verdict}
-use Rattle.rules.specs.declared.Verdict.TheVariants.{Fine, Refuse}
-use Rattle.rules.specs.declared.Checked.{Checked}
-use Rattle.rules.specs.declared.Checked.TheVariants.{Accepted}
 use Rattle.lines.specs.Print.{first_line, step_line, refused_line}
 use Rattle.noted.specs.Noted.{Noted}
 use Rattle.steps.specs.Going.{Going, most_work}
@@ -20,9 +17,9 @@ use Rattle.turns.specs.Decided.{most_records, blocks_left, wanted, is_record}
 use Rattle.printing.specs.Printed.{last_line}
 
 -- The first line of what was found of the program, or its only one.
-unfoldable pub opening_line : Checked → Bytes
-opening_line (Accepted count cells most type) = first_line count cells most type
-opening_line (Checked.Refused r) = refused_line r
+unfoldable pub opening_line : CheckAnswer → Bytes
+opening_line (Ok found) = first_line found.nodes found.cells found.bound found.root
+opening_line (Err r) = refused_line r
 
 -- A line, whether there is more to come, and what that goes on from.
 pub record TurnOutcome : Type 0 where
@@ -34,10 +31,10 @@ pub record TurnOutcome : Type 0 where
 
 -- The turn of a whole record, by its verdict and its step.
 unfoldable pub step_turn : Bytes → ℕ → ℕ → Bytes → Verdict → Stepped → TurnOutcome
-step_turn rec steps total st (Refuse r) s = record { line = refused_line r; more = false; steps = steps; total = total; state = st }
-step_turn rec steps total st Fine (Made v st₁ w) =
+step_turn rec steps total st (Err r) s = record { line = refused_line r; more = false; steps = steps; total = total; state = st }
+step_turn rec steps total st (Ok _) (Made v st₁ w) =
     record { line = step_line (time_in rec) v w.work; more = true; steps = suc steps; total = total + w.work; state = st₁ }
-step_turn rec steps total st Fine NotMade = record { line = refused_line StateFault; more = false; steps = steps; total = total; state = st }
+step_turn rec steps total st (Ok _) NotMade = record { line = refused_line StateFault; more = false; steps = steps; total = total; state = st }
 
 unfoldable pub record_turn : Bytes → Bytes → ℕ → ℕ → Bytes → TurnOutcome
 record_turn p rec steps total st = step_turn rec steps total st (record_verdict steps st rec) (step_of p rec st)
@@ -61,9 +58,9 @@ turns_from p (suc left) rest steps total st =
     else [])
 
 -- A program of which check found this, with what is unread after it.
-unfoldable pub played_on : Bytes → Bytes → Checked → Bytes
-played_on p rest (Accepted count cells most type) = opening_line (Accepted count cells most type) ++ turns_from p (suc most_records) rest 0 0 (start_state p)
-played_on p rest (Checked.Refused r) = opening_line (Checked.Refused r)
+unfoldable pub played_on : Bytes → Bytes → CheckAnswer → Bytes
+played_on p rest (Ok found) = opening_line (Ok found) ++ turns_from p (suc most_records) rest 0 0 (start_state p)
+played_on p rest (Err r) = opening_line (Err r)
 
 -- Block 0 is read, then the blocks that are left; check is asked, and the turns are made.
 unfoldable pub program_read : Bytes → Bytes

@@ -13,9 +13,8 @@ use Rattle.rules.specs.Evaluate.{opened}
 use Rattle.rules.specs.Update.{laterᵒ, occurs_if, occurs, on_occurrence, on_event}
 use Rattle.rules.specs.declared.Value.{Value}
 use Rattle.rules.specs.declared.Tally.{Tally}
-use Rattle.rules.specs.declared.Evaluated.{Evaluated}
-use Rattle.rules.specs.declared.Occurrence.{Occurrence}
-use Rattle.rules.specs.declared.Occurrence.TheVariants.{Took, Quiet}
+use Rattle.rules.specs.Evaluated.{Evaluated}
+use Rattle.rules.specs.Occurrence.{Occurrence, Took, Quiet}
 use Rattle.rules.proofs.Static.{not_both}
 use Rattle.promises.specs.Small.{Small}
 use Rattle.promises.specs.Valid.{Valid}

@@ -1,6 +1,8 @@
 -- Every accepted program goes on answering.
 -- Assumes nothing.
-use mathlib.Core.Path.{◌≡◌, refl}
+use Rattle.std.specs.Prelude.{Ok, Err}
+use Rattle.rules.specs.Verdicts.{Verdict, accepted_with}
+use mathlib.Core.Path.{◌≡◌, refl, sym}
 use Prim.Native.Nat.{ℕ, ◌+◌, ◌*◌, ◌≤◌}
 use native.Mathlib.Nat.{mul-le-mul}
 use native.Mathlib.Omega.{arith}
@@ -11,12 +13,10 @@ use Rattle.rules.specs.Typing.{type_s}
 use Rattle.rules.specs.Bound.{bound}
 use Rattle.rules.specs.Calls.{program_verdict, check_answer, check_call, run_call}
 use Rattle.rules.specs.Accepted.{Accepted}
-use Rattle.rules.specs.declared.Checked.{Checked}
-use Rattle.rules.specs.declared.Verdict.{Verdict}
-use Rattle.rules.specs.declared.Verdict.TheVariants.{Fine, Refuse}
 use Rattle.rules.proofs.Verdicts.{accepted}
 use Rattle.rules.proofs.Rooted.{some_node, shaped_of}
 use Rattle.rules.proofs.Once.{bound_small}
+use Rattle.rules.proofs.Same.{same_accepted}
 use Rattle.promises.specs.Small.{Small}
 use Rattle.promises.specs.Seated.{Seated}
 use Rattle.promises.specs.GoesOn.{GoesOn}
@@ -60,11 +60,13 @@ pub record Answered (p : Bytes) (count cellCount most type : ℕ) : Type 0 where
   pub type_is : type ≡ type_s (root p)
 
 -- An answer that accepts says what it stands for.
-pub answered : (p : Bytes) (count cellCount most type : ℕ) → check_call p ≡ Checked.Accepted count cellCount most type
+pub answered : (p : Bytes) (count cellCount most type : ℕ) → check_call p ≡ accepted_with count cellCount most type
     → Answered p count cellCount most type
 unfolding check_call check_answer
 answered p count cellCount most type e = go (program_verdict p) refl e
   where
-    go : (v : Verdict) → program_verdict p ≡ v → check_answer p v ≡ Checked.Accepted count cellCount most type → Answered p count cellCount most type
-    go Fine f e = record { accepts = accepted p f; count_is = cc; cells_is = cc; most_is = cc; type_is = cc }
-    go (Refuse r) f e = absurd (let z : ◌≡◌ {A = ℕ} 0 1 = cc in omega arith)
+    go : (v : Verdict) → program_verdict p ≡ v → check_answer p v ≡ accepted_with count cellCount most type → Answered p count cellCount most type
+    go (Ok _) f e =
+        let s = same_accepted e in
+        record { accepts = accepted p f; count_is = sym s.0; cells_is = sym s.1; most_is = sym s.2; type_is = sym s.3 }
+    go (Err r) f e = absurd (let z : ◌≡◌ {A = ℕ} 0 1 = cc in omega arith)

@@ -1,7 +1,7 @@
 -- An expression that is in scope and typed is never stuck, and gives a value of its type, where every variable in scope that it needs at once
 -- is bound to a value of its declared type.
 -- Assumes nothing.
-use Rattle.std.specs.Prelude.{if◌then◌else◌}
+use Rattle.std.specs.Prelude.{if◌then◌else◌, Some, None}
 use mathlib.Core.Path.{◌≡◌, refl, sym, ap, ◌∙◌}
 use mathlib.Core.Logic.{◌≢◌}
 use mathlib.Core.Bool.{Bool, true, false}
@@ -25,12 +25,8 @@ use Rattle.rules.specs.Evaluate.{Env, bind, look, plain_word, opened, meant, on_
 use Rattle.rules.specs.declared.Value.{Value}
 use Rattle.rules.specs.declared.Value.TheVariants.{Plain, Absent, Present}
 use Rattle.rules.specs.declared.Tally.{Tally}
-use Rattle.rules.specs.declared.Word.TheVariants.{Is}
-use Rattle.rules.specs.declared.Opened.{Opened}
-use Rattle.rules.specs.declared.Opened.TheVariants.{Here, Gone}
-use Rattle.rules.specs.declared.Evaluated.{Evaluated}
-use Rattle.rules.specs.declared.Evaluated.TheVariants.{Done}
-use Rattle.rules.specs.declared.Place.TheVariants.{Nowhere}
+use Rattle.rules.specs.Opened.{Opened, Here, Gone}
+use Rattle.rules.specs.Evaluated.{Evaluated, Done}
 use Rattle.rules.proofs.Round.{plain_yes, maybe_yes, look_bind}
 use Rattle.rules.proofs.Static.{both, holds, and_both, or_left, or_right}
 use Rattle.promises.specs.Valid.{Valid}
@@ -83,7 +79,7 @@ retype e g = record { value = g.value; tally = g.tally; done = g.done; valid = g
 -- The word of a value of a plain type.
 record IsWord (t : ℕ) (v : Value) : Type 0 where
   word : ℕ
-  is : plain_word t v ≡ Is word
+  is : plain_word t v ≡ Some word
   small : word < 4294967296
 
 -- A valid value of a plain type has a word of 32 bits.
@@ -244,7 +240,7 @@ just_plain t e = rw e
 
 -- Expressions.
 pub sound_e : (count : ℕ) (τ : ℕ → ℕ) (e : Expr) → SitsE count τ e → (Γ : Marks) (env : Env) → length env ≡ count
-    → scope_e Γ e ≡ Nowhere → types_e e ≡ Nowhere → Known Γ τ env (λ b. needs_e b e) → Gives (eval_e env e) (type_e e)
+    → scope_e Γ e ≡ None → types_e e ≡ None → Known Γ τ env (λ b. needs_e b e) → Gives (eval_e env e) (type_e e)
 unfolding eval_e type_e scope_e types_e needs_e
 sound_e count τ (variable n binder t) sits Γ env l sc ty k =
     rule_gives (variable_gives env τ binder sits (k.known binder (holds _ n sc) (eq-eqb binder binder refl)))

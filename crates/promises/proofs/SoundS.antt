@@ -1,6 +1,6 @@
 -- A signal that is in scope, typed and ready is never stuck when it is evaluated in a well-formed state, and gives a value of its type.
 -- Assumes nothing.
-use Rattle.std.specs.Prelude.{if◌then◌else◌}
+use Rattle.std.specs.Prelude.{if◌then◌else◌, None}
 use mathlib.Core.Path.{◌≡◌, sym, ap, ◌∙◌}
 use mathlib.Core.List.{[], ◌∷◌}
 use mathlib.Core.Bool.{Bool, true, false}
@@ -21,8 +21,7 @@ use Rattle.rules.specs.WellFormed.{content_fits, well_s, well_b}
 use Rattle.rules.specs.Evaluate.{Env, bind, eval_s, eval_b}
 use Rattle.rules.specs.declared.Value.{Value}
 use Rattle.rules.specs.declared.Value.TheVariants.{Plain, Absent, Present}
-use Rattle.rules.specs.declared.Evaluated.{Evaluated}
-use Rattle.rules.specs.declared.Place.TheVariants.{Nowhere}
+use Rattle.rules.specs.Evaluated.{Evaluated}
 use Rattle.rules.proofs.Static.{both, kept, holds, and_both, or_left, or_right, not_both}
 use Rattle.promises.specs.Small.{Small}
 use Rattle.promises.specs.Valid.{Valid}
@@ -83,7 +82,7 @@ mutual
   -- A signal gives a value of its type.
   pub sound_s : (s : Signal) (ed count cells : ℕ) (τ : ℕ → ℕ) (rec st : Bytes) → Small rec → Small st → SitsS count cells τ s
       → (Γ : Marks) (Δ : Offers) (env : Env) → length env ≡ count
-      → scope_s ed Γ Δ s ≡ Nowhere → types_s s ≡ Nowhere → ready_s s ≡ Nowhere → well_s st s ≡ true
+      → scope_s ed Γ Δ s ≡ None → types_s s ≡ None → ready_s s ≡ None → well_s st s ≡ true
       → Known Γ τ env (λ b. needs_s b s) → Gives (eval_s rec st env s) (type_s s)
   sound_s (input n c) ed count cells τ rec st hr hs sits Γ Δ env l sc ty re we k = rule_gives (of_gives _ (channel_of rec c hr))
   sound_s (time n) ed count cells τ rec st hr hs sits Γ Δ env l sc ty re we k = rule_gives (of_gives _ (time_of rec hr))
@@ -143,7 +142,7 @@ mutual
   -- The branch that the content of cell c names gives a value of the group's type u.
   pub sound_b : (brs : Branches) (ed count cells : ℕ) (τ : ℕ → ℕ) (rec st : Bytes) → Small rec → Small st → SitsB count cells τ brs
       → (Γ : Marks) (Δ : Offers) (env : Env) → length env ≡ count
-      → scope_b ed Γ Δ brs ≡ Nowhere → types_b brs ≡ Nowhere → ready_b brs ≡ Nowhere
+      → scope_b ed Γ Δ brs ≡ None → types_b brs ≡ None → ready_b brs ≡ None
       → (c u : ℕ) → bodies_have u brs ≡ true → well_b st (cell st c) brs ≡ true
       → Known Γ τ env (λ b. needs_b b brs) → Gives (eval_b rec st env (branch_in st c) (held st c) brs) u
   sound_b no_branch ed count cells τ rec st hr hs sits Γ Δ env l sc ty re c u bo we k = absurd (not_both we)

@@ -23,8 +23,7 @@ use Rattle.rules.specs.Evaluate.{Env, unbound}
 use Rattle.rules.specs.Update.{Made, upd_s, updated, evaluated, step_of}
 use Rattle.rules.specs.Accepted.{Accepted}
 use Rattle.rules.specs.declared.Tally.{Tally}
-use Rattle.rules.specs.declared.Evaluated.{Evaluated}
-use Rattle.rules.specs.declared.Evaluated.TheVariants.{Done}
+use Rattle.rules.specs.Evaluated.{Evaluated, Done}
 use Rattle.rules.specs.declared.Value.{Value}
 use Rattle.rules.proofs.Static.{and_both, or_right, not_both}
 use Rattle.rules.proofs.Within.{Within, Withinᵘ, eval_s_within, upd_s_within}

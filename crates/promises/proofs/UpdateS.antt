@@ -1,7 +1,7 @@
 -- An update of a signal that sits in its table, is in scope, typed and ready, in a well-formed state and with every variable in scope bound, is
 -- never stuck: it ends in a well-formed state, or in a jump to a branch that is offered. It changes no cell but the signal's own.
 -- Assumes nothing.
-use Rattle.std.specs.Prelude.{if◌then◌else◌}
+use Rattle.std.specs.Prelude.{if◌then◌else◌, None}
 use mathlib.Core.Path.{◌≡◌, refl, sym, ap, ◌∙◌}
 use mathlib.Core.List.{[], ◌∷◌}
 use mathlib.Core.Bool.{Bool, true, false}
@@ -23,7 +23,6 @@ use Rattle.rules.specs.Size.{is_cell, times_s, times_b, times_c}
 use Rattle.rules.specs.Evaluate.{Env, bind}
 use Rattle.rules.specs.Update.{first_present, upd_s, upd_b, upd_c}
 use Rattle.rules.specs.declared.Value.{Value}
-use Rattle.rules.specs.declared.Place.TheVariants.{Nowhere}
 use Rattle.rules.proofs.Static.{both, kept, holds, and_both, not_both}
 use Rattle.promises.specs.Small.{Small}
 use Rattle.promises.specs.Valid.{Valid}
@@ -79,7 +78,7 @@ switch_stays k t x y st st₁ own a once w =
 module _ (ed count cells : ℕ) (τ : ℕ → ℕ) (rec : Bytes) (hr : Small rec) where
   -- The events of an until, in list order up to the first present one.
   first_happens : (cs : Cases) → SitsC count cells τ cs → (Γ : Marks) (Δ : Offers) (env : Env) → length env ≡ count
-      → scope_c ed Γ Δ cs ≡ Nowhere → types_c cs ≡ Nowhere → ready_c cs ≡ Nowhere → AllKnown Γ τ env
+      → scope_c ed Γ Δ cs ≡ None → types_c cs ≡ None → ready_c cs ≡ None → AllKnown Γ τ env
       → (st : Bytes) → Small st → well_c st cs ≡ true → Happens Δ τ (first_present rec st env cs)
   unfolding first_present scope_s types_s ready_s well_s
   first_happens no_case sits Γ Δ env l sc ty re kn st hs we = quiet
@@ -101,7 +100,7 @@ module _ (ed count cells : ℕ) (τ : ℕ → ℕ) (rec : Bytes) (hr : Small rec
 
     -- A signal's update.
     pub update_goes : (s : Signal) → SitsS count cells τ s → ((k : ℕ) → times_s k s ≤ 1) → (Γ : Marks) (Δ : Offers) (env : Env) → length env ≡ count
-        → scope_s ed Γ Δ s ≡ Nowhere → types_s s ≡ Nowhere → ready_s s ≡ Nowhere → AllKnown Γ τ env
+        → scope_s ed Γ Δ s ≡ None → types_s s ≡ None → ready_s s ≡ None → AllKnown Γ τ env
         → (st : Bytes) → Small st → length st ≡ cell_at cells → well_s st s ≡ true
         → Goes Δ τ (λ k. times_s k s) (λ q. well_s q s) st (upd_s rec env s st)
     update_goes (input n c) sits once Γ Δ env l sc ty re kn st hs ls we = rule_goes (leave_goes (kept_self _ st hs) refl)
@@ -207,7 +206,7 @@ module _ (ed count cells : ℕ) (τ : ℕ → ℕ) (rec : Bytes) (hr : Small rec
 
     -- The branch that the content of cell k names.
     update_b_goes : (brs : Branches) → SitsB count cells τ brs → ((k : ℕ) → times_b k brs ≤ 1) → (Γ : Marks) (Δ : Offers) (env : Env) → length env ≡ count
-        → scope_b ed Γ Δ brs ≡ Nowhere → types_b brs ≡ Nowhere → ready_b brs ≡ Nowhere → AllKnown Γ τ env
+        → scope_b ed Γ Δ brs ≡ None → types_b brs ≡ None → ready_b brs ≡ None → AllKnown Γ τ env
         → (st : Bytes) → Small st → length st ≡ cell_at cells → (k : ℕ) → well_b st (cell st k) brs ≡ true
         → Goes Δ τ (λ j. times_b j brs) (λ q. well_b q (cell st k) brs) st (upd_b rec env (branch_in st k) (held st k) brs st)
     update_b_goes no_branch sits once Γ Δ env l sc ty re kn st hs ls k we = absurd (not_both we)
@@ -234,7 +233,7 @@ module _ (ed count cells : ℕ) (τ : ℕ → ℕ) (rec : Bytes) (hr : Small rec
 
     -- The events of an until: no jump leaves them.
     pub update_c_goes : (cs : Cases) → SitsC count cells τ cs → ((k : ℕ) → times_c k cs ≤ 1) → (Γ : Marks) (Δ : Offers) (env : Env) → length env ≡ count
-        → scope_c ed Γ Δ cs ≡ Nowhere → types_c cs ≡ Nowhere → ready_c cs ≡ Nowhere → AllKnown Γ τ env
+        → scope_c ed Γ Δ cs ≡ None → types_c cs ≡ None → ready_c cs ≡ None → AllKnown Γ τ env
         → (st : Bytes) → Small st → length st ≡ cell_at cells → well_c st cs ≡ true
         → Goes [] τ (λ j. times_c j cs) (λ q. well_c q cs) st (upd_c rec env cs st)
     update_c_goes no_case sits once Γ Δ env l sc ty re kn st hs ls we = leave_goes (kept_self _ st hs) refl

@@ -11,8 +11,7 @@ use Rattle.rules.specs.Tree.{Expr, Signal}
 use Rattle.rules.specs.Evaluate.{Env, eval_e, eval_s}
 use Rattle.rules.specs.Update.{upd_s}
 use Rattle.rules.specs.declared.Value.{Value}
-use Rattle.rules.specs.declared.Evaluated.{Evaluated}
-use Rattle.rules.specs.declared.Evaluated.TheVariants.{Done, Stuck}
+use Rattle.rules.specs.Evaluated.{Evaluated, Done, Stuck}
 use Rattle.published.specs.Expressions.{Evaluates}
 use Rattle.published.specs.Signals.{EvaluatesS}
 use Rattle.published.specs.Updates.{Part, sig, Result, becomes, leaves, Transition}

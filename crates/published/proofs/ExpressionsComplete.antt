@@ -1,6 +1,6 @@
 -- An expression that the definition does not leave stuck has a derivation, of the definition's value and work.
 -- Assumes nothing.
-use Rattle.std.specs.Prelude.{if◌then◌else◌}
+use Rattle.std.specs.Prelude.{if◌then◌else◌, Option, Some, None, ℕ}
 use mathlib.Core.Path.{◌≡◌, refl}
 use mathlib.Core.Bool.{Bool, true, false}
 use Prim.Native.Nat.{ℕ}
@@ -15,12 +15,8 @@ use Rattle.rules.specs.Evaluate.{Env, bind, look, plain_word, opened, meant, on_
 use Rattle.rules.specs.declared.Tally.{Tally}
 use Rattle.rules.specs.declared.Value.{Value}
 use Rattle.rules.specs.declared.Value.TheVariants.{Plain, Absent, Present}
-use Rattle.rules.specs.declared.Word.{Word}
-use Rattle.rules.specs.declared.Word.TheVariants.{Is, Not}
-use Rattle.rules.specs.declared.Opened.{Opened}
-use Rattle.rules.specs.declared.Opened.TheVariants.{Here, Gone, Amiss}
-use Rattle.rules.specs.declared.Evaluated.{Evaluated}
-use Rattle.rules.specs.declared.Evaluated.TheVariants.{Done, Stuck}
+use Rattle.rules.specs.Opened.{Opened, Here, Gone, Amiss}
+use Rattle.rules.specs.Evaluated.{Evaluated, Done, Stuck}
 use Rattle.published.specs.Expressions.{Evaluates, ev_variable, ev_constant, ev_operation, ev_not, ev_if_true, ev_if_false, ev_just, ev_take_absent, ev_take_present}
 use Rattle.published.proofs.Outcomes.{Derived, derived, stuck, derivation, rule_give, rule_after, rule_after_give, rule_after_noted, rule_stuck, after_stuck}
 
@@ -40,11 +36,11 @@ unfolding operated operate on_words meant
 operation_derived env i k x y (derived {v = u} {w = p} d) (derived {v = v} {w = q} c) =
     go (plain_word (operand_type k) u) refl (plain_word (operand_type k) v) refl
   where
-    go : (a : Word) → plain_word (operand_type k) u ≡ a → (b : Word) → plain_word (operand_type k) v ≡ b
+    go : (a : Option ℕ) → plain_word (operand_type k) u ≡ a → (b : Option ℕ) → plain_word (operand_type k) v ≡ b
         → Derived (Evaluates env (operation i k x y)) (rule (after (p plus q) (on_words (meant k) a b)))
-    go (Is a) g (Is b) h = rule_after_noted (p plus q) _ _ (unfold ◌plus◌ in ev_operation d c g h)
-    go (Is a) g Not h = after_stuck (p plus q)
-    go Not g b h = after_stuck (p plus q)
+    go (Some a) g (Some b) h = rule_after_noted (p plus q) _ _ (unfold ◌plus◌ in ev_operation d c g h)
+    go (Some a) g None h = after_stuck (p plus q)
+    go None g b h = after_stuck (p plus q)
 operation_derived env i k x y (derived d) stuck = rule_stuck
 operation_derived env i k x y stuck s = rule_stuck
 
@@ -52,9 +48,9 @@ not_derived : (env : Env) (i : ℕ) (x : Expr) {r : Evaluated} → Derived (Eval
 unfolding negated not_of
 not_derived env i x (derived {v = u} {w = p} d) = go (plain_word bool_t u) refl
   where
-    go : (a : Word) → plain_word bool_t u ≡ a → Derived (Evaluates env (negation i x)) (rule (after p (not_of a)))
-    go (Is a) g = rule_after_give p _ (ev_not d g)
-    go Not g = after_stuck p
+    go : (a : Option ℕ) → plain_word bool_t u ≡ a → Derived (Evaluates env (negation i x)) (rule (after p (not_of a)))
+    go (Some a) g = rule_after_give p _ (ev_not d g)
+    go None g = after_stuck p
 not_derived env i x stuck = rule_stuck
 
 if_derived : (env : Env) (i : ℕ) (test x y : Expr) {q r s : Evaluated} → Derived (Evaluates env test) q → Derived (Evaluates env x) r
@@ -62,14 +58,14 @@ if_derived : (env : Env) (i : ℕ) (test x y : Expr) {q r s : Evaluated} → Der
 unfolding chosen arm_of
 if_derived env i test x y {r = r} {s} (derived {v = u} {w = p} d) c b = go (plain_word bool_t u) refl
   where
-    arm : (a : ℕ) → plain_word bool_t u ≡ Is a → (q : Bool) → is_true a ≡ q
+    arm : (a : ℕ) → plain_word bool_t u ≡ Some a → (q : Bool) → is_true a ≡ q
         → Derived (Evaluates env (choice i test x y)) (rule (after p (if q then r else s)))
     arm a g true h = rule_after p (λ v n. ev_if_true d g h) c
     arm a g false h = rule_after p (λ v n. ev_if_false d g h) b
 
-    go : (a : Word) → plain_word bool_t u ≡ a → Derived (Evaluates env (choice i test x y)) (rule (after p (arm_of a r s)))
-    go (Is a) g = arm a g (is_true a) refl
-    go Not g = after_stuck p
+    go : (a : Option ℕ) → plain_word bool_t u ≡ a → Derived (Evaluates env (choice i test x y)) (rule (after p (arm_of a r s)))
+    go (Some a) g = arm a g (is_true a) refl
+    go None g = after_stuck p
 if_derived env i test x y stuck c b = rule_stuck
 
 just_derived : (env : Env) (i : ℕ) (x : Expr) {r : Evaluated} → Derived (Evaluates env x) r → Derived (Evaluates env (just i x)) (rule (lifted r))

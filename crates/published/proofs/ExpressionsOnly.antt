@@ -1,5 +1,6 @@
 -- Of an expression in an environment there is one derivation at most: of one value, of one size, and the derivations themselves are equal.
 -- Assumes nothing.
+use Rattle.std.specs.Prelude.{Some}
 use mathlib.Core.Path.{◌≡◌, refl, sym, ap, ◌∙◌}
 use mathlib.Core.HLevel.{Σ_prop, Σ_prop_path, ×_prop}
 use mathlib.Core.Bool.{true, false, Bool-set}
@@ -12,8 +13,7 @@ use Rattle.rules.specs.Tree.{Expr, variable, operation, negation, choice, just, 
 use Rattle.rules.specs.Evaluate.{Env, bind, look, plain_word, opened}
 use Rattle.rules.specs.declared.Value.{Value}
 use Rattle.rules.specs.declared.Value.TheVariants.{Present}
-use Rattle.rules.specs.declared.Word.TheVariants.{Is}
-use Rattle.rules.specs.declared.Opened.TheVariants.{Here, Gone}
+use Rattle.rules.specs.Opened.{Here, Gone}
 use Rattle.published.specs.Expressions.{Evaluates, ev_variable, ev_constant, ev_operation, ev_not, ev_if_true, ev_if_false, ev_just, ev_take_absent, ev_take_present}
 use Rattle.published.proofs.Sets.{Result-set, word_prop, here_prop, gone_prop, look_prop, IsPlainValue, plain_prop, gone_not_here, true_not_false, along, each_prop}
 
@@ -22,7 +22,7 @@ abbrev pub SomeE : Env → Expr → Type 0
 SomeE env e = (r : Value × ℕ) × Evaluates env e r.0 r.1
 
 abbrev WordOf : ℕ → Value → Type 0
-WordOf t u = (a : ℕ) × (plain_word t u ≡ Is a)
+WordOf t u = (a : ℕ) × (plain_word t u ≡ Some a)
 
 abbrev pub HeldBy : Value → Type 0
 HeldBy u = (c : Value) × (opened u ≡ Here c)
@@ -58,7 +58,7 @@ abbrev by_take_present : {env : Env} {i t : ℕ} {e x y : Expr} (p : (q : SomeE 
 by_take_present p q = ((q.0.0, 1 + (p.0.0.1 + q.0.1)), ev_take_present p.0.1 p.1.1 q.1)
 
 -- what is true, or absent, by one derivation is not false, or present, by another
-not_both_arms : {u v : Value} {a b : ℕ} → u ≡ v → plain_word bool_t u ≡ Is a → plain_word bool_t v ≡ Is b → is_true a ≡ true → is_true b ≡ false → ⊥
+not_both_arms : {u v : Value} {a b : ℕ} → u ≡ v → plain_word bool_t u ≡ Some a → plain_word bool_t v ≡ Some b → is_true a ≡ true → is_true b ≡ false → ⊥
 not_both_arms {u} {v} {a} {b} e g h p q =
     true_not_false (sym (ap is_true (ap (λ (w : WordOf bool_t u). w.0) (word_prop (plain_word bool_t u) (a, g) (b, ap (plain_word bool_t) e ∙ h)))) ∙ p) q
 

@@ -1,6 +1,6 @@
 -- A derivation of an expression gives the definition's outcome.
 -- Assumes nothing.
-use Rattle.std.specs.Prelude.{if◌then◌else◌}
+use Rattle.std.specs.Prelude.{if◌then◌else◌, Option, Some, None, ℕ}
 use mathlib.Core.Path.{◌≡◌, refl, ap₂}
 use mathlib.Core.Bool.{Bool, true, false}
 use Prim.Native.Nat.{ℕ, ◌+◌}
@@ -15,27 +15,25 @@ use Rattle.rules.specs.Tree.{Expr}
 use Rattle.rules.specs.Evaluate.{Env, plain_word, opened, meant, on_words, operate, operated, not_of, negated, arm_of, chosen, just_of, lifted, take_arm, taken, eval_e}
 use Rattle.rules.specs.declared.Value.{Value}
 use Rattle.rules.specs.declared.Value.TheVariants.{Plain, Absent, Present}
-use Rattle.rules.specs.declared.Word.{Word}
-use Rattle.rules.specs.declared.Word.TheVariants.{Is, Not}
-use Rattle.rules.specs.declared.Opened.TheVariants.{Here, Gone}
-use Rattle.rules.specs.declared.Evaluated.{Evaluated}
+use Rattle.rules.specs.Opened.{Here, Gone}
+use Rattle.rules.specs.Evaluated.{Evaluated}
 use Rattle.published.specs.Expressions.{Evaluates, ev_variable, ev_constant, ev_operation, ev_not, ev_if_true, ev_if_false, ev_just, ev_take_absent, ev_take_present}
 use Rattle.published.specs.Marks.{left_e}
 use Rattle.published.proofs.Outcomes.{done, sized, or_no}
 
 -- the value that has a word of a type
-abbrev IsNow : Word → ℕ → Type 0
-IsNow (Is w) a = w ≡ a
-IsNow Not a = ⊥
+abbrev IsNow : Option ℕ → ℕ → Type 0
+IsNow (Some w) a = w ≡ a
+IsNow None a = ⊥
 
-is_now : {u : Word} {a : ℕ} → u ≡ Is a → IsNow u a
+is_now : {u : Option ℕ} {a : ℕ} → u ≡ Some a → IsNow u a
 is_now {u} {a} e = rw e refl
 
-pub plain_of : (t a : ℕ) (u : Value) → plain_word t u ≡ Is a → u ≡ Plain t a
+pub plain_of : (t a : ℕ) (u : Value) → plain_word t u ≡ Some a → u ≡ Plain t a
 unfolding plain_word
 plain_of t a (Plain s w) e = go (eqb s t) refl (is_now e)
   where
-    go : (b : Bool) → eqb s t ≡ b → IsNow (if b then Is w else Not) a → Plain s w ≡ Plain t a
+    go : (b : Bool) → eqb s t ≡ b → IsNow (if b then Some w else None) a → Plain s w ≡ Plain t a
     go true h g = ap₂ Plain (eqb-true s t h) g
     go false h g = absurd g
 plain_of t a (Absent s) e = absurd (is_now e)
@@ -47,27 +45,27 @@ unfolding rule after give one_rule nothing ◌plus◌ ◌or◌
 give_done {v = v} e = rw e (sized v (omega arith) refl)
 
 operated_done : (k : ℕ) {r s : Evaluated} {u v : Value} {a b m n : ℕ} {i j : Bool} → r ≡ done u m i → s ≡ done v n j
-    → plain_word (operand_type k) u ≡ Is a → plain_word (operand_type k) v ≡ Is b
+    → plain_word (operand_type k) u ≡ Some a → plain_word (operand_type k) v ≡ Some b
     → rule (operated k r s) ≡ done (meaning k a b) (1 + (m + n)) (i or j or leaves_range k a b)
 unfolding rule after noted one_rule ◌plus◌ ◌or◌ operated operate on_words meant
 operated_done k e f g h = rw (e, f, g, h) (sized _ (omega arith) refl)
 
-negated_done : {r : Evaluated} {u : Value} {a n : ℕ} {i : Bool} → r ≡ done u n i → plain_word bool_t u ≡ Is a
+negated_done : {r : Evaluated} {u : Value} {a n : ℕ} {i : Bool} → r ≡ done u n i → plain_word bool_t u ≡ Some a
     → rule (negated r) ≡ done (truth (eqb a 0)) (1 + n) i
 unfolding rule after give one_rule nothing ◌plus◌ ◌or◌ negated not_of
 negated_done {i = i} e g = rw (e, g) (sized _ (omega arith) (or_no i))
 
-chosen_true : {q r : Evaluated} (s : Evaluated) {u v : Value} {a m n : ℕ} {i j : Bool} → q ≡ done u m i → plain_word bool_t u ≡ Is a → is_true a ≡ true → r ≡ done v n j
+chosen_true : {q r : Evaluated} (s : Evaluated) {u v : Value} {a m n : ℕ} {i j : Bool} → q ≡ done u m i → plain_word bool_t u ≡ Some a → is_true a ≡ true → r ≡ done v n j
     → rule (chosen q r s) ≡ done v (1 + (m + n)) (i or j)
 unfolding rule after one_rule ◌plus◌ ◌or◌ chosen arm_of
 chosen_true s e g h f = rw (e, g, h, f)
 
-chosen_false : {q s : Evaluated} (r : Evaluated) {u v : Value} {a m n : ℕ} {i j : Bool} → q ≡ done u m i → plain_word bool_t u ≡ Is a → is_true a ≡ false → s ≡ done v n j
+chosen_false : {q s : Evaluated} (r : Evaluated) {u v : Value} {a m n : ℕ} {i j : Bool} → q ≡ done u m i → plain_word bool_t u ≡ Some a → is_true a ≡ false → s ≡ done v n j
     → rule (chosen q r s) ≡ done v (1 + (m + n)) (i or j)
 unfolding rule after one_rule ◌plus◌ ◌or◌ chosen arm_of
 chosen_false r e g h f = rw (e, g, h, f)
 
-lifted_done : (t : ℕ) {r : Evaluated} {u : Value} {a n : ℕ} {i : Bool} → r ≡ done u n i → plain_word t u ≡ Is a → is_plain t ≡ true
+lifted_done : (t : ℕ) {r : Evaluated} {u : Value} {a n : ℕ} {i : Bool} → r ≡ done u n i → plain_word t u ≡ Some a → is_plain t ≡ true
     → rule (lifted r) ≡ done (Present (maybe_of t) a) (1 + n) i
 unfolding rule after give one_rule nothing ◌plus◌ ◌or◌ lifted just_of
 lifted_done t {u = u} {a} {i = i} e g h = rw (e, plain_of t a u g, h) (sized _ (omega arith) (or_no i))

@@ -13,7 +13,7 @@ use Rattle.rules.specs.Evaluate.{unbound}
 use Rattle.rules.specs.Update.{Stepped, Made, NotMade, updated, evaluated, step_of}
 use Rattle.rules.specs.declared.Tally.{Tally}
 use Rattle.rules.specs.declared.Value.{Value}
-use Rattle.rules.specs.declared.Evaluated.{Evaluated}
+use Rattle.rules.specs.Evaluated.{Evaluated}
 use Rattle.published.specs.Signals.{EvaluatesS}
 use Rattle.published.specs.Updates.{sig}
 use Rattle.published.specs.Steps.{Steps, step}

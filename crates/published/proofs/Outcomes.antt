@@ -8,8 +8,7 @@ use Rattle.rules.specs.Bytes.{Bytes, ◌or◌}
 use Rattle.rules.specs.Work.{nothing, noted, one_rule, ◌plus◌, give, after, rule, Updated, Next, Jump}
 use Rattle.rules.specs.declared.Tally.{Tally}
 use Rattle.rules.specs.declared.Value.{Value}
-use Rattle.rules.specs.declared.Evaluated.{Evaluated}
-use Rattle.rules.specs.declared.Evaluated.TheVariants.{Done, Stuck}
+use Rattle.rules.specs.Evaluated.{Evaluated, Done, Stuck}
 
 -- so much counted, with a mark or not
 abbrev pub counted : ℕ → Bool → Tally

@@ -1,5 +1,6 @@
 -- Values, words and outcomes are sets, so that a side condition of a rule has one proof and fixes what it names.
 -- Assumes nothing.
+use Rattle.std.specs.Prelude.{Option, Some, None, ℕ}
 use mathlib.Core.Path.{◌≡◌, refl, sym, ap, subst, ◌∙◌, path_j, PathP}
 use mathlib.Core.HLevel.{Σ_set, Σ_prop_path, ×_prop}
 use mathlib.Core.Bool.{Bool, true, false, Bool-set}
@@ -11,12 +12,8 @@ use Rattle.rules.specs.Work.{give}
 use Rattle.rules.specs.Evaluate.{Env, look, plain_word}
 use Rattle.rules.specs.declared.Value.{Value}
 use Rattle.rules.specs.declared.Value.TheVariants.{Plain, Absent, Present}
-use Rattle.rules.specs.declared.Word.{Word}
-use Rattle.rules.specs.declared.Word.TheVariants.{Is, Not}
-use Rattle.rules.specs.declared.Opened.{Opened}
-use Rattle.rules.specs.declared.Opened.TheVariants.{Here, Gone, Amiss}
-use Rattle.rules.specs.declared.Evaluated.{Evaluated}
-use Rattle.rules.specs.declared.Evaluated.TheVariants.{Done, Stuck}
+use Rattle.rules.specs.Opened.{Opened, Here, Gone, Amiss}
+use Rattle.rules.specs.Evaluated.{Evaluated, Done, Stuck}
 use Rattle.rules.proofs.Static.{not_both}
 use Rattle.published.proofs.ExpressionsSound.{plain_of}
 
@@ -46,19 +43,19 @@ pub Result-set : IsSet (Value × ℕ)
 Result-set = pair_set Value-set ℕ_set
 
 -- a word, if there is one, as two numbers
-abbrev word_code : Word → ℕ × ℕ
-word_code (Is a) = (0, a)
-word_code Not = (1, 0)
+abbrev word_code : Option ℕ → ℕ × ℕ
+word_code (Some a) = (0, a)
+word_code None = (1, 0)
 
-abbrev word_from : ℕ → ℕ → Word
-word_from zero a = Is a
-word_from (suc k) a = Not
+abbrev word_from : ℕ → ℕ → Option ℕ
+word_from zero a = Some a
+word_from (suc k) a = None
 
-word_back : (w : Word) → word_from (word_code w).0 (word_code w).1 ≡ w
-word_back (Is a) = refl
-word_back Not = refl
+word_back : (w : Option ℕ) → word_from (word_code w).0 (word_code w).1 ≡ w
+word_back (Some a) = refl
+word_back None = refl
 
-Word-set : IsSet Word
+Word-set : IsSet (Option ℕ)
 Word-set = retract_set word_code (λ p. word_from p.0 p.1) word_back (pair_set ℕ_set ℕ_set)
 
 -- a maybe taken apart, as a number and a value
@@ -102,8 +99,8 @@ Evaluated-set =
 image_prop : {A B : Type 0} (f : A → B) (g : B → A) → ((a : A) → g (f a) ≡ a) → IsSet B → (b : B) → IsProp ((a : A) × (b ≡ f a))
 image_prop f g h s b p q = Σ_prop_path (λ a. s b (f a)) (sym (h p.0) ∙ ap g (sym p.1 ∙ q.1) ∙ h q.0)
 
-pub word_prop : (w : Word) → IsProp ((a : ℕ) × (w ≡ Is a))
-word_prop w = image_prop Is (λ w. (word_code w).1) (λ a. refl) Word-set w
+pub word_prop : (w : Option ℕ) → IsProp ((a : ℕ) × (w ≡ Some a))
+word_prop w = image_prop Some (λ w. (word_code w).1) (λ a. refl) Word-set w
 
 pub here_prop : (o : Opened) → IsProp ((v : Value) × (o ≡ Here v))
 here_prop o = image_prop Here (λ o. (opened_code o).1) (λ v. refl) Opened-set o
@@ -117,11 +114,11 @@ look_prop env b = image_prop give (λ r. (outcome_code r).1.0) (λ v. refl) Eval
 
 -- the type and the word of a plain value
 abbrev pub IsPlainValue : Value → Type 0
-IsPlainValue u = (p : ℕ × ℕ) × ((plain_word p.0 u ≡ Is p.1) × (is_plain p.0 ≡ true))
+IsPlainValue u = (p : ℕ × ℕ) × ((plain_word p.0 u ≡ Some p.1) × (is_plain p.0 ≡ true))
 
 pub plain_prop : (u : Value) → IsProp (IsPlainValue u)
 plain_prop u p q =
-    Σ_prop_path (λ r. ×_prop (Word-set (plain_word r.0 u) (Is r.1)) (Bool-set (is_plain r.0) true))
+    Σ_prop_path (λ r. ×_prop (Word-set (plain_word r.0 u) (Some r.1)) (Bool-set (is_plain r.0) true))
     (ap (λ v. (three v).1) (sym (plain_of p.0.0 p.0.1 u p.1.0) ∙ plain_of q.0.0 q.0.1 u q.1.0))
 
 -- no maybe is both absent and present, and no bool true and false

@@ -13,8 +13,7 @@ use Rattle.rules.specs.Tree.{Signal, input, time, ext, delay, let_signal, switch
 use Rattle.rules.specs.Evaluate.{Env, bind, eval_s, eval_b}
 use Rattle.rules.specs.declared.Tally.{Tally}
 use Rattle.rules.specs.declared.Value.{Value}
-use Rattle.rules.specs.declared.Evaluated.{Evaluated}
-use Rattle.rules.specs.declared.Evaluated.TheVariants.{Done}
+use Rattle.rules.specs.Evaluated.{Evaluated, Done}
 use Rattle.published.specs.Signals.{BodyOf, here, later, first, second, in_body, in_branch, EvaluatesS, ev_input, ev_time, ev_ext, ev_delay, ev_signal, ev_switch, ev_continue, ev_until}
 use Rattle.published.proofs.Outcomes.{Derived, derived, stuck, derivation, mapped, rule_give, rule_one, rule_after, rule_stuck}
 use Rattle.published.proofs.ExpressionsComplete.{derive_e}

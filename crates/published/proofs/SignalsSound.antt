@@ -11,7 +11,7 @@ use Rattle.rules.specs.Work.{one_rule, ◌plus◌, after, rule, ◌then◌}
 use Rattle.rules.specs.Tree.{Signal, Branches}
 use Rattle.rules.specs.Evaluate.{Env, bind, eval_s, eval_b}
 use Rattle.rules.specs.declared.Value.{Value}
-use Rattle.rules.specs.declared.Evaluated.{Evaluated}
+use Rattle.rules.specs.Evaluated.{Evaluated}
 use Rattle.published.specs.Signals.{BodyOf, here, later, CurrentOfSwitch, first, second, CurrentOfGroup, in_body, in_branch, EvaluatesS, ev_input, ev_time, ev_ext, ev_delay, ev_signal, ev_switch, ev_continue, ev_until}
 use Rattle.published.specs.Marks.{left_s}
 use Rattle.published.proofs.Outcomes.{done}

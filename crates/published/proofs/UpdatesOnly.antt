@@ -17,9 +17,8 @@ use Rattle.rules.specs.Evaluate.{Env, bind, opened}
 use Rattle.rules.specs.Reset.{reset_s, reset_b}
 use Rattle.rules.specs.declared.Value.{Value}
 use Rattle.rules.specs.declared.Value.TheVariants.{Plain}
-use Rattle.rules.specs.declared.Opened.TheVariants.{Gone}
-use Rattle.rules.specs.declared.Occurrence.{Occurrence}
-use Rattle.rules.specs.declared.Occurrence.TheVariants.{Took, Quiet}
+use Rattle.rules.specs.Opened.{Gone}
+use Rattle.rules.specs.Occurrence.{Occurrence, Took, Quiet}
 use Rattle.published.specs.Signals.{CurrentOfGroup}
 use Rattle.published.specs.Updates.{NoneOccurs, none_of_none, none_of_case, FirstOccurs, occurs_here, occurs_later, Part, sig, evs, Result, becomes, leaves, Transition, tr_input, tr_time, tr_ext, tr_delay, tr_signal', tr_switch_occ, tr_switch_noc, tr_continue, tr_continue_taken, tr_continue_left, tr_until_noc, tr_until_occ, tr_no_case, tr_case}
 use Rattle.published.proofs.Sets.{Value-set, here_prop, gone_prop, true_not_false, along, each_prop}

@@ -15,10 +15,9 @@ use Rattle.rules.specs.Evaluate.{Env, bind, opened}
 use Rattle.rules.specs.Reset.{reset_s, reset_b}
 use Rattle.rules.specs.Update.{laterᵒ, occurs_if, occurs, first_present, on_occurrence, caught, on_event, upd_s, upd_b, upd_c}
 use Rattle.rules.specs.declared.Value.{Value}
-use Rattle.rules.specs.declared.Opened.TheVariants.{Here, Gone}
-use Rattle.rules.specs.declared.Evaluated.{Evaluated}
-use Rattle.rules.specs.declared.Occurrence.{Occurrence}
-use Rattle.rules.specs.declared.Occurrence.TheVariants.{Took, Quiet}
+use Rattle.rules.specs.Opened.{Here, Gone}
+use Rattle.rules.specs.Evaluated.{Evaluated}
+use Rattle.rules.specs.Occurrence.{Occurrence, Took, Quiet}
 use Rattle.published.specs.Signals.{BodyOf, here, later, CurrentOfGroup}
 use Rattle.published.specs.Updates.{NoneOccurs, none_of_none, none_of_case, FirstOccurs, occurs_here, occurs_later, Part, sig, evs, Result, becomes, leaves, Transition, tr_input, tr_time, tr_ext, tr_delay, tr_signal', tr_switch_occ, tr_switch_noc, tr_continue, tr_continue_taken, tr_continue_left, tr_until_noc, tr_until_occ, tr_no_case, tr_case}
 use Rattle.published.specs.Marks.{left_none, left_first, left_t}

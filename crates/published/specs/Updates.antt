@@ -12,7 +12,7 @@ use Rattle.rules.specs.Scope.{has_branch}
 use Rattle.rules.specs.Evaluate.{Env, bind, opened}
 use Rattle.rules.specs.Reset.{reset_s, reset_b}
 use Rattle.rules.specs.declared.Value.{Value}
-use Rattle.rules.specs.declared.Opened.TheVariants.{Here, Gone}
+use Rattle.rules.specs.Opened.{Here, Gone}
 use Rattle.published.specs.Signals.{CurrentOfSwitch, CurrentOfGroup, EvaluatesS}
 
 -- {E ⊢ evⱼ ↪ ⊥}: no event of a list occurs. Its size is that of the evaluations: lists count nothing.

@@ -15,7 +15,9 @@ use Rattle.labels.specs.Noted.{named_by}
 use Rattle.labels.proofs.NoteLaws.{named_part}
 use Rattle.phrases.proofs.StepLaws.{no_name}
 use Rattle.phrases.specs.declared.Constant.{Constant}
-use Rattle.phrases.specs.declared.Step.{Step}
+use Rattle.std.specs.Prelude.{Result, Ok}
+use Rattle.phrases.specs.declared.Read.{Read}
+use Rattle.texts.specs.declared.Unread.{Unread}
 use Rattle.phrases.specs.Gave.{with_names, gave, number, written}
 use Rattle.reader.specs.Held.{entry, row_at, rows_in, places_in, past_in, sofar_in, row_put, Ended}
 use Rattle.reader.proofs.SofarLaws.{rows_same, places_same, rows_many}
@@ -81,14 +83,14 @@ module _ (text : Bytes) (xs : List ℕ) (kind ty a b c word p q r s u v z : ℕ)
       rw (put_begun, put_rows, put_places, rows_many text xs (get_or xs 1 0)) refl
 
 -- A constant's row, and a variable's.
-module _ (text : Bytes) (xs xs' names : List ℕ) (at : ℕ) (r : Step) (long : length xs ≡ 13118) (room : get_or xs 1 0 < 1008) (e : r ≡ Step.Read (get_or xs 1 0) at) where
+module _ (text : Bytes) (xs xs' names : List ℕ) (at : ℕ) (r : Result (Read ℕ) Unread) (long : length xs ≡ 13118) (room : get_or xs 1 0 < 1008) (e : r ≡ Ok (record { value = get_or xs 1 0; behind = at })) where
   pub constant_ends : (v : Constant) (place : ℕ) → xs' ≡ row_put xs 17 v.ty 0 v.present 0 v.word 0 0 0 0 0 0 place → v.ty < 256 → v.word < 4294967296
       → gave number text (sofar_in text xs' names) r ≡ R.ends place (R.constant_row (written v)) (from text at) (sofar_in text xs names)
   unfolding gave R.constant_row written
   constant_ends v place f t w =
       let x : v.ty % 256 ≡ v.ty = omega arith in
       let y : v.word % 4294967296 ≡ v.word = omega arith in
-      ap₂ (λ (ys : List ℕ) (q : Step). gave number text (sofar_in text ys names) q) f e
+      ap₂ (λ (ys : List ℕ) (q : Result (Read ℕ) Unread). gave number text (sofar_in text ys names) q) f e
       ∙ ends_put text xs 17 v.ty 0 v.present 0 v.word 0 0 0 0 0 0 place long room names (from text at)
       ∙ rw (x, y, no_name text) refl
 
@@ -96,7 +98,7 @@ module _ (text : Bytes) (xs xs' names : List ℕ) (at : ℕ) (r : Step) (long : 
       → gave number text (sofar_in text xs' names) r ≡ R.ends s (R.variable_row (part text s at)) (from text at) (sofar_in text xs names)
   unfolding gave R.variable_row
   variable_ends s f h k =
-      ap₂ (λ (ys : List ℕ) (q : Step). gave number text (sofar_in text ys names) q) f e
+      ap₂ (λ (ys : List ℕ) (q : Result (Read ℕ) Unread). gave number text (sofar_in text ys names) q) f e
       ∙ ends_put text xs 16 0 0 0 0 0 0 0 0 0 s at s long room names (from text at)
       ∙ rw (no_name text, named_part text s at (omega arith) k) refl
 

@@ -1,5 +1,6 @@
 -- Where a node begins.
 -- Assumes nothing.
+use Rattle.std.specs.Prelude.{Option, Some, None, ℕ}
 use mathlib.Core.Path.{◌≡◌, refl, sym, ap, ap₂, subst, ◌∙◌}
 use mathlib.Core.Bool.{Bool, true, false}
 use mathlib.Core.List.{List}
@@ -8,7 +9,6 @@ use native.Mathlib.Omega.{arith}
 use lib.ListN.{length, get_or, set, length-set}
 use lib.Seq.{get_or-set_same, get_or-set_other}
 use Rattle.rules.specs.Bytes.{Bytes, first}
-use Rattle.rules.specs.declared.Place.{Place}
 use Rattle.rules.specs.declared.Field.{Field}
 use Rattle.texts.specs.Tokens.{Token, token, from}
 use Rattle.texts.specs.Spelled.{same}
@@ -17,7 +17,8 @@ use Rattle.texts.specs.Rows.{Sofar, Got, stopped, ◌onward◌}
 use Rattle.texts.specs.Steps as S
 use Rattle.texts.specs.Reader as R
 use Rattle.texts.specs.declared.Unread.{Unread}
-use Rattle.phrases.specs.declared.Step.{Step}
+use Rattle.std.specs.Prelude.{Result}
+use Rattle.phrases.specs.declared.Read.{Read}
 use Rattle.phrases.specs.Gave.{gave, number}
 use Rattle.phrases.proofs.StepLaws.{from_below}
 use Rattle.reader.specs.declared.Entered.{Entered}
@@ -34,7 +35,7 @@ module _ (xs : List ℕ) (long : length xs ≡ 13118) (node : R.Nodes) (bs : Lis
   stopped_in why xs' n e g =
       ap₂ (λ (ys : List ℕ) (k : ℕ). entered_as node bs text ys ns (Entered.Done k)) e g ∙ ap (λ (w : Unread). stopped w) (stop_why xs long why)
 
-  pub done_in : (s : Step) (xs' : List ℕ) (n : ℕ) → xs' ≡ step_put xs s → n ≡ flag s → entered_as node bs text xs' ns (Entered.Done n) ≡ gave number text (sofar_in text xs ns) s
+  pub done_in : (s : Result (Read ℕ) Unread) (xs' : List ℕ) (n : ℕ) → xs' ≡ step_put xs s → n ≡ flag s → entered_as node bs text xs' ns (Entered.Done n) ≡ gave number text (sofar_in text xs ns) s
   unfolding entered_as
   done_in s xs' n e g = stepped_in xs long number text ns s xs' n e g
 
@@ -53,25 +54,25 @@ module _ (xs : List ℕ) (long : length xs ≡ 13118) where
   pub form_ended : (e place : ℕ) → Ended xs (set (set xs 2 e) 6 place)
   form_ended e place = same_ended xs (set (set xs 2 e) 6 place) (two_same xs long 2 6 e place (omega arith) (omega arith))
 
-pub then_ended : (xs xs₁ xs₂ : List ℕ) (s : Step) → length xs ≡ 13118 → Ended xs xs₁ → xs₂ ≡ step_put xs₁ s → Ended xs xs₂
+pub then_ended : (xs xs₁ xs₂ : List ℕ) (s : Result (Read ℕ) Unread) → length xs ≡ 13118 → Ended xs xs₁ → xs₂ ≡ step_put xs₁ s → Ended xs xs₂
 then_ended xs xs₁ xs₂ s long d e =
     let t = stepped_same xs₁ (d.long ∙ long) s xs₂ e in
     record { long = t.long ∙ d.long; begun = t.begun ∙ d.begun; rows = omega (arith, t.rows, d.rows) }
 
 -- A kind's word, or not.
 module _ (node : R.Nodes) (bs : List Bytes) (finish : ℕ) (f : Field) (place : ℕ) (w : Bytes) (at : ℕ) (ts : List Token) (so : Sofar) where
-  abbrev wordly_by : Place → Got ℕ
-  wordly_by q = elim q [ Place.At k ↦ R.form node bs finish place k ts so | Place.Nowhere ↦ other_as f place w at finish ts so ]
+  abbrev wordly_by : Option ℕ → Got ℕ
+  wordly_by q = elim q [ Some k ↦ R.form node bs finish place k ts so | None ↦ other_as f place w at finish ts so ]
 
-  pub wordly_kind : (q : Place) (k : ℕ) → q ≡ kind_named f w → q ≡ Place.At k → R.form node bs finish place k ts so ≡ R.wordly node bs finish f place (token at w) ts so
+  pub wordly_kind : (q : Option ℕ) (k : ℕ) → q ≡ kind_named f w → q ≡ Some k → R.form node bs finish place k ts so ≡ R.wordly node bs finish f place (token at w) ts so
   unfolding R.wordly token other_as
   wordly_kind q k e z = ap wordly_by (sym z ∙ e)
 
-  pub wordly_other : (q : Place) → q ≡ kind_named f w → q ≡ Place.Nowhere → other_as f place w at finish ts so ≡ R.wordly node bs finish f place (token at w) ts so
+  pub wordly_other : (q : Option ℕ) → q ≡ kind_named f w → q ≡ None → other_as f place w at finish ts so ≡ R.wordly node bs finish f place (token at w) ts so
   unfolding R.wordly token other_as
   wordly_other q e z = ap wordly_by (sym z ∙ e)
 
-pub kind_small : (f : Field) (w : Bytes) (q : Place) (k : ℕ) → q ≡ kind_named f w → q ≡ Place.At k → k < 30
+pub kind_small : (f : Field) (w : Bytes) (q : Option ℕ) (k : ℕ) → q ≡ kind_named f w → q ≡ Some k → k < 30
 unfolding kind_named first
 kind_small f w q k e z = from_below _ 0 30 k (sym e ∙ z)
 

@@ -19,7 +19,8 @@ use Rattle.texts.specs.Reader as R
 use Rattle.texts.specs.Reader.{Held, Nodes, plainly}
 use Rattle.texts.specs.declared.Unread.{Unread}
 use Rattle.phrases.specs.Gave.{number, gave, with_names}
-use Rattle.phrases.specs.declared.Step.{Step}
+use Rattle.std.specs.Prelude.{Result}
+use Rattle.phrases.specs.declared.Read.{Read}
 use Rattle.reader.specs.Held.{Ready, Grew, BelowKinds, gave_in, held_as, sofar_in, past_in, rows_in, places_in, is_inside, is_behind, ends_list, stop_put, step_put, flag, begun_in, entry₀, entered_as}
 use Rattle.reader.specs.declared.Entered.{Entered}
 use Rattle.reader.proofs.SofarLaws.{rows_same, places_same, note_sofar}
@@ -182,14 +183,14 @@ below_kinds xs ys r k e b =
     (f.0, f.1.rows)
 
 -- A step that is put gives what it gave; a stop, that it is none.
-pub step_held : (text : Bytes) (node : Nodes) (bs : List Bytes) (f : Field) (p : ℕ) (xs ys names : List ℕ) (s : Step) (r : ℕ) → length xs ≡ 13118
+pub step_held : (text : Bytes) (node : Nodes) (bs : List Bytes) (f : Field) (p : ℕ) (xs ys names : List ℕ) (s : Result (Read ℕ) Unread) (r : ℕ) → length xs ≡ 13118
     → ((m : Nodes) (so : Sofar) → gave (held_as text f) text so s ≡ R.field m bs f p (length text) (from text (get_or xs 2 0)) so)
     → r ≡ flag s → ys ≡ step_put xs s
     → gave_in (held_as text f) text ys names r ≡ R.field node bs f p (length text) (from text (get_or xs 2 0)) (sofar_in text xs names)
 step_held text node bs f p xs ys names s r l g e q =
     stepped_in xs l (held_as text f) text names s ys r q e ∙ g node (sofar_in text xs names)
 
-pub grew_step : (xs ys names : List ℕ) (s : Step) → Ready xs names → ys ≡ step_put xs s → Grew xs names ys names
+pub grew_step : (xs ys names : List ℕ) (s : Result (Read ℕ) Unread) → Ready xs names → ys ≡ step_put xs s → Grew xs names ys names
 grew_step xs ys names s r e = grew_same xs ys names r (stepped_same xs r.long s ys e)
 
 pub grew_stop : (xs ys names : List ℕ) (why : Unread) → Ready xs names → ys ≡ stop_put xs why → Grew xs names ys names

@@ -13,7 +13,8 @@ use Rattle.texts.specs.Tokens.{token, from, part}
 use Rattle.texts.specs.Spelled.{same}
 use Rattle.texts.specs.Spelling.{close₀}
 use Rattle.tokens.specs.Ahead.{Ahead}
-use Rattle.tokens.specs.declared.Next.{Next}
+use Rattle.std.specs.Prelude.{Option, Some, None}
+use Rattle.tokens.specs.declared.Span.{Span}
 use Rattle.phrases.proofs.StepLaws.{at_end, at_word}
 use Rattle.texts.specs.declared.Unread.{Unread}
 use Rattle.reader.specs.Held.{begun_in, numbers_in, names_put, appended, row_put, why_in, ends_list}
@@ -134,14 +135,14 @@ module _ (xs : List ℕ) where
   why_range d e = rw (ne_eqb (get_or xs 4 0) 0 d, ne_eqb (get_or xs 4 0) 1 e) refl
 
 -- A list ends before a closing parenthesis.
-module _ (text : Bytes) (at : ℕ) (r : Next) (a : Ahead text at r) where
-  pub list_none : r ≡ Next.End → false ≡ ends_list (from text at)
+module _ (text : Bytes) (at : ℕ) (r : Option Span) (a : Ahead text at r) where
+  pub list_none : r ≡ None → false ≡ ends_list (from text at)
   unfolding ends_list
   list_none e = rw (at_end text at r a e) refl
 
-  pub list_some : (s e : ℕ) → r ≡ Next.Word s e → same (part text s e) close₀ ≡ ends_list (from text at)
+  pub list_some : (w : Span) → r ≡ Some w → same (part text w.first w.end) close₀ ≡ ends_list (from text at)
   unfolding ends_list token
-  list_some s e q = rw (at_word text at r a s e q).3 refl
+  list_some w q = rw (at_word text at r a w q).3 refl
 
 -- A row written in three parts.
 module _ (xs xs₁ : List ℕ) (kind ty a b c word : ℕ) (e : xs₁ ≡ numbers_in xs kind ty a b c word) (long : length xs ≡ 13118) (room : get_or xs 1 0 < 1008) where

@@ -2,7 +2,7 @@
 -- Entry 0 is how many nodes have begun, entry 1 how many rows there are; 2 the position behind what was read, 3 the number that it gave, 4 and 5
 -- why the text is not read, 6 where a node begins; 7-13 a heading. Rows are from entry 14 on, 13 entries each.
 -- Assumes nothing: these are definitions.
-use Rattle.std.specs.Prelude.{ℕ, zero, suc, ◌+◌, ◌*◌, ◌%◌, ◌≤◌, ◌<◌, ◌≡◌, List, [], ◌∷◌, ◌++◌, Bool, true, false, length, get_or, set, eqb, ltb, if◌then◌else◌}
+use Rattle.std.specs.Prelude.{ℕ, zero, suc, ◌+◌, ◌*◌, ◌%◌, ◌≤◌, ◌<◌, ◌≡◌, List, [], ◌∷◌, ◌++◌, Bool, true, false, length, get_or, set, eqb, ltb, if◌then◌else◌, Result, Ok, Err}
 use Rattle.rules.specs.Bytes.{Bytes, write_at}
 use Rattle.rules.specs.Shape.{may_be}
 use Rattle.rules.specs.declared.Field.{Field}
@@ -18,7 +18,7 @@ use Rattle.texts.specs.declared.Unread.TheVariants.{Word}
 use Rattle.reader.specs.declared.Entered.{Entered}
 use Rattle.labels.specs.Noted.{named_by}
 use Rattle.phrases.specs.Gave.{Past, with_names, Tables}
-use Rattle.phrases.specs.declared.Step.{Step}
+use Rattle.phrases.specs.declared.Read.{Read}
 
 -- Entry c of row j.
 unfoldable pub entry : List ℕ → ℕ → ℕ → ℕ
@@ -125,13 +125,13 @@ stop_put xs (Unread.Word at) = set (set xs 4 0) 5 at
 stop_put xs (Unread.Name at) = set (set xs 4 1) 5 at
 stop_put xs (Unread.Range at) = set (set xs 4 2) 5 at
 
-unfoldable pub step_put : List ℕ → Step → List ℕ
-step_put xs (Step.Read x at) = set (set xs 2 at) 3 x
-step_put xs (Step.Stop why) = stop_put xs why
+unfoldable pub step_put : List ℕ → Result (Read ℕ) Unread → List ℕ
+step_put xs (Ok r) = set (set xs 2 r.behind) 3 r.value
+step_put xs (Err why) = stop_put xs why
 
-unfoldable pub flag : Step → ℕ
-flag (Step.Read x at) = 1
-flag (Step.Stop why) = 0
+unfoldable pub flag : Result (Read ℕ) Unread → ℕ
+flag (Ok r) = 1
+flag (Err why) = 0
 
 -- The counts and the length are as they were.
 pub record Same (xs xs' : List ℕ) : Type 0 where

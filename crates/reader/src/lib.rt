@@ -1,7 +1,7 @@
 // The reader: from words to rows, one for each node, children first in field order.
 #![tactic(auto)]
 
-ghost use Rattle.std.specs.Prelude.{◌≡◌, Bool, true, false, List, [], ◌∷◌, ℕ, ◌≤◌, ◌<◌, ◌+◌, ltb, length, get_or, set};
+ghost use Rattle.std.specs.Prelude.{◌≡◌, Bool, true, false, List, [], ◌∷◌, ℕ, ◌≤◌, ◌<◌, ◌+◌, ltb, length, get_or, set, Ok};
 ghost use Rattle.rules.specs.Bytes.{Bytes};
 ghost use Rattle.rules.specs.Kinds.{fields_of};
 ghost use Rattle.texts.specs.Tokens.{token, from, part, tokens};
@@ -17,13 +17,13 @@ ghost use Rattle.reader.specs.Held.{Ready, Grew, why_in, gave_in, held_as, headi
 use kinds::{a_in, b_in, c_in, either, may_be, row_of};
 use labels::is_noted;
 use phrases::{
-    Constant, Headed, Step, Valued, channel, close, heading, is_plain_value, maybe_value,
-    plain_value, position, target,
+    Constant, Read, channel, close, heading, is_plain_value, maybe_value, plain_value, position,
+    target,
 };
-use rules::{Field, Place, TypeField};
+use rules::{Field, TypeField};
 use spell::{is_byte, is_name, kind_named};
 use texts::Unread;
-use tokens::{Next, word_from};
+use tokens::{Span, word_from};
 
 // The fields of a kind: a,
 fn field_a(k: u8) -> Field
@@ -152,9 +152,9 @@ fn append(rows: &mut [usize; 13118], uses: usize, usesend: usize, place: usize) 
 }
 
 // A constant's row.
-fn constant_row(rows: &mut [usize; 13118], v: Constant, place: usize, at: usize) -> Step
+fn constant_row(rows: &mut [usize; 13118], v: Constant, place: usize, behind: usize) -> Read<usize>
     requires { (length rows.old ≡ 13118) × (get_or rows.old 1 0 < 1008) }
-    ensures { (result ≡ Step.Read (get_or rows.old 1 0) at) × (rows.new ≡ row_put rows.old 17 v.ty 0 v.present 0 v.word 0 0 0 0 0 0 place) × (v.ty < 256) × (v.word < 4294967296) }
+    ensures { (result ≡ record { value = get_or rows.old 1 0; behind = behind }) × (rows.new ≡ row_put rows.old 17 v.ty 0 v.present 0 v.word 0 0 0 0 0 0 place) × (v.ty < 256) × (v.word < 4294967296) }
 {
     put_numbers(
         rows,
@@ -166,19 +166,22 @@ fn constant_row(rows: &mut [usize; 13118], v: Constant, place: usize, at: usize)
         v.word as usize,
     );
     put_names(rows, 0, 0, 0, 0);
-    let n = append(rows, 0, 0, place);
-    Step::Read(n, at)
+    let value = append(rows, 0, 0, place);
+    Read { value, behind }
 }
 
 // A variable's row.
-fn variable_row(rows: &mut [usize; 13118], start: usize, end: usize) -> Step
+fn variable_row(rows: &mut [usize; 13118], w: Span) -> Read<usize>
     requires { (length rows.old ≡ 13118) × (get_or rows.old 1 0 < 1008) }
-    ensures { (result ≡ Step.Read (get_or rows.old 1 0) end) × (rows.new ≡ row_put rows.old 16 0 0 0 0 0 0 0 0 0 start end start) }
+    ensures { (result ≡ record { value = get_or rows.old 1 0; behind = w.end }) × (rows.new ≡ row_put rows.old 16 0 0 0 0 0 0 0 0 0 w.first w.end w.first) }
 {
     put_numbers(rows, 16, 0, 0, 0, 0, 0);
     put_names(rows, 0, 0, 0, 0);
-    let n = append(rows, start, end, start);
-    Step::Read(n, end)
+    let value = append(rows, w.first, w.end, w.first);
+    Read {
+        value,
+        behind: w.end,
+    }
 }
 
 // A name as a variable, which must have been bound before.
@@ -186,21 +189,20 @@ fn used(
     text: &&[u8],
     rows: &mut [usize; 13118],
     names: &[usize; 4034],
-    start: usize,
-    end: usize,
-) -> Step
-    requires part { IsPart text.now.now start end × (start < end) }
+    w: Span,
+) -> Result<Read<usize>, Unread>
+    requires part { IsPart text.now.now w.first w.end × (w.first < w.end) }
     requires rows_len { (length rows.old ≡ 13118) × (get_or rows.old 1 0 < 1008) }
     requires names_bound { (get_or names.now 0 0 ≤ 1008) × (length names.now ≡ 4034) }
-    ensures { (gave number text.now.now (sofar_in text.now.now rows.new names.now) result ≡ used_as (part text.now.now start end) start (from text.now.now end) (sofar_in text.now.now rows.old names.now)) × Ended rows.old rows.new }
+    ensures { (gave number text.now.now (sofar_in text.now.now rows.new names.now) result ≡ used_as (part text.now.now w.first w.end) w.first (from text.now.now w.end) (sofar_in text.now.now rows.old names.now)) × Ended rows.old rows.new }
 {
-    if !is_name(*text, start, end) {
-        return Step::Stop(Unread::Word(start));
+    if !is_name(&text[w.first..w.end]) {
+        return Err(Unread::Word(w.first));
     }
-    if !is_noted(*text, names, 0, start, end) {
-        return Step::Stop(Unread::Name(start));
+    if !is_noted(*text, names, 0, &text[w.first..w.end]) {
+        return Err(Unread::Name(w.first));
     }
-    variable_row(rows, start, end)
+    Ok(variable_row(rows, w))
 }
 
 // A word as a node, where a field asks for one: a constant or a variable.
@@ -209,24 +211,21 @@ fn bare(
     rows: &mut [usize; 13118],
     names: &[usize; 4034],
     f: Field,
-    start: usize,
-    end: usize,
-) -> Step
-    requires part { IsPart text.now.now start end × (start < end) }
+    w: Span,
+) -> Result<Read<usize>, Unread>
+    requires part { IsPart text.now.now w.first w.end × (w.first < w.end) }
     requires rows_len { (length rows.old ≡ 13118) × (get_or rows.old 1 0 < 1008) }
     requires names_bound { (get_or names.now 0 0 ≤ 1008) × (length names.now ≡ 4034) }
-    ensures { (gave number text.now.now (sofar_in text.now.now rows.new names.now) result ≡ bare_as f (part text.now.now start end) start (length text.now.now) (from text.now.now end) (sofar_in text.now.now rows.old names.now)) × Ended rows.old rows.new }
+    ensures { (gave number text.now.now (sofar_in text.now.now rows.new names.now) result ≡ bare_as f (part text.now.now w.first w.end) w.first (length text.now.now) (from text.now.now w.end) (sofar_in text.now.now rows.old names.now)) × Ended rows.old rows.new }
 {
     if !may_be(f, 17) {
-        return Step::Stop(Unread::Word(start));
+        return Err(Unread::Word(w.first));
     }
-    if !is_plain_value(text, start, end) {
-        return used(text, rows, names, start, end);
+    if !is_plain_value(&text[w.first..w.end]) {
+        return used(text, rows, names, w);
     }
-    match plain_value(text, start, end) {
-        Valued::Stop(why) => Step::Stop(why),
-        Valued::Read(v, behind) => constant_row(rows, v, start, behind),
-    }
+    let r = plain_value(text, w)?;
+    Ok(constant_row(rows, r.value, w.first, r.behind))
 }
 
 // Behind an open parenthesis, where the word is no kind's: a value.
@@ -235,40 +234,76 @@ fn other(
     rows: &mut [usize; 13118],
     f: Field,
     place: usize,
-    start: usize,
-    end: usize,
-) -> Step
-    requires part { IsPart text.now.now start end × (start < end) }
+    w: Span,
+) -> Result<Read<usize>, Unread>
+    requires part { IsPart text.now.now w.first w.end × (w.first < w.end) }
     requires rows_len { (length rows.old ≡ 13118) × (get_or rows.old 1 0 < 1008) }
-    ensures { ((ns : List ℕ) → gave number text.now.now (sofar_in text.now.now rows.new ns) result ≡ other_as f place (part text.now.now start end) start (length text.now.now) (from text.now.now end) (sofar_in text.now.now rows.old ns)) × Ended rows.old rows.new }
+    ensures { ((ns : List ℕ) → gave number text.now.now (sofar_in text.now.now rows.new ns) result ≡ other_as f place (part text.now.now w.first w.end) w.first (length text.now.now) (from text.now.now w.end) (sofar_in text.now.now rows.old ns)) × Ended rows.old rows.new }
 {
     if !may_be(f, 17) {
-        return Step::Stop(Unread::Word(start));
+        return Err(Unread::Word(w.first));
     }
-    match maybe_value(text, start, end) {
-        Valued::Stop(why) => Step::Stop(why),
-        Valued::Read(v, behind) => constant_row(rows, v, place, behind),
-    }
+    let r = maybe_value(text, w)?;
+    Ok(constant_row(rows, r.value, place, r.behind))
 }
 
 // A field that is for no node: a number, of a target where its name begins.
-fn simple(text: &&[u8], known: &[usize; 2017], f: Field, present: usize, at: usize) -> Step
+fn simple(
+    text: &&[u8],
+    known: &[usize; 2017],
+    f: Field,
+    present: usize,
+    at: usize,
+) -> Result<Read<usize>, Unread>
     requires known { Known text.now.now known.now }
     requires f_value { is_inside f ≡ false }
     ensures { (node : R.Nodes) (so : Sofar) → gave (held_as text.now.now f) text.now.now so result ≡ R.field node (R.branch_names (tokens text.now.now)) f present (length text.now.now) (from text.now.now at) so }
 {
     match f {
-        Field::Unused => Step::Read(0, at),
+        Field::Unused => Ok(Read {
+            value: 0,
+            behind: at,
+        }),
         Field::Channel => channel(text, at),
-        Field::PresentByte => Step::Read(present, at),
-        Field::Signal => Step::Read(0, at),
-        Field::Expression => Step::Read(0, at),
-        Field::FirstBranch => Step::Read(0, at),
-        Field::NextBranch => Step::Read(65535, at),
-        Field::FirstCase => Step::Read(0, at),
-        Field::NextCase => Step::Read(65535, at),
-        Field::Binder => Step::Read(0, at),
-        Field::Target => target(text, known, at),
+        Field::PresentByte => Ok(Read {
+            value: present,
+            behind: at,
+        }),
+        Field::Signal => Ok(Read {
+            value: 0,
+            behind: at,
+        }),
+        Field::Expression => Ok(Read {
+            value: 0,
+            behind: at,
+        }),
+        Field::FirstBranch => Ok(Read {
+            value: 0,
+            behind: at,
+        }),
+        Field::NextBranch => Ok(Read {
+            value: 65535,
+            behind: at,
+        }),
+        Field::FirstCase => Ok(Read {
+            value: 0,
+            behind: at,
+        }),
+        Field::NextCase => Ok(Read {
+            value: 65535,
+            behind: at,
+        }),
+        Field::Binder => Ok(Read {
+            value: 0,
+            behind: at,
+        }),
+        Field::Target => {
+            let w = target(text, known, at)?;
+            Ok(Read {
+                value: w.first,
+                behind: w.end,
+            })
+        }
     }
 }
 
@@ -315,8 +350,8 @@ fn ends_list(text: &&[u8], at: usize) -> bool
     ensures { result ≡ ends_list (from text.now.now at) }
 {
     match word_from(*text, at) {
-        Next::End => false,
-        Next::Word(first, end) => is_byte(*text, first, end, 41),
+        None => false,
+        Some(w) => is_byte(&text[w.first..w.end], b')'),
     }
 }
 
@@ -343,15 +378,15 @@ fn put_stop(rows: &mut [usize; 13118], why: Unread) -> usize
 }
 
 // What a step gave, in the note: the position behind what was read, and the number; or why the text is not read.
-fn put_step(rows: &mut [usize; 13118], s: Step) -> usize
+fn put_step(rows: &mut [usize; 13118], s: Result<Read<usize>, Unread>) -> usize
     requires { length rows.old ≡ 13118 }
     ensures { (result ≡ flag s) × (rows.new ≡ step_put rows.old s) }
 {
     match s {
-        Step::Stop(why) => put_stop(rows, why),
-        Step::Read(x, at) => {
-            rows[2] = at;
-            rows[3] = x;
+        Err(why) => put_stop(rows, why),
+        Ok(r) => {
+            rows[2] = r.behind;
+            rows[3] = r.value;
             1
         }
     }
@@ -367,13 +402,14 @@ fn put_heading(text: &&[u8], rows: &mut [usize; 13118], names: &mut [usize; 4034
     ensures { (gave_head_in text.now.now rows.new names.new result ≡ R.heading k (length text.now.now) (from text.now.now (get_or rows.old 2 0)) (sofar_in text.now.now rows.old names.old)) × Same rows.old rows.new × (length names.new ≡ 4034) × (get_or names.new 0 0 ≤ get_or names.old 0 0 + 1) × (get_or names.new 2017 0 ≤ get_or names.old 2017 0 + 1) × (0 < result → (get_or rows.new 11 0 < 256) × (get_or rows.new 13 0 < 4294967296)) }
 {
     match heading(text, names, k, type_field(k), rows[2]) {
-        Headed::Stop(why) => put_stop(rows, why),
-        Headed::Read(h, at) => {
-            rows[2] = at;
-            rows[7] = h.label;
-            rows[8] = h.labelend;
-            rows[9] = h.binds;
-            rows[10] = h.bindsend;
+        Err(why) => put_stop(rows, why),
+        Ok(r) => {
+            let h = r.value;
+            rows[2] = r.behind;
+            rows[7] = h.label.first;
+            rows[8] = h.label.end;
+            rows[9] = h.binds.first;
+            rows[10] = h.binds.end;
             rows[11] = h.ty as usize;
             rows[12] = h.present as usize;
             rows[13] = h.word as usize;
@@ -387,8 +423,13 @@ fn put_close(text: &&[u8], rows: &mut [usize; 13118]) -> usize
     requires { length rows.old ≡ 13118 }
     ensures { ((ns : List ℕ) → gave_in nothing text.now.now rows.new ns result ≡ S.expect close₀ (length text.now.now) (from text.now.now (get_or rows.old 2 0)) (sofar_in text.now.now rows.old ns)) × Same rows.old rows.new }
 {
-    let s = close(text, rows[2]);
-    put_step(rows, s)
+    match close(text, rows[2]) {
+        Err(why) => put_stop(rows, why),
+        Ok(w) => {
+            rows[2] = w.end;
+            1
+        }
+    }
 }
 
 // A field inside the parentheses.
@@ -517,6 +558,7 @@ fn put_rest(
 }
 
 // What stands where a node begins: a form of a kind, or a node that is read already, or a word that does not fit.
+// (Both arms go on, so an Option or a Result would be no plainer.)
 #[derive(Clone, Copy)]
 pub enum Entered {
     Form(u8),
@@ -529,17 +571,17 @@ fn opened(text: &&[u8], rows: &mut [usize; 13118], f: Field, place: usize, at: u
     ensures { ((node : R.Nodes) (bs : List Bytes) (ns : List ℕ) → entered_as node bs text.now.now rows.new ns result ≡ (S.next (length text.now.now) (from text.now.now at) (sofar_in text.now.now rows.old ns) onward λ u ts so. R.wordly node bs (length text.now.now) f place u ts so)) × Ended rows.old rows.new × BelowKinds rows.old rows.new result }
 {
     match word_from(*text, at) {
-        Next::End => Entered::Done(put_stop(rows, Unread::Word(text.len()))),
-        Next::Word(first, end) => {
-            let named = kind_named(f, *text, first, end);
+        None => Entered::Done(put_stop(rows, Unread::Word(text.len()))),
+        Some(w) => {
+            let named = kind_named(f, &text[w.first..w.end]);
             match named {
-                Place::At(k) => {
-                    rows[2] = end;
+                Some(k) => {
+                    rows[2] = w.end;
                     rows[6] = place;
                     Entered::Form(k as u8)
                 }
-                Place::Nowhere => {
-                    let s = other(text, rows, f, place, first, end);
+                None => {
+                    let s = other(text, rows, f, place, w);
                     Entered::Done(put_step(rows, s))
                 }
             }
@@ -554,18 +596,19 @@ fn enter(text: &&[u8], rows: &mut [usize; 13118], names: &[usize; 4034], f: Fiel
     ensures { ((node : R.Nodes) (bs : List Bytes) → entered_as node bs text.now.now rows.new names.now result ≡ entry₀ node bs (length text.now.now) f (from text.now.now (get_or rows.old 2 0)) (sofar_in text.now.now rows.old names.now)) × Ended rows.old rows.new × BelowKinds rows.old rows.new result }
 {
     match word_from(*text, rows[2]) {
-        Next::End => Entered::Done(put_stop(rows, Unread::Word(text.len()))),
-        Next::Word(first, end) => {
-            if is_byte(*text, first, end, 40) {
-                return opened(text, rows, f, first, end);
+        None => Entered::Done(put_stop(rows, Unread::Word(text.len()))),
+        Some(w) => {
+            if is_byte(&text[w.first..w.end], b'(') {
+                return opened(text, rows, f, w.first, w.end);
             }
-            let s = bare(text, rows, names, f, first, end);
+            let s = bare(text, rows, names, f, w);
             Entered::Done(put_step(rows, s))
         }
     }
 }
 
-// A node, for a field that asks for a signal, an expression, a branch or a case.
+// A node, for a field that asks for a signal, an expression, a branch or a case. (It answers 1 or 0 and leaves what it read, or why not, in the note:
+// an answer through memory took 700 KiB of stack at 1,008 levels, and a call has 512. So names and rows are one array each, with their counts in them.)
 #[cycle(behind_field_form_node)]
 pub fn node(
     text: &&[u8],

@@ -1,5 +1,6 @@
 -- A text's edition, its node and its end, put together.
 -- Assumes nothing.
+use Rattle.std.specs.Prelude.{Option, Some, None, ℕ}
 use mathlib.Core.Path.{◌≡◌, refl, sym, ap, subst, ◌∙◌}
 use mathlib.Core.List.{List, [], ◌∷◌}
 use Prim.Native.Nat.{ℕ, zero, suc, ◌-◌, ◌<◌}
@@ -8,7 +9,6 @@ use lib.ListN.{length, get_or, set, replicate, length-set, length-replicate}
 use lib.Seq.{get_or-set_same, get_or-set_other}
 use Rattle.rules.specs.Bytes.{Bytes}
 use Rattle.rules.specs.declared.Field.TheVariants.{Signal}
-use Rattle.rules.specs.declared.Place.{Place}
 use Rattle.texts.specs.Spelled.{same}
 use Rattle.texts.specs.Spelling.{edition_named, edition_word}
 use Rattle.texts.specs.Tokens.{Token, token, tokens, from, part}
@@ -18,7 +18,8 @@ use Rattle.texts.specs.Reader.{branch_names, node_f, title, ended, reading, read
 use Rattle.texts.proofs.Yields.{first_passes}
 use Rattle.texts.specs.declared.Unread.{Unread}
 use Rattle.texts.specs.declared.Unread.TheVariants.{Word}
-use Rattle.phrases.specs.declared.Step.{Step}
+use Rattle.std.specs.Prelude.{Result, Ok, Err}
+use Rattle.phrases.specs.declared.Read.{Read}
 use Rattle.phrases.specs.Gave.{gave, number, Below, with_names}
 use Rattle.labels.specs.Noted.{noted_names, names_in}
 use Rattle.reader.specs.Held.{past_in, sofar_in, why_in, gave_in, Ready}
@@ -39,23 +40,23 @@ module _ (text : Bytes) where
   unfolding title next ◌onward◌ tokens
   title_none e = sym (ap first_title (sym here ∙ e))
 
-  abbrev word_title : Token → List Token → Place → Got ℕ
-  word_title t ts p = elim p [ Place.At e ↦ got e ts at_start | Place.Nowhere ↦ stopped (Word t.at) ]
+  abbrev word_title : Token → List Token → Option ℕ → Got ℕ
+  word_title t ts p = elim p [ Some e ↦ got e ts at_start | None ↦ stopped (Word t.at) ]
 
-  module _ (start end : ℕ) (e : from text 0 ≡ token start (part text start end) ∷ from text end) {p : Place} (q : p ≡ edition_named (part text start end)) where
+  module _ (start end : ℕ) (e : from text 0 ≡ token start (part text start end) ∷ from text end) {p : Option ℕ} (q : p ≡ edition_named (part text start end)) where
     title_by : word_title (token start (part text start end)) (from text end) p ≡ title (length text) (tokens text) at_start
     unfolding title next ◌onward◌ token
     title_by = ap (word_title (token start (part text start end)) (from text end)) q ∙ sym (ap first_title (sym here ∙ e))
 
-    pub title_at : {k : ℕ} → p ≡ Place.At k → got k (from text end) at_start ≡ title (length text) (tokens text) at_start
+    pub title_at : {k : ℕ} → p ≡ Some k → got k (from text end) at_start ≡ title (length text) (tokens text) at_start
     title_at f = sym (ap (word_title (token start (part text start end)) (from text end)) f) ∙ title_by
 
-    pub title_nowhere : p ≡ Place.Nowhere → stopped (Word start) ≡ title (length text) (tokens text) at_start
+    pub title_nowhere : p ≡ None → stopped (Word start) ≡ title (length text) (tokens text) at_start
     unfolding token
     title_nowhere f = sym (ap (word_title (token start (part text start end)) (from text end)) f) ∙ title_by
 
 -- An edition is 0 or 1.
-pub edition_small : (w : Bytes) {p : Place} {k : ℕ} → p ≡ edition_named w → p ≡ Place.At k → k < 256
+pub edition_small : (w : Bytes) {p : Option ℕ} {k : ℕ} → p ≡ edition_named w → p ≡ Some k → k < 256
 unfolding edition_named
 edition_small w {k = k} q f = omega (arith, (first_passes (λ e. same w (edition_word e)) 2 k (sym q ∙ f)).1)
 
@@ -103,11 +104,11 @@ module _ (text : Bytes) where
       unfolding gave_in ◌onward◌
       read_node f = to_node ∙ ap (λ (k : ℕ). gave_in number text xs names k onward behind_node e) (let y : r ≡ suc (r - 1) = omega (arith, f) in y)
 
-      pub rows_read : (s : Step) → (r ≡ 0 → ⊥) → Ready xs names
+      pub rows_read : (s : Result (Read ℕ) Unread) → (r ≡ 0 → ⊥) → Ready xs names
           → ((so : Sofar) → gave number text so s ≡ ended e (from text (get_or xs 2 0)) so) → Below 256 s → RowsOf text xs s
       unfolding gave sofar_in past_in with_names
-      rows_read (Step.Read x at') f y h b = record {
-        rest = from text at';
+      rows_read (Ok v) f y h b = record {
+        rest = from text v.behind;
         so = sofar_in text xs names;
         is_read = read_node f ∙ sym (h (sofar_in text xs names));
         rows = rows_held text xs;
@@ -115,7 +116,7 @@ module _ (text : Bytes) where
         few = omega (arith, y.few, y.rows);
         edition = b;
       }
-      rows_read (Step.Stop why) f y h b = read_node f ∙ sym (h (sofar_in text xs names))
+      rows_read (Err why) f y h b = read_node f ∙ sym (h (sofar_in text xs names))
 
 -- A scratch that holds nothing yet is ready, and nothing is so far; also with a position noted.
 zeros : (n i : ℕ) → ◌≡◌ {A = ℕ} (get_or (replicate n 0) i 0) 0
@@ -160,32 +161,35 @@ module _ (text : Bytes) (xs : List ℕ) (at : ℕ) (h : Fresh xs) where
   }
 
 -- What a step gave.
-module _ (text : Bytes) (so : Sofar) (r : Step) {m : Got ℕ} (e : gave number text so r ≡ m) where
-  pub given_read : (x at : ℕ) → r ≡ Step.Read x at → got x (from text at) so ≡ m
+module _ (text : Bytes) (so : Sofar) (r : Result (Read ℕ) Unread) {m : Got ℕ} (e : gave number text so r ≡ m) where
+  pub given_read : (v : Read ℕ) → r ≡ Ok v → got v.value (from text v.behind) so ≡ m
   unfolding gave
-  given_read x at q = sym (ap (gave number text so) q) ∙ e
+  given_read v q = sym (ap (gave number text so) q) ∙ e
 
-  pub given_stop : (why : Unread) → r ≡ Step.Stop why → stopped why ≡ m
+  pub given_stop : (why : Unread) → r ≡ Err why → stopped why ≡ m
   unfolding gave
   given_stop why q = sym (ap (gave number text so) q) ∙ e
 
-pub rowed_of : (text : Bytes) (s : List ℕ) (r : Step) → RowsOf text s r → (e at : ℕ) → r ≡ Step.Read e at → Rowed text s e
-rowed_of text s r h e at q = subst (RowsOf text s) q h
+pub rowed_of : (text : Bytes) (s : List ℕ) (r : Result (Read ℕ) Unread) → RowsOf text s r → (v : Read ℕ) → r ≡ Ok v → Rowed text s v.value
+rowed_of text s r h v q = subst (RowsOf text s) q h
 
-pub stopped_of : (text : Bytes) (s : List ℕ) (r : Step) → RowsOf text s r → (why : Unread) → r ≡ Step.Stop why → read_text text ≡ stopped why
+pub rows_err : (text : Bytes) (s : List ℕ) (r : Result (Read ℕ) Unread) (why : Unread) → r ≡ Err why → read_text text ≡ stopped why → RowsOf text s r
+rows_err text s r why q h = subst (RowsOf text s) (sym q) h
+
+pub stopped_of : (text : Bytes) (s : List ℕ) (r : Result (Read ℕ) Unread) → RowsOf text s r → (why : Unread) → r ≡ Err why → read_text text ≡ stopped why
 stopped_of text s r h why q = subst (RowsOf text s) q h
 
 -- From the edition on, in a scratch that held nothing.
-module _ (text : Bytes) (e at : ℕ) (s : Step) (t : gave number text at_start s ≡ title (length text) (tokens text) at_start) (q : s ≡ Step.Read e at) (xs₀ : List ℕ) (h : Fresh xs₀) (xs names : List ℕ) (r : ℕ) (n : gave_in number text xs names r ≡ node_f 1009 (branch_names (tokens text)) (length text) Signal (from text (get_or (set xs₀ 2 at) 2 0)) (sofar_in text (set xs₀ 2 at) (replicate 4034 0))) where
-  node_is : gave_in number text xs names r ≡ node_f 1009 (branch_names (tokens text)) (length text) Signal (from text at) (sofar_in text (set xs₀ 2 at) (replicate 4034 0))
+module _ (text : Bytes) (v : Read ℕ) (s : Result (Read ℕ) Unread) (t : gave number text at_start s ≡ title (length text) (tokens text) at_start) (q : s ≡ Ok v) (xs₀ : List ℕ) (h : Fresh xs₀) (xs names : List ℕ) (r : ℕ) (n : gave_in number text xs names r ≡ node_f 1009 (branch_names (tokens text)) (length text) Signal (from text (get_or (set xs₀ 2 v.behind) 2 0)) (sofar_in text (set xs₀ 2 v.behind) (replicate 4034 0))) where
+  node_is : gave_in number text xs names r ≡ node_f 1009 (branch_names (tokens text)) (length text) Signal (from text v.behind) (sofar_in text (set xs₀ 2 v.behind) (replicate 4034 0))
   node_is =
-      n ∙ ap (λ (i : ℕ). node_f 1009 (branch_names (tokens text)) (length text) Signal (from text i) (sofar_in text (set xs₀ 2 at) (replicate 4034 0))) (at_noted text xs₀ at h)
+      n ∙ ap (λ (i : ℕ). node_f 1009 (branch_names (tokens text)) (length text) Signal (from text i) (sofar_in text (set xs₀ 2 v.behind) (replicate 4034 0))) (at_noted text xs₀ v.behind h)
 
   pub rows_stopped : {why : Unread} → r ≡ 0 → why ≡ why_in xs → read_text text ≡ stopped why
   rows_stopped f w =
-      stopped_node text e at (given_read text at_start s t e at q) xs names r (sofar_in text (set xs₀ 2 at) (replicate 4034 0)) node_is (fresh_so text xs₀ at h) f w
+      stopped_node text v.value v.behind (given_read text at_start s t v q) xs names r (sofar_in text (set xs₀ 2 v.behind) (replicate 4034 0)) node_is (fresh_so text xs₀ v.behind h) f w
 
-  pub rows_given : (s' : Step) → (r ≡ 0 → ⊥) → Ready xs names
-      → ((so : Sofar) → gave number text so s' ≡ ended e (from text (get_or xs 2 0)) so) → Below 256 s' → RowsOf text xs s'
+  pub rows_given : (s' : Result (Read ℕ) Unread) → (r ≡ 0 → ⊥) → Ready xs names
+      → ((so : Sofar) → gave number text so s' ≡ ended v.value (from text (get_or xs 2 0)) so) → Below 256 s' → RowsOf text xs s'
   rows_given s' f y k b =
-      rows_read text e at (given_read text at_start s t e at q) xs names r (sofar_in text (set xs₀ 2 at) (replicate 4034 0)) node_is (fresh_so text xs₀ at h) s' f y k b
+      rows_read text v.value v.behind (given_read text at_start s t v q) xs names r (sofar_in text (set xs₀ 2 v.behind) (replicate 4034 0)) node_is (fresh_so text xs₀ v.behind h) s' f y k b

@@ -1,12 +1,13 @@
 -- What the parts of the call have found: the rows of a text that is read, in the scratch; and its blocks, at a room's front.
 -- Assumes nothing: these are definitions.
-use Rattle.std.specs.Prelude.{ℕ, ◌≤◌, ◌<◌, ◌≡◌, List, length, get_or}
+use Rattle.std.specs.Prelude.{ℕ, ◌≤◌, ◌<◌, ◌≡◌, List, length, get_or, Result, Ok, Err}
 use Rattle.rules.specs.Bytes.{Bytes, write_at}
 use Rattle.texts.specs.Tokens.{Token}
 use Rattle.texts.specs.Rows.{Sofar, got, stopped}
 use Rattle.texts.specs.Reader.{read_text}
 use Rattle.texts.specs.Resolved.{blocks_of}
-use Rattle.phrases.specs.declared.Step.{Step}
+use Rattle.texts.specs.declared.Unread.{Unread}
+use Rattle.phrases.specs.declared.Read.{Read}
 use Rattle.sealing.specs.Scratch.{count_in, rows_in, starts_in}
 
 -- A scratch that holds nothing yet.
@@ -25,9 +26,9 @@ pub record Rowed (text : Bytes) (s : List ℕ) (e : ℕ) : Type 0 where
   pub few : count_in s ≤ 1008
   pub edition : e < 256
 
-abbrev pub RowsOf : Bytes → List ℕ → Step → Type 0
-RowsOf text s (Step.Read e at) = Rowed text s e
-RowsOf text s (Step.Stop why) = read_text text ≡ stopped why
+abbrev pub RowsOf : Bytes → List ℕ → Result (Read ℕ) Unread → Type 0
+RowsOf text s (Ok r) = Rowed text s r.value
+RowsOf text s (Err why) = read_text text ≡ stopped why
 
 -- A text that is read, and its blocks.
 pub record Built (text before after : Bytes) (n : ℕ) : Type 0 where
@@ -39,6 +40,6 @@ pub record Built (text before after : Bytes) (n : ℕ) : Type 0 where
   pub stands : after ≡ write_at before 0 (blocks_of edition so.rows)
   pub fits : n ≤ 12288
 
-abbrev pub BlocksOf : Bytes → Bytes → Bytes → Step → Type 0
-BlocksOf text before after (Step.Read n at) = Built text before after n
-BlocksOf text before after (Step.Stop why) = read_text text ≡ stopped why
+abbrev pub BlocksOf : Bytes → Bytes → Bytes → Result ℕ Unread → Type 0
+BlocksOf text before after (Ok n) = Built text before after n
+BlocksOf text before after (Err why) = read_text text ≡ stopped why

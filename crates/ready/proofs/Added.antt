@@ -1,6 +1,7 @@
 -- What a pass finds with one let more in the set: that let, if it is needed at once, or what it found without.
 -- With no let in the set it finds the lets that are not ready.
 -- Assumes nothing.
+use Rattle.std.specs.Prelude.{None}
 use mathlib.Core.Path.{◌≡◌, refl, ap, ◌∙◌, fun_ext}
 use mathlib.Core.Bool.{Bool, true, false}
 use Prim.Native.Nat.{ℕ}
@@ -10,7 +11,6 @@ use Rattle.rules.specs.Bytes.{◌or◌}
 use Rattle.rules.specs.Places.{sooner, wrong_if}
 use Rattle.rules.specs.Tree.{Expr, variable, constant, operation, negation, choice, just, taking, Signal, input, time, ext, delay, let_signal, switch, group, until, Branches, no_branch, branch}
 use Rattle.rules.specs.Ready.{needs_e, needs_s, needs_b, ready_s, ready_b, ready_c}
-use Rattle.rules.specs.declared.Place.TheVariants.{Nowhere}
 use Rattle.ready.specs.Found.{Lets, no_let, adding, found_e, found_s, found_b}
 use Rattle.ready.proofs.Smallest.{each, grouped, ahead, either_wrong, joined, joined_three}
 
@@ -65,7 +65,7 @@ mutual
   added_b n M no_branch = refl
   added_b n M (branch m t body next) = each (added_s n M body) (added_b n M next) ∙ joined (needs_s n body) (needs_b n next) n (found_s M body) (found_b M next)
 
-none_e : (e : Expr) → found_e no_let e ≡ Nowhere
+none_e : (e : Expr) → found_e no_let e ≡ None
 unfolding found_e no_let sooner wrong_if
 none_e (variable m b t) = refl
 none_e (constant m v) = refl

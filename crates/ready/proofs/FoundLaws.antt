@@ -1,10 +1,10 @@
 -- What a pass finds in an expression and a signal of each kind and in a list of branches.
 -- Assumes nothing.
+use Rattle.std.specs.Prelude.{None}
 use mathlib.Core.Path.{◌≡◌, ap}
 use Prim.Native.Nat.{ℕ}
 use Rattle.rules.specs.Bytes.{Bytes}
 use Rattle.rules.specs.Layout.{kind_at, a_at, b_at, c_at}
-use Rattle.rules.specs.declared.Place.TheVariants.{Nowhere}
 use Rattle.rules.specs.Kinds.{is_expression, is_signal, is_branch}
 use Rattle.rules.specs.Places.{sooner, wrong_if}
 use Rattle.rules.specs.Shaped.{NodeOf}
@@ -20,7 +20,7 @@ module _ (p : Bytes) (n : ℕ) (w : NodeOf is_expression p n) (M : Lets) where
   unfolding found_e
   variable_found e = ap (found_e M) (expr_variable p n e)
 
-  pub constant_found : kind_at p n ≡ 17 → found_e M (expr_at p n) ≡ Nowhere
+  pub constant_found : kind_at p n ≡ 17 → found_e M (expr_at p n) ≡ None
   unfolding found_e
   constant_found e = ap (found_e M) (expr_constant p n e)
 
@@ -47,11 +47,11 @@ module _ (p : Bytes) (n : ℕ) (w : NodeOf is_expression p n) (M : Lets) where
   operation_found o = ap (found_e M) (operation_tree p n w o)
 
 module _ (p : Bytes) (n : ℕ) (w : NodeOf is_signal p n) (M : Lets) where
-  pub input_found : kind_at p n ≡ 1 → found_s M (signal_at p n) ≡ Nowhere
+  pub input_found : kind_at p n ≡ 1 → found_s M (signal_at p n) ≡ None
   unfolding found_s
   input_found e = ap (found_s M) (signal_input p n e)
 
-  pub time_found : kind_at p n ≡ 2 → found_s M (signal_at p n) ≡ Nowhere
+  pub time_found : kind_at p n ≡ 2 → found_s M (signal_at p n) ≡ None
   unfolding found_s
   time_found e = ap (found_s M) (signal_time p n e)
 
@@ -81,7 +81,7 @@ module _ (p : Bytes) (n : ℕ) (w : NodeOf is_signal p n) (M : Lets) where
   until_found e = ap (found_s M) (until_tree p n w e)
 
 module _ (p : Bytes) (n : ℕ) (w : NodeOf is_branch p n) (M : Lets) where
-  pub branch_last_found : b_at p n ≡ 65535 → found_b M (branches_at p n) ≡ sooner (found_s M (signal_at p (a_at p n))) Nowhere
+  pub branch_last_found : b_at p n ≡ 65535 → found_b M (branches_at p n) ≡ sooner (found_s M (signal_at p (a_at p n))) None
   unfolding found_s
   branch_last_found e = ap (found_b M) (branch_end p n w e)
 

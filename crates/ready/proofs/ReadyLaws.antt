@@ -1,5 +1,6 @@
 -- The smallest let that is not ready, of a list of cases and of a program.
 -- Assumes nothing.
+use Rattle.std.specs.Prelude.{None}
 use mathlib.Core.Path.{◌≡◌, refl, ap, ◌∙◌, fun_ext}
 use Prim.Native.Nat.{ℕ, zero, suc, ◌-◌, ◌<◌}
 use native.Mathlib.Omega.{arith}
@@ -7,7 +8,6 @@ use lib.ListN.{get_or, replicate}
 use borrow.Author.Tests.{ne_eqb}
 use Rattle.rules.specs.Bytes.{Bytes}
 use Rattle.rules.specs.Layout.{nodes, a_at, b_at}
-use Rattle.rules.specs.declared.Place.TheVariants.{Nowhere}
 use Rattle.rules.specs.Kinds.{is_signal, is_case}
 use Rattle.rules.specs.Places.{sooner}
 use Rattle.rules.specs.Shaped.{NodeOf}
@@ -19,7 +19,7 @@ use Rattle.ready.specs.Regions.{marked_in, Entered}
 use Rattle.ready.proofs.Added.{none_s}
 
 module _ (p : Bytes) (n : ℕ) (w : NodeOf is_case p n) where
-  pub case_last_ready : b_at p n ≡ 65535 → ready_c (cases_at p n) ≡ sooner (ready_s (signal_at p (a_at p n))) Nowhere
+  pub case_last_ready : b_at p n ≡ 65535 → ready_c (cases_at p n) ≡ sooner (ready_s (signal_at p (a_at p n))) None
   unfolding ready_s
   case_last_ready e = ap ready_c (case_end p n w e)
 

@@ -1,5 +1,6 @@
 -- Laws of the smaller of two places.
 -- Assumes nothing.
+use Rattle.std.specs.Prelude.{Option, Some, None, ℕ}
 use mathlib.Core.Path.{◌≡◌, refl, sym, ap, ◌∙◌}
 use mathlib.Core.Bool.{Bool, true, false}
 use Prim.Native.Nat.{ℕ, min}
@@ -7,19 +8,17 @@ use native.Mathlib.Omega.{arith}
 use native.Mathlib.Nat.{min_comm, min-le_left, min-le_right, le-min, le_antisymm, min-eq_left}
 use Rattle.rules.specs.Bytes.{◌or◌}
 use Rattle.rules.specs.Places.{sooner, wrong_if}
-use Rattle.rules.specs.declared.Place.{Place}
-use Rattle.rules.specs.declared.Place.TheVariants.{At, Nowhere}
 
 -- Two pairs of equal places.
-pub each : {q r s t : Place} → q ≡ r → s ≡ t → sooner q s ≡ sooner r t
+pub each : {q r s t : Option ℕ} → q ≡ r → s ≡ t → sooner q s ≡ sooner r t
 each e f = rw (e, f) refl
 
-swapped : (q r : Place) → sooner q r ≡ sooner r q
+swapped : (q r : Option ℕ) → sooner q r ≡ sooner r q
 unfolding sooner
-swapped Nowhere Nowhere = refl
-swapped Nowhere (At n) = refl
-swapped (At m) Nowhere = refl
-swapped (At m) (At n) = ap At (min_comm m n)
+swapped None None = refl
+swapped None (Some n) = refl
+swapped (Some m) None = refl
+swapped (Some m) (Some n) = ap Some (min_comm m n)
 
 min_grouped : (a b c : ℕ) → min (min a b) c ≡ min a (min b c)
 min_grouped a b c =
@@ -27,26 +26,26 @@ min_grouped a b c =
     (le-min (omega (arith, min-le_left (min a b) c, min-le_left a b)) (le-min (omega (arith, min-le_left (min a b) c, min-le_right a b)) (min-le_right (min a b) c)))
     (le-min (le-min (min-le_left a (min b c)) (omega (arith, min-le_right a (min b c), min-le_left b c))) (omega (arith, min-le_right a (min b c), min-le_right b c)))
 
-pub grouped : (q r s : Place) → sooner (sooner q r) s ≡ sooner q (sooner r s)
+pub grouped : (q r s : Option ℕ) → sooner (sooner q r) s ≡ sooner q (sooner r s)
 unfolding sooner
-grouped Nowhere r s = refl
-grouped (At m) Nowhere s = refl
-grouped (At m) (At n) Nowhere = refl
-grouped (At m) (At n) (At o) = ap At (min_grouped m n o)
+grouped None r s = refl
+grouped (Some m) None s = refl
+grouped (Some m) (Some n) None = refl
+grouped (Some m) (Some n) (Some o) = ap Some (min_grouped m n o)
 
 -- The second of three, first.
-pub ahead : (q r s : Place) → sooner q (sooner r s) ≡ sooner r (sooner q s)
+pub ahead : (q r s : Option ℕ) → sooner q (sooner r s) ≡ sooner r (sooner q s)
 ahead q r s = sym (grouped q r s) ∙ each (swapped q r) refl ∙ grouped r q s
 
 -- A rule broken in one of two places.
 pub either_wrong : (s t : Bool) (n : ℕ) → wrong_if (s or t) n ≡ sooner (wrong_if s n) (wrong_if t n)
 unfolding wrong_if sooner ◌or◌
-either_wrong true true n = ap At (sym (min-eq_left (omega arith)))
+either_wrong true true n = ap Some (sym (min-eq_left (omega arith)))
 either_wrong true false n = refl
 either_wrong false t n = refl
 
 -- Two parts, each with its own place of n.
-pub joined : (s t : Bool) (n : ℕ) (x y : Place)
+pub joined : (s t : Bool) (n : ℕ) (x y : Option ℕ)
     → sooner (sooner (wrong_if s n) x) (sooner (wrong_if t n) y) ≡ sooner (wrong_if (s or t) n) (sooner x y)
 joined s t n x y =
     grouped (wrong_if s n) x (sooner (wrong_if t n) y)
@@ -60,7 +59,7 @@ or_grouped true t u = refl
 or_grouped false t u = refl
 
 -- Three parts.
-pub joined_three : (s t u : Bool) (n : ℕ) (x y z : Place)
+pub joined_three : (s t u : Bool) (n : ℕ) (x y z : Option ℕ)
     → sooner (sooner (wrong_if s n) x) (sooner (sooner (wrong_if t n) y) (sooner (wrong_if u n) z)) ≡ sooner (wrong_if (s or t or u) n) (sooner x (sooner y z))
 joined_three s t u n x y z =
     each refl (joined t u n y z)

@@ -15,7 +15,6 @@ ghost use Rattle.ready.specs.Found.{adding, found_e, found_s, found_b};
 ghost use Rattle.ready.specs.Regions.{marked_in, Entered};
 
 use places::{NOWHERE, place, sooner, wrong_if};
-use rules::Place;
 use table::{LAST, node};
 
 // The let x, if its definition is around in this region; by all marks as a slice, whose length is told in the proof.
@@ -163,7 +162,7 @@ fn pass_c(p: &&[u8], marks: &mut [u16; 1008], j: usize) -> u32
 }
 
 // The smallest let that is not ready, of a program whose root is a signal: above it no let is marked.
-pub fn ready_fault(p: &[u8], count: usize) -> Place
+pub fn ready_fault(p: &[u8], count: usize) -> Option<u32>
     requires { (count ≡ nodes p.now) × (0 < count) × NodeOf is_signal p.now (count - 1) }
     ensures { result ≡ ready_fault p.now }
 {

@@ -10,7 +10,6 @@ use lib.Dec.{eqb}
 use borrow.Author.Tests.{eqb-true, ne_eqb}
 use Rattle.rules.specs.Bytes.{Bytes, first, ◌and◌, ◌or◌}
 use Rattle.rules.specs.Layout.{kind_at, a_at, b_at, c_at, nodes}
-use Rattle.rules.specs.declared.Place.TheVariants.{Nowhere}
 use Rattle.rules.specs.Kinds.{row, is_signal, is_branch, is_case, fields_of}
 use Rattle.rules.specs.Format.{length_wrong}
 use Rattle.rules.specs.Shape.{is_child, shape_wrong}

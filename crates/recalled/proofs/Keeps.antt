@@ -18,12 +18,9 @@ use Rattle.rules.specs.Evaluate.{Env, bind, opened, eval_s}
 use Rattle.rules.specs.Update.{on_occurrence, on_event}
 use Rattle.rules.specs.declared.Value.{Value}
 use Rattle.rules.specs.declared.Tally.{Tally}
-use Rattle.rules.specs.declared.Opened.{Opened}
-use Rattle.rules.specs.declared.Opened.TheVariants.{Here, Gone, Amiss}
-use Rattle.rules.specs.declared.Evaluated.{Evaluated}
-use Rattle.rules.specs.declared.Evaluated.TheVariants.{Done, Stuck}
-use Rattle.rules.specs.declared.Occurrence.{Occurrence}
-use Rattle.rules.specs.declared.Occurrence.TheVariants.{Took, Quiet}
+use Rattle.rules.specs.Opened.{Opened, Here, Gone, Amiss}
+use Rattle.rules.specs.Evaluated.{Evaluated, Done, Stuck}
+use Rattle.rules.specs.Occurrence.{Occurrence, Took, Quiet}
 use Rattle.rules.proofs.Cells.{cell_other, time_stays, sum_stays, length_set_cell}
 use Rattle.current.specs.Current.{soonest, leaves, swapped, go_s, go_b, go_c}
 use Rattle.promises.specs.Small.{Small}

@@ -15,8 +15,7 @@ use Rattle.rules.specs.Bound.{bound_e, bound_s, bound_sb, bound_sc}
 use Rattle.rules.specs.Evaluate.{Env, bind, unbound, eval_s}
 use Rattle.rules.specs.Accepted.{Accepted}
 use Rattle.rules.specs.declared.Value.{Value}
-use Rattle.rules.specs.declared.Evaluated.{Evaluated}
-use Rattle.rules.specs.declared.Evaluated.TheVariants.{Done, Stuck}
+use Rattle.rules.specs.Evaluated.{Evaluated, Done, Stuck}
 use Rattle.rules.proofs.Bounds.{bound_e≤}
 use Rattle.rules.proofs.Within.{Within, eval_s_within}
 use Rattle.rules.proofs.Once.{tree_size}

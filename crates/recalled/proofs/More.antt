@@ -1,6 +1,6 @@
 -- An evaluation that gives a value gives the same with the same count in a state that agrees on the signal's cells, and where more variables are
 -- bound. Assumes nothing.
-use Rattle.std.specs.Prelude.{if◌then◌else◌}
+use Rattle.std.specs.Prelude.{if◌then◌else◌, Option, Some, None, ℕ}
 use mathlib.Core.Path.{◌≡◌, refl, sym, ap, ◌∙◌}
 use mathlib.Core.Logic.{◌≢◌, ◌⊎◌, inl, inr}
 use mathlib.Core.List.{List, [], ◌∷◌}
@@ -21,12 +21,8 @@ use Rattle.rules.specs.Size.{is_cell, times_s, times_b}
 use Rattle.rules.specs.Evaluate.{Env, bind, look, opened, operate, operated, negated, chosen, arm_of, lifted, taken, take_arm, eval_e, eval_s, eval_b}
 use Rattle.rules.specs.declared.Value.{Value}
 use Rattle.rules.specs.declared.Tally.{Tally}
-use Rattle.rules.specs.declared.Word.{Word}
-use Rattle.rules.specs.declared.Word.TheVariants.{Is, Not}
-use Rattle.rules.specs.declared.Opened.{Opened}
-use Rattle.rules.specs.declared.Opened.TheVariants.{Here, Gone, Amiss}
-use Rattle.rules.specs.declared.Evaluated.{Evaluated}
-use Rattle.rules.specs.declared.Evaluated.TheVariants.{Done, Stuck}
+use Rattle.rules.specs.Opened.{Opened, Here, Gone, Amiss}
+use Rattle.rules.specs.Evaluated.{Evaluated, Done, Stuck}
 use Rattle.promises.specs.Kept.{Agree}
 use Rattle.promises.proofs.Frames.{cell_itself, agree_part}
 
@@ -68,10 +64,10 @@ pub either_more : (b : Bool) {r q s z : Evaluated} → More r q → More s z →
 either_more true h g = h
 either_more false h g = g
 
-arm_more : (x : Word) {r q s z : Evaluated} → More r q → More s z → More (arm_of x r s) (arm_of x q z)
+arm_more : (x : Option ℕ) {r q s z : Evaluated} → More r q → More s z → More (arm_of x r s) (arm_of x q z)
 unfolding arm_of
-arm_more (Is w) h g = either_more (is_true w) h g
-arm_more Not h g = stuck
+arm_more (Some w) h g = either_more (is_true w) h g
+arm_more None h g = stuck
 
 chosen_more : {c d r q s z : Evaluated} → More c d → More r q → More s z → More (chosen c r s) (chosen d q z)
 unfolding chosen

@@ -17,10 +17,8 @@ use Rattle.rules.specs.Size.{is_cell, times_s, times_b}
 use Rattle.rules.specs.Evaluate.{Env, bind, opened, eval_s, eval_b}
 use Rattle.rules.specs.declared.Value.{Value}
 use Rattle.rules.specs.declared.Tally.{Tally}
-use Rattle.rules.specs.declared.Evaluated.{Evaluated}
-use Rattle.rules.specs.declared.Evaluated.TheVariants.{Done, Stuck}
-use Rattle.rules.specs.declared.Opened.{Opened}
-use Rattle.rules.specs.declared.Opened.TheVariants.{Here, Gone, Amiss}
+use Rattle.rules.specs.Evaluated.{Evaluated, Done, Stuck}
+use Rattle.rules.specs.Opened.{Opened, Here, Gone, Amiss}
 use Rattle.promises.specs.Kept.{Agree}
 use Rattle.promises.proofs.Frames.{cell_itself, agree_part}
 use Rattle.recalled.specs.Recall.{Memory, note, noted, past, past_if, fill_s, fill_b, fill_c, binds_s, binds_b, binds_c}

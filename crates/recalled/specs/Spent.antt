@@ -9,8 +9,7 @@ use Rattle.rules.specs.Tree.{Signal, input, time, ext, delay, let_signal, switch
 use Rattle.rules.specs.Evaluate.{Env, bind, eval_s}
 use Rattle.rules.specs.Bound.{bound_s, bound_sc}
 use Rattle.rules.specs.declared.Value.{Value}
-use Rattle.rules.specs.declared.Evaluated.{Evaluated}
-use Rattle.rules.specs.declared.Evaluated.TheVariants.{Done, Stuck}
+use Rattle.rules.specs.Evaluated.{Evaluated, Done, Stuck}
 use Rattle.recalled.specs.Recall.{Memory, fill_s, fill_c, recall_s, recall_c}
 
 unfoldable pub count_of : Evaluated → ℕ

@@ -6,10 +6,9 @@ ghost use Rattle.rules.specs.Bytes.{u64_at, ◌and◌, ◌or◌};
 ghost use Rattle.rules.specs.Layout.{header_length, input_length, time_in};
 ghost use Rattle.rules.specs.Calls.{absent_wrong, input_wrong, time_wrong, record_verdict, first_wrapped};
 
-use answers::{otherwise, refuse_if};
+use answers::refuse_if;
 use cells::{last_time, u64_at};
-use kinds::{both, either};
-use rules::{NO_STEP, Refusal, Tally, Verdict};
+use rules::{NO_STEP, Refusal, Tally};
 use table::u32_at;
 
 // The time of a record.
@@ -25,11 +24,7 @@ fn absent_wrong(rec: &[u8], c: usize, power: u8) -> bool
     requires { (input_length ≤ length rec.now) × (c < 4) × (0 < power) × (power ≡ 2 ^ c) }
     ensures { result ≡ absent_wrong rec.now c }
 {
-    let word = u32_at(rec, 24 + 4 * c);
-    if word == 0 {
-        return false;
-    }
-    rec[20] / power % 2 == 0
+    u32_at(rec, 24 + 4 * c) != 0 && rec[20] / power % 2 == 0
 }
 
 // The words of the channels 4-7 are all zero.
@@ -37,10 +32,10 @@ fn no_events(rec: &[u8]) -> bool
     requires { input_length ≤ length rec.now }
     ensures { result ≡ (eqb (u64_at rec.now 24) 0 and eqb (u64_at rec.now 32) 0) }
 {
-    both(u64_at(rec, 24) == 0, u64_at(rec, 32) == 0)
+    (u64_at(rec, 24) == 0) & (u64_at(rec, 32) == 0)
 }
 
-// An absent word of the channels 4-7 is not zero: none where all words are zero, as in most records; else asked one after the other.
+// An absent word of the channels 4-7 is not zero: none where all words are zero, as in most records.
 fn events_wrong(rec: &[u8]) -> bool
     requires { input_length ≤ length rec.now }
     ensures { result ≡ (absent_wrong rec.now 0 or absent_wrong rec.now 1 or absent_wrong rec.now 2 or absent_wrong rec.now 3) }
@@ -48,16 +43,10 @@ fn events_wrong(rec: &[u8]) -> bool
     if no_events(rec) {
         return false;
     }
-    if absent_wrong(rec, 0, 1) {
-        return true;
-    }
-    if absent_wrong(rec, 1, 2) {
-        return true;
-    }
-    if absent_wrong(rec, 2, 4) {
-        return true;
-    }
-    absent_wrong(rec, 3, 8)
+    absent_wrong(rec, 0, 1)
+        | absent_wrong(rec, 1, 2)
+        | absent_wrong(rec, 2, 4)
+        | absent_wrong(rec, 3, 8)
 }
 
 // Code 12: high bits of the flags or zero bytes set, an absent word not zero, or the time too large. (The flags and the zero bytes are one number.)
@@ -67,7 +56,7 @@ pub fn input_wrong(rec: &[u8]) -> bool
 {
     let flags = 15 < u32_at(rec, 20);
     let late = 2147483647 < time_of(rec);
-    either(either(flags, events_wrong(rec)), late)
+    flags | events_wrong(rec) | late
 }
 
 // Code 13: the time is before the state's time, if it has one.
@@ -76,30 +65,25 @@ pub fn time_wrong(st: &[u8], rec: &[u8]) -> bool
     ensures { result ≡ time_wrong st.now rec.now }
 {
     let last = last_time(st);
-    if last <= time_of(rec) {
-        return false;
-    }
-    last != 4294967295
+    time_of(rec) < last && last != 4294967295
 }
 
 // The verdict on one record, after so many steps: 12, then 13.
-pub fn record_verdict(st: &[u8], rec: &[u8], done: u32) -> Verdict
+pub fn record_verdict(st: &[u8], rec: &[u8], done: u32) -> Result<(), Refusal>
     requires { (header_length ≤ length st.now) × (input_length ≤ length rec.now) }
     ensures { result ≡ record_verdict done st.now rec.now }
 {
-    let input = refuse_if(input_wrong(rec), Refusal::InputFault(done));
-    let time = refuse_if(time_wrong(st, rec), Refusal::TimeBack(done));
-    otherwise(input, time)
+    refuse_if(input_wrong(rec), Refusal::InputFault(done))?;
+    refuse_if(time_wrong(st, rec), Refusal::TimeBack(done))
 }
 
 // The first step in which a number wrapped, after one more step that counted so much.
 pub fn first_wrapped(mark: u32, done: u32, w: Tally) -> u32
     ensures { result ≡ first_wrapped mark done w }
 {
-    if w.wrapped {
-        if mark == NO_STEP {
-            return done;
-        }
+    if w.wrapped && mark == NO_STEP {
+        done
+    } else {
+        mark
     }
-    mark
 }

@@ -1,5 +1,8 @@
 -- The two calls refuse as the paragraph names it; and any two calls that keep the promise are one.
 -- Assumes nothing.
+use Rattle.rules.proofs.Same.{same_accepted}
+use Rattle.rules.specs.Verdicts.{Verdict, accepted_with}
+use Rattle.std.specs.Prelude.{Result, Ok, Err}
 use mathlib.Core.Path.{◌≡◌, refl, sym, ap, subst, ◌∙◌}
 use Prim.Native.Nat.{ℕ, ◌≤◌, ◌<◌}
 use native.Mathlib.Omega.{arith}
@@ -9,10 +12,6 @@ use Rattle.rules.specs.Bytes.{Bytes, write_at}
 use Rattle.rules.specs.Layout.{nodes}
 use Rattle.rules.specs.Calls.{program_verdict, check_answer, check_call}
 use Rattle.rules.specs.declared.Refusal.{Refusal}
-use Rattle.rules.specs.declared.Verdict.{Verdict}
-use Rattle.rules.specs.declared.Verdict.TheVariants.{Fine, Refuse}
-use Rattle.rules.specs.declared.Checked.{Checked}
-use Rattle.rules.specs.declared.Checked.TheVariants.{Accepted}
 use Rattle.rules.proofs.Verdicts.{accepted}
 use Rattle.promises.specs.Small.{Small}
 use Rattle.texts.specs.Rows.{Got, got, stopped}
@@ -20,36 +19,34 @@ use Rattle.texts.specs.Resolved.{blocks_of}
 use Rattle.texts.specs.Reader.{read_text}
 use Rattle.texts.specs.Printer.{print_text}
 use Rattle.texts.specs.Calls.{ReadOutcome, PrintOutcome, read_checked, read_fitted, read_outcome, read_call, print_fitted, print_outcome, print_call}
-use Rattle.texts.specs.declared.TextRead.{TextRead}
-use Rattle.texts.specs.declared.TextRead.TheVariants.{Table}
-use Rattle.texts.specs.declared.TextPrinted.{TextPrinted}
-use Rattle.texts.specs.declared.TextPrinted.TheVariants.{Text}
+use Rattle.texts.specs.declared.NoTable.{NoTable}
+use Rattle.texts.specs.declared.NoText.{NoText}
 use Rattle.retold.specs.Asked.{ReadAsAsked, PrintAsAsked, AlwaysFits, Reading, Printing}
 use Rattle.retold.proofs.There.{text_most}
 
 -- What check answers is its verdict.
-refused_verdict : (p : Bytes) (r : Refusal) → check_call p ≡ Checked.Refused r → program_verdict p ≡ Refuse r
+refused_verdict : (p : Bytes) (r : Refusal) → check_call p ≡ Err r → program_verdict p ≡ Err r
 unfolding check_call check_answer
 refused_verdict p r e = go (program_verdict p) e
   where
-    go : (v : Verdict) → check_answer p v ≡ Checked.Refused r → v ≡ Refuse r
-    go Fine e = cc
-    go (Refuse q) e = cc
+    go : (v : Verdict) → check_answer p v ≡ Err r → v ≡ Err r
+    go (Ok _) e = cc
+    go (Err q) e = cc
 
-fine_verdict : (p : Bytes) (n c b t : ℕ) → check_call p ≡ Accepted n c b t → (program_verdict p ≡ Fine) × (nodes p ≡ n)
+fine_verdict : (p : Bytes) (n c b t : ℕ) → check_call p ≡ accepted_with n c b t → (program_verdict p ≡ Ok tt) × (nodes p ≡ n)
 unfolding check_call check_answer
 fine_verdict p n c b t e = go (program_verdict p) e
   where
-    go : (v : Verdict) → check_answer p v ≡ Accepted n c b t → (v ≡ Fine) × (nodes p ≡ n)
-    go Fine e = (refl, cc)
-    go (Refuse q) e = (cc, cc)
+    go : (v : Verdict) → check_answer p v ≡ accepted_with n c b t → (v ≡ Ok tt) × (nodes p ≡ n)
+    go (Ok _) e = (refl, (same_accepted e).0)
+    go (Err q) e = (cc, cc)
 
 -- The steps of reading.
 outcome : (text room : Bytes) (r : Got ℕ) → read_text text ≡ r → read_call text room ≡ read_outcome r room
 unfolding read_call
 outcome text room r e = ap (λ (x : Got ℕ). read_outcome x room) e
 
-short : (q room : Bytes) → length room < length q → read_fitted q room ≡ record { answer = TextRead.RoomShort; room = room }
+short : (q room : Bytes) → length room < length q → read_fitted q room ≡ record { answer = Err NoTable.RoomShort; room = room }
 unfolding read_fitted
 short q room l = rw (lt-ltb (length room) (length q) l, read_fitted) refl
 
@@ -69,15 +66,15 @@ read_as_asked text room = record {
       let q = blocks_of e so.rows in
       let f = fine_verdict q n c b t a in
       outcome text room (got e rest so) is ∙ long q room l ∙ ap (λ (v : Verdict). read_checked v q room) f.0
-      ∙ ap (λ (k : ℕ). record { answer = Table k (length q); room = write_at room 0 q }) f.1;
+      ∙ ap (λ (k : ℕ). record { answer = Ok (record { nodes = k; bytes = length q }); room = write_at room 0 q }) f.1;
 }
 
 -- The steps of printing.
-print_short : (text room : Bytes) → length room < length text → print_fitted text room ≡ record { answer = TextPrinted.RoomShort; room = room }
+print_short : (text room : Bytes) → length room < length text → print_fitted text room ≡ record { answer = Err NoText.RoomShort; room = room }
 unfolding print_fitted
 print_short text room l = rw (lt-ltb (length room) (length text) l, print_fitted) refl
 
-print_long : (text room : Bytes) → length text ≤ length room → print_fitted text room ≡ record { answer = Text (length text); room = write_at room 0 text }
+print_long : (text room : Bytes) → length text ≤ length room → print_fitted text room ≡ record { answer = Ok (length text); room = write_at room 0 text }
 unfolding print_fitted
 print_long text room l = rw (le-ltb (length room) (length text) l, print_fitted) refl
 
@@ -97,17 +94,17 @@ pub one_printing : {f g : Bytes → Bytes → PrintOutcome} → Printing f → P
 one_printing a b p room = a.as_ruled p room ∙ sym (b.as_ruled p room)
 
 -- A room that always fits.
-abbrev IsShort : TextPrinted → Type 0
-IsShort (Text n) = ⊥
-IsShort (TextPrinted.Refused r) = ⊥
-IsShort TextPrinted.RoomShort = Unit {0}
+abbrev IsShort : Result ℕ NoText → Type 0
+IsShort (Ok n) = ⊥
+IsShort (Err (NoText.Refused r)) = ⊥
+IsShort (Err NoText.RoomShort) = Unit {0}
 
 pub always_fits : (p room : Bytes) → Small p → AlwaysFits p room
 unfolding print_call print_outcome
 always_fits p room small l e = go (program_verdict p) refl
   where
     go : (v : Verdict) → program_verdict p ≡ v → ⊥
-    go (Refuse r) z = subst IsShort (sym e ∙ ap (λ (x : Verdict). (print_outcome x p room).answer) z) tt
-    go Fine z =
+    go (Err r) z = subst IsShort (sym e ∙ ap (λ (x : Verdict). (print_outcome x p room).answer) z) tt
+    go (Ok _) z =
         let m = text_most p small (accepted p z) in
         subst IsShort (sym e ∙ ap (λ (x : Verdict). (print_outcome x p room).answer) z ∙ ap (λ (o : PrintOutcome). o.answer) (print_long (print_text p) room (omega (arith, m, l)))) tt

@@ -1,5 +1,7 @@
 -- A text that is read gives blocks that pass codes 1-5; so only 6, 7 and 8 can follow.
 -- Assumes nothing.
+use Rattle.rules.specs.Verdicts.{Verdict}
+use Rattle.std.specs.Prelude.{Result, Ok, Err, Option, Some, None}
 use mathlib.Core.Path.{◌≡◌, sym, ap, subst, ◌∙◌}
 use mathlib.Core.List.{List}
 use Prim.Native.Nat.{ℕ, ◌≤◌}
@@ -16,10 +18,6 @@ use Rattle.rules.specs.Answers.{code_of}
 use Rattle.rules.specs.Accepted.{Formed}
 use Rattle.rules.specs.Calls.{◌otherwise◌, refuse_if, refuse_at, program_verdict}
 use Rattle.rules.specs.declared.Refusal.TheVariants.{ScopeFault, TypeFault, NotReady}
-use Rattle.rules.specs.declared.Verdict.{Verdict}
-use Rattle.rules.specs.declared.Verdict.TheVariants.{Fine, Refuse}
-use Rattle.rules.specs.declared.Place.{Place}
-use Rattle.rules.specs.declared.Place.TheVariants.{At, Nowhere}
 use Rattle.written.specs.Parts.{size_p}
 use Rattle.written.specs.Table.{blocks_for, table_of}
 use Rattle.written.proofs.Tabled.{length_is, nodes_is, table_formed, table_shaped}
@@ -30,8 +28,9 @@ use Rattle.texts.specs.Reader.{read_text}
 use Rattle.texts.specs.Calls.{unread_answer, read_checked, read_fitted, read_outcome, read_call}
 use Rattle.texts.specs.declared.Unread.{Unread}
 use Rattle.texts.specs.declared.Unread.TheVariants.{Word, Name, Range}
-use Rattle.texts.specs.declared.TextRead.{TextRead}
-use Rattle.texts.specs.declared.TextRead.TheVariants.{Table, BadWord, BadName, BadNumber}
+use Rattle.written.specs.declared.TableSize.{TableSize}
+use Rattle.texts.specs.declared.NoTable.{NoTable}
+use Rattle.texts.specs.declared.NoTable.TheVariants.{BadWord, BadName, BadNumber}
 use Rattle.texts.proofs.Decimals.{by_test}
 use Rattle.texts.proofs.Yields.{Yields, yields, halts}
 use Rattle.texts.proofs.TextRight.{Readable, text_yields}
@@ -46,7 +45,7 @@ made text e rest so r =
     let all : nodes q ≡ size_p r.whole = nodes_is e r.whole r.right r.few in
     record {
       formed = subst Formed (sym is) (table_formed e r.whole r.right r.few r.edition_known);
-      shaped = subst (λ (b : Bytes). first (shape_wrong b) (nodes b) ≡ Nowhere) (sym is) (table_shaped e r.whole r.right r.few r.signal);
+      shaped = subst (λ (b : Bytes). first (shape_wrong b) (nodes b) ≡ None) (sym is) (table_shaped e r.whole r.right r.few r.signal);
       count = ap nodes is ∙ all ∙ sym r.rows;
       long = subst (λ (b : Bytes). length b ≤ 12288) (sym is) (let l = length_is e r.whole r.right r.few in let m = r.few in omega arith);
     }
@@ -62,34 +61,34 @@ well_made text e rest so z = made text e rest so (yielded (text_yields text) e r
 
 -- What the check says of it.
 abbrev Later : Verdict → Type 0
-Later Fine = Unit {0}
-Later (Refuse r) = (6 ≤ code_of r) × (code_of r ≤ 8)
+Later (Ok _) = Unit {0}
+Later (Err r) = (6 ≤ code_of r) × (code_of r ≤ 8)
 
-later : (x y z : Place) → Later (refuse_at ScopeFault x otherwise refuse_at TypeFault y otherwise refuse_at NotReady z)
+later : (x y z : Option ℕ) → Later (refuse_at ScopeFault x otherwise refuse_at TypeFault y otherwise refuse_at NotReady z)
 unfolding refuse_at ◌otherwise◌
-later (At n) y z = (omega arith, omega arith)
-later Nowhere (At n) z = (omega arith, omega arith)
-later Nowhere Nowhere (At n) = (omega arith, omega arith)
-later Nowhere Nowhere Nowhere = tt
+later (Some n) y z = (omega arith, omega arith)
+later None (Some n) z = (omega arith, omega arith)
+later None None (Some n) = (omega arith, omega arith)
+later None None None = tt
 
-verdict_later : (q : Bytes) → Formed q → first (shape_wrong q) (nodes q) ≡ Nowhere → Later (program_verdict q)
+verdict_later : (q : Bytes) → Formed q → first (shape_wrong q) (nodes q) ≡ None → Later (program_verdict q)
 unfolding program_verdict refuse_if refuse_at ◌otherwise◌
 verdict_later q f s =
     rw (f.length_right, f.sums_right, f.numbers_right, f.records_right, s) (later (scope_fault q) (type_fault q) (ready_fault q))
 
 -- At the call.
-abbrev Rightly : TextRead → Type 0
-Rightly (Table count size) = Unit {0}
-Rightly (BadWord at) = Unit {0}
-Rightly (BadName at) = Unit {0}
-Rightly (BadNumber at) = Unit {0}
-Rightly TextRead.RoomShort = Unit {0}
-Rightly (TextRead.Refused r) = (6 ≤ code_of r) × (code_of r ≤ 8)
+abbrev Rightly : Result TableSize NoTable → Type 0
+Rightly (Ok size) = Unit {0}
+Rightly (Err (BadWord at)) = Unit {0}
+Rightly (Err (BadName at)) = Unit {0}
+Rightly (Err (BadNumber at)) = Unit {0}
+Rightly (Err NoTable.RoomShort) = Unit {0}
+Rightly (Err (NoTable.Refused r)) = (6 ≤ code_of r) × (code_of r ≤ 8)
 
 checked_rightly : (v : Verdict) (q room : Bytes) → Later v → Rightly (read_checked v q room).answer
 unfolding read_checked
-checked_rightly Fine q room l = tt
-checked_rightly (Refuse r) q room l = l
+checked_rightly (Ok _) q room l = tt
+checked_rightly (Err r) q room l = l
 
 fitted_rightly : (q room : Bytes) → Later (program_verdict q) → Rightly (read_fitted q room).answer
 unfolding read_fitted

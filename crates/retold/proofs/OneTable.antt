@@ -1,5 +1,6 @@
 -- A program of right format is known by its edition and its records: two that have the same are the same bytes.
 -- Assumes nothing.
+use Rattle.std.specs.Prelude.{Option, Some, None, ℕ}
 use mathlib.Core.Path.{◌≡◌, refl, sym, ap, subst, ◌∙◌}
 use mathlib.Core.List.{[], ◌∷◌}
 use Prim.Native.Nat.{ℕ, zero, suc, ◌+◌, ◌-◌, ◌*◌, ◌/◌, ◌%◌, ◌<◌, ◌≤◌}
@@ -10,8 +11,6 @@ use lib.ListN.{length}
 use borrow.Author.Tests.{eqb-true}
 use Rattle.rules.specs.Bytes.{Bytes, byte_at, u16_at, u32_at, first}
 use Rattle.rules.specs.Layout.{blocks, block_at, number_in, count_in, edition_in, edition, check_in, records, record_at, kind_at, type_at, a_at, b_at, c_at, word_at, nodes, place_or}
-use Rattle.rules.specs.declared.Place.{Place}
-use Rattle.rules.specs.declared.Place.TheVariants.{At, Nowhere}
 use Rattle.declarative.specs.Formats.{Formatted, sum_from}
 use Rattle.texts.proofs.Yields.{first_passes}
 
@@ -55,9 +54,9 @@ after_nodes : (p : Bytes) → nodes p < records p → kind_at p (nodes p) ≡ 0
 unfolding nodes place_or
 after_nodes p l = go (first (λ r. eqb (kind_at p r) 0) (records p)) refl l
   where
-    go : (x : Place) → first (λ r. eqb (kind_at p r) 0) (records p) ≡ x → place_or x (records p) < records p → kind_at p (place_or x (records p)) ≡ 0
-    go (At k) e l = eqb-true _ 0 (first_passes (λ r. eqb (kind_at p r) 0) (records p) k e).0
-    go Nowhere e l = absurd (omega arith)
+    go : (x : Option ℕ) → first (λ r. eqb (kind_at p r) 0) (records p) ≡ x → place_or x (records p) < records p → kind_at p (place_or x (records p)) ≡ 0
+    go (Some k) e l = eqb-true _ 0 (first_passes (λ r. eqb (kind_at p r) 0) (records p) k e).0
+    go None e l = absurd (omega arith)
 
 -- Records of two programs that are the same.
 pub record Same (p q : Bytes) (r : ℕ) : Type 0 where

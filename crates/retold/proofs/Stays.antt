@@ -1,5 +1,6 @@
 -- A program that is numbered so already comes back byte for byte.
 -- Assumes nothing.
+use Rattle.std.specs.Prelude.{Ok}
 use mathlib.Core.Path.{◌≡◌, refl, sym, ap, subst, ◌∙◌}
 use mathlib.Core.List.{List}
 use Prim.Native.Nat.{ℕ, zero, suc, ◌+◌, ◌-◌, ◌<◌, ◌≤◌}
@@ -27,8 +28,6 @@ use Rattle.rewritten.specs.Rewritten as R
 use Rattle.rewritten.proofs.Renumbered.{renumbered_accepted, renumbered_small}
 use Rattle.texts.specs.Numbering.{renumbered}
 use Rattle.texts.specs.Calls.{read_call, print_call}
-use Rattle.texts.specs.declared.TextRead.TheVariants.{Table}
-use Rattle.texts.specs.declared.TextPrinted.TheVariants.{Text}
 use Rattle.retold.specs.Retold.{text_in, program_in}
 use Rattle.retold.specs.Stays.{up_from, NumberedSo}
 use Rattle.retold.proofs.OneTable.{Same, one_table}
@@ -130,7 +129,7 @@ module _ (p : Bytes) (small : Small p) (a : Accepted p) (so : NumberedSo p) wher
       (λ r l. part_same (part_s s (new_number s)) p q 0 own new r (omega arith) (omega (arith, size))))
 
 -- At the calls: printed and read, it is there again.
-pub comes_back : (p room₁ room₂ : Bytes) (n count size : ℕ) → Small p → NumberedSo p → (print_call p room₁).answer ≡ Text n → (read_call (text_in p room₁ n) room₂).answer ≡ Table count size
+pub comes_back : (p room₁ room₂ : Bytes) (n count size : ℕ) → Small p → NumberedSo p → (print_call p room₁).answer ≡ Ok n → (read_call (text_in p room₁ n) room₂).answer ≡ Ok (record { nodes = count; bytes = size })
     → program_in (text_in p room₁ n) room₂ size ≡ p
 comes_back p room₁ room₂ n count size small so is again =
     (retold p small).same_program room₁ room₂ n count size is again ∙ stays p small (printing p room₁ n is).accepts so

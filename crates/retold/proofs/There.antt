@@ -1,5 +1,6 @@
 -- An accepted program printed is read as itself, numbered children first; and printed again it is the same text.
 -- Assumes nothing.
+use Rattle.std.specs.Prelude.{Ok, None}
 use mathlib.Core.Path.{◌≡◌, refl, sym, ap, ◌∙◌}
 use mathlib.Core.Bool.{true, false}
 use mathlib.Core.List.{[]}
@@ -15,7 +16,6 @@ use Rattle.rules.specs.Shape.{is_child, may_be}
 use Rattle.rules.specs.Tree.{Signal, root}
 use Rattle.rules.specs.Scope.{scope_s, scope_fault, unmarked, is_offered}
 use Rattle.rules.specs.Accepted.{Accepted}
-use Rattle.rules.specs.declared.Place.TheVariants.{Nowhere}
 use Rattle.rules.specs.declared.Field.{Field}
 use Rattle.rules.proofs.Static.{and_both, not_both}
 use Rattle.rules.proofs.Verdicts.{fine_verdict}
@@ -37,7 +37,6 @@ use Rattle.texts.specs.Numbering.{renumbered}
 use Rattle.texts.specs.Printer.{printed, print_text, longest_text}
 use Rattle.texts.specs.Reader.{read_text}
 use Rattle.texts.specs.Calls.{read_checked, read_fitted, read_outcome, read_call}
-use Rattle.texts.specs.declared.TextRead.TheVariants.{Table}
 use Rattle.texts.proofs.Laid.{Opens, Laid}
 use Rattle.texts.proofs.Gives.{Gives, gives}
 use Rattle.texts.proofs.NodeLaws.{first_rows}
@@ -109,7 +108,7 @@ module _ (p : Bytes) (small : Small p) (a : Accepted p) where
   aimed : (m : ℕ) → targets m ≡ true → (m < suc n) × (eqb (kind_at q m) 9 ≡ true)
   aimed m e = let b = and_both (ltb m (suc n)) (eqb (kind_at q m) 9) e in (ltb-true m (suc n) b.0, b.1)
 
-  in_scope : scope_s e₀ (unmarked most_nodes) [] (placed_s s (cells_before q) (new_number s) 0) ≡ Nowhere
+  in_scope : scope_s e₀ (unmarked most_nodes) [] (placed_s s (cells_before q) (new_number s) 0) ≡ None
   unfolding scope_fault renamed
   in_scope =
       ap (scope_s e₀ (unmarked most_nodes) []) (sym (sound_root (type_at p) s sound e₀))
@@ -148,7 +147,7 @@ module _ (p : Bytes) (small : Small p) (a : Accepted p) where
   text_read room = outcome_is q room n reads blocks
 
   pub text_fits : (room : Bytes) → length (renumbered p) ≤ length room
-      → read_call (print_text p) room ≡ record { answer = Table (nodes (renumbered p)) (length (renumbered p)); room = write_at room 0 (renumbered p) }
+      → read_call (print_text p) room ≡ record { answer = Ok (record { nodes = nodes (renumbered p); bytes = length (renumbered p) }); room = write_at room 0 (renumbered p) }
   unfolding read_fitted read_checked renumbered
   text_fits room l = text_read room ∙ rw (le-ltb (length room) (length q) l, fine_verdict q is_accepted, read_fitted, read_checked) refl
 

@@ -1,6 +1,7 @@
 -- Request m: an accepted program tidied is accepted, is what the rule leaves, answers alike, has no more nodes and no larger bound; and its own
 -- pairing has no wrong entry (request n).
 -- Assumes nothing.
+use Rattle.std.specs.Prelude.{None}
 use mathlib.Core.Path.{◌≡◌, refl, sym, ap, ◌∙◌}
 use mathlib.Core.List.{List, [], ◌∷◌}
 use Prim.Native.Nat.{ℕ, zero, suc, ◌<◌, ◌≤◌}
@@ -13,7 +14,6 @@ use Rattle.rules.specs.Size.{size_s}
 use Rattle.rules.specs.Bound.{bound}
 use Rattle.rules.specs.Accepted.{Accepted}
 use Rattle.rules.specs.Tree.{root}
-use Rattle.rules.specs.declared.Place.TheVariants.{Nowhere}
 use Rattle.rules.proofs.Static.{not_both}
 use Rattle.promises.specs.Small.{Small}
 use Rattle.dropped.specs.Less.{LessS}
@@ -115,7 +115,7 @@ module _ (p : Bytes) (small : Small p) (a : Accepted p) where
   unfolding tidied tidying
   tidied_entries = order_s_length (tidy_s (root p)) ∙ sym (sound_nodes (type_at p) (tidy_s (root p)) tidied_sound (edition p))
 
-  pub tidied_paired : pairing_fault p (tidied p) (tidying p) ≡ Nowhere
+  pub tidied_paired : pairing_fault p (tidied p) (tidying p) ≡ None
   tidied_paired = (paired_exactly p (tidied p) (tidying p) a tidied_accepted).if₀ tidied_rule
 
   -- The same for a renumbered program: nothing is dropped.
@@ -129,5 +129,5 @@ module _ (p : Bytes) (small : Small p) (a : Accepted p) where
         (λ i h. old_entry (order_s (root p)) i (omega (arith, order_s_length (root p))));
   }
 
-  pub renumbered_paired : pairing_fault p (renumbered p) (numbering p) ≡ Nowhere
+  pub renumbered_paired : pairing_fault p (renumbered p) (numbering p) ≡ None
   renumbered_paired = (paired_exactly p (renumbered p) (numbering p) a (renumbered_accepted p small a)).if₀ renumbered_rule

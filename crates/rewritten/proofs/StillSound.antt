@@ -1,6 +1,6 @@
 -- A sound tree without its unused lets is sound.
 -- Assumes nothing.
-use Rattle.std.specs.Prelude.{if◌then◌else◌}
+use Rattle.std.specs.Prelude.{if◌then◌else◌, None}
 use mathlib.Core.Path.{◌≡◌, refl, sym, ap, ◌∙◌, subst}
 use mathlib.Core.List.{List, [], ◌∷◌, ◌++◌}
 use mathlib.Core.Bool.{Bool, true, false}
@@ -13,7 +13,6 @@ use borrow.Author.Tests.{eqb-true, eq-eqb}
 use Rattle.rules.specs.Bytes.{◌or◌}
 use Rattle.rules.specs.Tree.{Expr, variable, constant, operation, negation, choice, just, taking, Signal, input, time, ext, delay, let_signal, switch, group, until, Branches, no_branch, branch, Cases, no_case, case}
 use Rattle.rules.specs.Scope.{Marks, mark, is_marked, Offers, has_branch, is_offered, onward, scope_e, scope_s, scope_b, scope_c}
-use Rattle.rules.specs.declared.Place.TheVariants.{Nowhere}
 use Rattle.rules.proofs.Static.{both, holds, not_both, or_left, or_right}
 use Rattle.promises.proofs.SoundE.{mark_other}
 use Rattle.dropped.specs.Uses.{uses_e, uses_s, uses_b, uses_c}
@@ -188,7 +187,7 @@ module _ (P : ℕ → Type 0) where
       go (inl i) = h x (has_in brs x i)
       go (inr i) = handed ed Δ o x i
 
-  each_e : (e : Expr) (Γ : Marks) → scope_e Γ e ≡ Nowhere → All (order_e e) → Marked Γ (λ x. uses_e x e) → EachE P e
+  each_e : (e : Expr) (Γ : Marks) → scope_e Γ e ≡ None → All (order_e e) → Marked Γ (λ x. uses_e x e) → EachE P e
   unfolding scope_e order_e uses_e
   each_e (variable n b t) Γ s h g = g b (eq-eqb b b refl) (holds _ n s)
   each_e (constant n v) Γ s h g = tt
@@ -224,7 +223,7 @@ module _ (P : ℕ → Type 0) where
   mutual
     unfolding scope_s order_s uses_s tidy_s
 
-    pub tidy_each : (s : Signal) (ed : ℕ) (Γ : Marks) (Δ : Offers) → scope_s ed Γ Δ s ≡ Nowhere → Offered Δ → Goal Γ (tidy_s s)
+    pub tidy_each : (s : Signal) (ed : ℕ) (Γ : Marks) (Δ : Offers) → scope_s ed Γ Δ s ≡ None → Offered Δ → Goal Γ (tidy_s s)
     tidy_each (input n c) ed Γ Δ s o h g = tt
     tidy_each (time n) ed Γ Δ s o h g = tt
     tidy_each (ext n e) ed Γ Δ s o h g = each_e e Γ s (l1 (order_e e) n h) g
@@ -263,7 +262,7 @@ module _ (P : ℕ → Type 0) where
           tidy_each_c cs ed Γ Δ z.1 o (r2 (order_s (tidy_s x)) (order_c (tidy_c cs)) a) (λ v u. g v (or_right _ _ u)),
         )
 
-    pub tidy_each_b : (s : Branches) (ed : ℕ) (Γ : Marks) (Δ : Offers) → scope_b ed Γ Δ s ≡ Nowhere → Offered Δ → All (order_b (tidy_b s)) → Marked Γ (λ x. uses_b x (tidy_b s)) → EachB (tidy_b s) P
+    pub tidy_each_b : (s : Branches) (ed : ℕ) (Γ : Marks) (Δ : Offers) → scope_b ed Γ Δ s ≡ None → Offered Δ → All (order_b (tidy_b s)) → Marked Γ (λ x. uses_b x (tidy_b s)) → EachB (tidy_b s) P
     tidy_each_b no_branch ed Γ Δ s o h g = tt
     tidy_each_b (branch n t x brs) ed Γ Δ s o h g =
         let z = both _ _ s in
@@ -273,7 +272,7 @@ module _ (P : ℕ → Type 0) where
           tidy_each_b brs ed Γ Δ z.1 o (r2 (order_s (tidy_s x)) (order_b (tidy_b brs)) a) (λ v u. g v (or_right _ _ u)),
         )
 
-    pub tidy_each_c : (s : Cases) (ed : ℕ) (Γ : Marks) (Δ : Offers) → scope_c ed Γ Δ s ≡ Nowhere → Offered Δ → All (order_c (tidy_c s)) → Marked Γ (λ x. uses_c x (tidy_c s)) → EachC (tidy_c s) P
+    pub tidy_each_c : (s : Cases) (ed : ℕ) (Γ : Marks) (Δ : Offers) → scope_c ed Γ Δ s ≡ None → Offered Δ → All (order_c (tidy_c s)) → Marked Γ (λ x. uses_c x (tidy_c s)) → EachC (tidy_c s) P
     tidy_each_c no_case ed Γ Δ s o h g = tt
     tidy_each_c (case n x target t cs) ed Γ Δ s o h g =
         let z = both _ _ s in

@@ -1,5 +1,6 @@
 -- A sound tree that is in scope, typed and ready, written: accepted, and paired with the tree by the order in which it was written.
 -- Assumes nothing.
+use Rattle.std.specs.Prelude.{None}
 use mathlib.Core.Path.{◌≡◌, refl, sym, ap, ◌∙◌, subst}
 use mathlib.Core.List.{[]}
 use Prim.Native.Nat.{ℕ, zero, suc, ◌+◌, ◌-◌, ◌<◌, ◌≤◌}
@@ -13,7 +14,6 @@ use Rattle.rules.specs.Ready.{ready_s, ready_fault}
 use Rattle.rules.specs.Size.{size_s}
 use Rattle.rules.specs.Accepted.{Formed, Accepted}
 use Rattle.rules.specs.Tree.{Signal, root}
-use Rattle.rules.specs.declared.Place.TheVariants.{Nowhere}
 use Rattle.dropped.specs.Less.{LessS}
 use Rattle.dropped.specs.Apart.{WithinS, UnusedS}
 use Rattle.dropped.specs.Rule.{NamedS}
@@ -67,7 +67,7 @@ module _ (τ : ℕ → ℕ) (s : Signal) (sound : Sound τ s) where
         entry_once (order_s s) (λ x. omega (arith, once x, order_sum (is x) s)) i j (omega (arith, order_s_length s)) (omega (arith, order_s_length s)) e
 
     -- Accepted, in either edition.
-    pub written_accepted : (e₀ : ℕ) → e₀ ≤ 1 → scope_s e₀ (unmarked most_nodes) [] s ≡ Nowhere → types_s s ≡ Nowhere → ready_s s ≡ Nowhere
+    pub written_accepted : (e₀ : ℕ) → e₀ ≤ 1 → scope_s e₀ (unmarked most_nodes) [] s ≡ None → types_s s ≡ None → ready_s s ≡ None
         → Accepted (written e₀ s)
     unfolding scope_fault type_fault ready_fault unmarked is_offered
     written_accepted e₀ l sc ty re = record {

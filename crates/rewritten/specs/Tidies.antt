@@ -1,12 +1,11 @@
 -- What request m asks of a tidied program, sentence by sentence, beside the old program and the pairing in which it was numbered.
 -- Assumes nothing: these are definitions.
-use Rattle.std.specs.Prelude.{◌≡◌, List, ℕ, ◌≤◌, length}
+use Rattle.std.specs.Prelude.{◌≡◌, List, ℕ, ◌≤◌, length, None}
 use Rattle.rules.specs.Bytes.{Bytes}
 use Rattle.rules.specs.Layout.{nodes, edition}
 use Rattle.rules.specs.Bound.{bound}
 use Rattle.rules.specs.Accepted.{Accepted}
 use Rattle.rules.specs.Tree.{Signal, root}
-use Rattle.rules.specs.declared.Place.TheVariants.{Nowhere}
 use Rattle.dropped.specs.Rule.{DropsS, Tidy, NamedS}
 use Rattle.dropped.specs.Pairing.{old_of, pairing_fault}
 use Rattle.dropped.specs.Answers.{AnswersAlike}
@@ -23,4 +22,4 @@ pub record Tidies (p q : Bytes) (pairing : List ℕ) : Type 0 where
   pub no_larger : (nodes q ≤ nodes p) × (bound q ≤ bound p)
   -- (n) "m)'s own work, paired as it renumbered, is accepted."
   pub entries : length pairing ≡ nodes q
-  pub paired : pairing_fault p q pairing ≡ Nowhere
+  pub paired : pairing_fault p q pairing ≡ None

@@ -1,5 +1,7 @@
 -- A run is its walk, written into the room that it is lent. So its answer, its state and what it writes do not depend on what the room held.
 -- Assumes nothing.
+use Rattle.std.specs.Prelude.{Ok, Err}
+use Rattle.rules.specs.Verdicts.{Verdict, finished_with, refused_after}
 use mathlib.Core.Path.{◌≡◌, refl, sym, ap, ◌∙◌}
 use mathlib.Core.List.{[], ◌∷◌, ◌++◌, append-nil}
 use Prim.Native.Nat.{ℕ, zero, suc, ◌+◌, ◌*◌, ◌<◌, ◌≤◌}
@@ -14,70 +16,67 @@ use Rattle.rules.specs.declared.Value.{Value}
 use Rattle.rules.specs.declared.Tally.{Tally}
 use Rattle.rules.specs.declared.Refusal.{Refusal}
 use Rattle.rules.specs.declared.Refusal.TheVariants.{StateFault}
-use Rattle.rules.specs.declared.Verdict.{Verdict}
-use Rattle.rules.specs.declared.Verdict.TheVariants.{Fine, Refuse}
-use Rattle.rules.specs.declared.Ran.{Ran}
-use Rattle.rules.specs.declared.Ran.TheVariants.{Finished}
+use Rattle.rules.proofs.Same.{same_finished}
 use Rattle.rooms.specs.Walk.{Walk, showing, walk, in_room}
 
 module _ (p recs : Bytes) (left done work mark : ℕ) (st : Bytes) where
   -- A step that is made, and the rest.
-  pub walk_next : {v : Value} {st₁ : Bytes} {w : Tally} → record_verdict done st (input_at recs done) ≡ Fine
+  pub walk_next : {v : Value} {st₁ : Bytes} {w : Tally} → record_verdict done st (input_at recs done) ≡ Ok tt
       → step_of p (input_at recs done) st ≡ Made v st₁ w
       → walk p recs (suc left) done work mark st ≡ showing v (walk p recs left (suc done) (work + w.work) (first_wrapped mark done w) st₁)
   unfolding walk
   walk_next e f = rw (e, walk, f)
 
   -- A record that is refused.
-  pub walk_stops : {r : Refusal} → record_verdict done st (input_at recs done) ≡ Refuse r
-      → walk p recs (suc left) done work mark st ≡ record { answer = Ran.Refused r work mark; state = st; written = [] }
+  pub walk_stops : {r : Refusal} → record_verdict done st (input_at recs done) ≡ Err r
+      → walk p recs (suc left) done work mark st ≡ record { answer = refused_after r work mark; state = st; written = [] }
   unfolding walk
   walk_stops e = rw (e, walk)
 
   -- A step that is not made.
-  pub walk_stuck : record_verdict done st (input_at recs done) ≡ Fine → step_of p (input_at recs done) st ≡ NotMade
-      → walk p recs (suc left) done work mark st ≡ record { answer = Ran.Refused StateFault work mark; state = st; written = [] }
+  pub walk_stuck : record_verdict done st (input_at recs done) ≡ Ok tt → step_of p (input_at recs done) st ≡ NotMade
+      → walk p recs (suc left) done work mark st ≡ record { answer = refused_after StateFault work mark; state = st; written = [] }
   unfolding walk
   walk_stuck e f = rw (e, walk, f)
 
   -- No record left.
-  pub walk_ends : walk p recs zero done work mark st ≡ record { answer = Finished done work mark; state = st; written = [] }
+  pub walk_ends : walk p recs zero done work mark st ≡ record { answer = finished_with done work mark; state = st; written = [] }
   unfolding walk
   walk_ends = refl
 
   -- The same of a run.
-  run_next : (out : Bytes) {v : Value} {st₁ : Bytes} {w : Tally} → record_verdict done st (input_at recs done) ≡ Fine
+  run_next : (out : Bytes) {v : Value} {st₁ : Bytes} {w : Tally} → record_verdict done st (input_at recs done) ≡ Ok tt
       → step_of p (input_at recs done) st ≡ Made v st₁ w
       → run_from p recs (suc left) done work mark st out
       ≡ run_from p recs left (suc done) (work + w.work) (first_wrapped mark done w) st₁ (write_at out (8 * done) (value_bytes v))
   unfolding run_from
   run_next out e f = rw (e, run_from, f)
 
-  run_stops : (out : Bytes) {r : Refusal} → record_verdict done st (input_at recs done) ≡ Refuse r
-      → run_from p recs (suc left) done work mark st out ≡ record { answer = Ran.Refused r work mark; state = st; output = out }
+  run_stops : (out : Bytes) {r : Refusal} → record_verdict done st (input_at recs done) ≡ Err r
+      → run_from p recs (suc left) done work mark st out ≡ record { answer = refused_after r work mark; state = st; output = out }
   unfolding run_from
   run_stops out e = rw (e, run_from)
 
-  run_stuck : (out : Bytes) → record_verdict done st (input_at recs done) ≡ Fine → step_of p (input_at recs done) st ≡ NotMade
-      → run_from p recs (suc left) done work mark st out ≡ record { answer = Ran.Refused StateFault work mark; state = st; output = out }
+  run_stuck : (out : Bytes) → record_verdict done st (input_at recs done) ≡ Ok tt → step_of p (input_at recs done) st ≡ NotMade
+      → run_from p recs (suc left) done work mark st out ≡ record { answer = refused_after StateFault work mark; state = st; output = out }
   unfolding run_from
   run_stuck out e f = rw (e, run_from, f)
 
   -- How a proof about a run's next record goes: it is refused, or its step is made, or (never, in an accepted program) not.
-  pub by_record : {A : Type 0} → ((r : Refusal) → record_verdict done st (input_at recs done) ≡ Refuse r → A)
-      → (record_verdict done st (input_at recs done) ≡ Fine → step_of p (input_at recs done) st ≡ NotMade → A)
-      → ((v : Value) (st₁ : Bytes) (w : Tally) → record_verdict done st (input_at recs done) ≡ Fine
+  pub by_record : {A : Type 0} → ((r : Refusal) → record_verdict done st (input_at recs done) ≡ Err r → A)
+      → (record_verdict done st (input_at recs done) ≡ Ok tt → step_of p (input_at recs done) st ≡ NotMade → A)
+      → ((v : Value) (st₁ : Bytes) (w : Tally) → record_verdict done st (input_at recs done) ≡ Ok tt
       → step_of p (input_at recs done) st ≡ Made v st₁ w → A)
       → A
   by_record {A} never stuck made-it = go (record_verdict done st (input_at recs done)) refl
     where
-      made : record_verdict done st (input_at recs done) ≡ Fine → (s : Stepped) → step_of p (input_at recs done) st ≡ s → A
+      made : record_verdict done st (input_at recs done) ≡ Ok tt → (s : Stepped) → step_of p (input_at recs done) st ≡ s → A
       made e (Made v st₁ w) f = made-it v st₁ w e f
       made e NotMade f = stuck e f
 
       go : (v : Verdict) → record_verdict done st (input_at recs done) ≡ v → A
-      go (Refuse r) e = never r e
-      go Fine e = made e (step_of p (input_at recs done) st) refl
+      go (Err r) e = never r e
+      go (Ok _) e = made e (step_of p (input_at recs done) st) refl
 
 -- Two records that a run cannot tell apart: refused alike after so many steps, and with the same step.
 pub record SameRecord (p : Bytes) (done : ℕ) (rec₁ rec₂ : Bytes) : Type 0 where
@@ -141,7 +140,7 @@ run_walk (suc left) p recs done work mark st out =
     ∙ sym (ap (in_room done out) (walk_next p recs left done work mark st e f)))
 
 -- No refused run is finished.
-pub not_finished : {r : Refusal} {a b c d e : ℕ} → Ran.Refused r a b ≡ Finished c d e → ⊥
+pub not_finished : {r : Refusal} {a b c d e : ℕ} → refused_after r a b ≡ finished_with c d e → ⊥
 not_finished f = let z : ◌≡◌ {A = ℕ} 0 1 = cc in omega arith
 
 -- A walk that is finished has made a step for each record, and written 8 bytes for each.
@@ -155,9 +154,9 @@ whole_next left done steps v r h =
     record { counted = omega (arith, h.counted); long = length-append (value_bytes v) r.written ∙ omega (arith, eight v, h.long) }
 
 pub whole : (left : ℕ) (p recs : Bytes) (done work mark : ℕ) (st : Bytes) (steps total first : ℕ)
-    → (walk p recs left done work mark st).answer ≡ Finished steps total first → Whole left done (walk p recs left done work mark st) steps
+    → (walk p recs left done work mark st).answer ≡ finished_with steps total first → Whole left done (walk p recs left done work mark st) steps
 unfolding walk showing
-whole zero p recs done work mark st steps total first e = record { counted = (let z : done ≡ steps = cc in omega arith); long = omega arith }
+whole zero p recs done work mark st steps total first e = record { counted = omega (arith, (same_finished e).0); long = omega arith }
 whole (suc left) p recs done work mark st steps total first e =
     by_record p recs left done work mark st
     (λ r f. absurd (not_finished (ap (λ (x : Walk). x.answer) (sym (walk_stops p recs left done work mark st f)) ∙ e)))

@@ -1,10 +1,9 @@
 -- A branch found by its number in a group's list: it is a node of the table, and its body is what evaluation and update go on with. So code
 -- that knows the number needs no walk over the list.
 -- Assumes nothing.
-use Rattle.std.specs.Prelude.{if◌then◌else◌}
 use mathlib.Core.Path.{◌≡◌, refl, sym, ap, ◌∙◌, subst}
 use mathlib.Core.Bool.{Bool, true, false}
-use Prim.Native.Nat.{ℕ, zero, suc, ◌≤◌, ◌<◌, max}
+use Prim.Native.Nat.{ℕ, zero, suc, ◌≤◌, ◌<◌}
 use native.Mathlib.Omega.{arith}
 use native.Mathlib.Nat.{not-suc-le-zero, le_refl}
 use lib.Dec.{eqb}
@@ -13,7 +12,7 @@ use Rattle.rules.specs.Bytes.{Bytes, ◌or◌}
 use Rattle.rules.specs.Layout.{a_at, b_at}
 use Rattle.rules.specs.Kinds.{is_branch}
 use Rattle.rules.specs.Tree.{Branches, no_branch, branch, signal_at, branches_at}
-use Rattle.rules.specs.Work.{Updated, Halted}
+use Rattle.rules.specs.Work.{Halted}
 use Rattle.rules.specs.Scope.{has_branch}
 use Rattle.rules.specs.Evaluate.{Env, bind, eval_s, eval_b}
 use Rattle.rules.specs.Update.{upd_s, upd_b}
@@ -21,7 +20,7 @@ use Rattle.rules.specs.Bound.{bound_s, bound_sb, bound_u, bound_ub}
 use Rattle.rules.specs.Size.{size_s, size_b}
 use Rattle.rules.specs.Shaped.{NodeOf}
 use Rattle.rules.specs.declared.Value.{Value}
-use Rattle.rules.specs.declared.Evaluated.TheVariants.{Stuck}
+use Rattle.rules.specs.Evaluated.{Stuck}
 use Rattle.rules.proofs.Static.{not_both}
 use Rattle.rules.proofs.Kids.{or_none}
 use Rattle.rules.proofs.Signals.{branch_next, branch_law, branch_end, branch_on}

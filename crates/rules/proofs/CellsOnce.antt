@@ -1,6 +1,6 @@
 -- Each cell of a program whose shape is right stands in the root's tree exactly once, and no other number stands there as a cell.
 -- Assumes nothing.
-use Rattle.std.specs.Prelude.{if◌then◌else◌}
+use Rattle.std.specs.Prelude.{if◌then◌else◌, None}
 use mathlib.Core.Path.{◌≡◌, refl, sym, ap, ◌∙◌}
 use mathlib.Core.Bool.{Bool, true, false}
 use Prim.Native.Nat.{ℕ, zero, suc, ◌+◌, ◌≤◌, ◌<◌}
@@ -9,7 +9,6 @@ use lib.Dec.{eqb, ltb}
 use borrow.Author.Tests.{lt-ltb, le-ltb, eq-eqb, ne_eqb, ltb-true, ltb-false}
 use Rattle.rules.specs.Bytes.{Bytes, first, how_many}
 use Rattle.rules.specs.Layout.{kind_at, nodes, has_cell, cells_before, cells}
-use Rattle.rules.specs.declared.Place.TheVariants.{Nowhere}
 use Rattle.rules.specs.Format.{length_wrong}
 use Rattle.rules.specs.Shape.{shape_wrong}
 use Rattle.rules.specs.Tree.{root}
@@ -43,7 +42,7 @@ taken test k (suc n) = ap (λ (x : ℕ). x + (if test n then one (eqb (how_many 
         let d : one (ltb k c) + 0 ≡ one (ltb k c) = omega arith in
         d ∙ ap (λ (x : ℕ). one (ltb k x)) e
 
-module _ (p : Bytes) (l : length_wrong p ≡ false) (e : first (shape_wrong p) (nodes p) ≡ Nowhere) (h : 0 < nodes p) where
+module _ (p : Bytes) (l : length_wrong p ≡ false) (e : first (shape_wrong p) (nodes p) ≡ None) (h : 0 < nodes p) where
   -- Each cell of the state stands in the root's tree once, and no other does.
   pub cells_stand : (k : ℕ) → times_s k (root p) ≡ one (ltb k (cells p))
   unfolding is_cell own_as cells_before cells

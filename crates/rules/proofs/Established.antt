@@ -1,33 +1,30 @@
 -- What codes 1 and 5 establish: a shaped program, whose root is a signal.
 -- Assumes nothing.
-use Rattle.std.specs.Prelude.{if◌then◌else◌}
+use Rattle.std.specs.Prelude.{Option, Some, None}
 use mathlib.Core.Path.{◌≡◌, refl, sym, ap, ◌∙◌}
-use mathlib.Core.Bool.{Bool, true, false, not}
-use Prim.Native.Nat.{ℕ, zero, suc, ◌+◌, ◌-◌, ◌*◌, ◌/◌, ◌%◌, ◌<◌, ◌≤◌}
+use mathlib.Core.Bool.{Bool, true, false}
+use Prim.Native.Nat.{ℕ, zero, suc, ◌+◌, ◌-◌, ◌<◌, ◌≤◌}
 use native.Mathlib.Omega.{arith}
-use native.Mathlib.Nat.{not-suc-le-zero}
-use lib.Dec.{eqb, ltb}
+use lib.Dec.{eqb}
 use lib.ListN.{length}
 use borrow.Author.Tests.{eqb-true, eqb-false, ltb-false, eq-eqb}
-use Rattle.rules.specs.Bytes.{Bytes, ◌or◌, first_from, first}
+use Rattle.rules.specs.Bytes.{Bytes, first_from, first}
 use Rattle.rules.specs.Layout.{nodes, records, blocks, place_or, kind_at}
 use Rattle.rules.specs.Format.{length_wrong}
 use Rattle.rules.specs.Kinds.{is_signal}
-use Rattle.rules.specs.Shape.{children_wrong, shape_wrong, named}
-use Rattle.rules.specs.declared.Place.{Place}
-use Rattle.rules.specs.declared.Place.TheVariants.{At, Nowhere}
+use Rattle.rules.specs.Shape.{shape_wrong}
 use Rattle.rules.specs.Shaped.{Shaped, NodeOf}
 use Rattle.rules.proofs.Kids.{or_none, not_not}
 
 -- no place: the test fails at every one
 nowhere_step : (test : ℕ → Bool) (left k n : ℕ) (b d : Bool) → test k ≡ b → eqb k n ≡ d
-    → elim b [ true ↦ At k | false ↦ first_from test (suc k) left ] ≡ Nowhere
-    → (first_from test (suc k) left ≡ Nowhere → (k ≡ n → ⊥) → test n ≡ false) → test n ≡ false
+    → ◌≡◌ {A = Option ℕ} (elim b [ true ↦ Some k | false ↦ first_from test (suc k) left ]) None
+    → (first_from test (suc k) left ≡ None → (k ≡ n → ⊥) → test n ≡ false) → test n ≡ false
 nowhere_step test left k n true d q r f more = absurd (let z : ◌≡◌ {A = ℕ} 0 1 = cc in omega arith)
 nowhere_step test left k n false true q r f more = ap test (sym (eqb-true k n r)) ∙ q
 nowhere_step test left k n false false q r f more = more f (eqb-false k n r)
 
-pub nowhere_from : (test : ℕ → Bool) (left k n : ℕ) → first_from test k left ≡ Nowhere → k ≤ n → n < k + left → test n ≡ false
+pub nowhere_from : (test : ℕ → Bool) (left k n : ℕ) → first_from test k left ≡ None → k ≤ n → n < k + left → test n ≡ false
 unfolding first_from
 nowhere_from test zero k n e l h = absurd (omega arith)
 nowhere_from test (suc left) k n e l h =
@@ -36,12 +33,12 @@ nowhere_from test (suc left) k n e l h =
 
 -- a first place is below the count
 at_step : (test : ℕ → Bool) (left k count : ℕ) (b : Bool) → k ≤ count → place_or (first_from test (suc k) left) count ≤ count
-    → place_or (elim b [ true ↦ At k | false ↦ first_from test (suc k) left ]) count ≤ count
+    → place_or (elim b [ true ↦ Some k | false ↦ first_from test (suc k) left ]) count ≤ count
 unfolding place_or
 at_step test left k count true l h = l
 at_step test left k count false l h = h
 
-none_most : (count : ℕ) → place_or Nowhere count ≤ count
+none_most : (count : ℕ) → place_or None count ≤ count
 unfolding place_or
 none_most count = omega arith
 
@@ -58,7 +55,7 @@ pub most_nodes : (p : Bytes) → length p ≤ 12288 → nodes p ≤ 1008
 unfolding records blocks
 most_nodes p h = omega (arith, nodes_within p)
 
-pub shaped : (p : Bytes) → length_wrong p ≡ false → first (shape_wrong p) (nodes p) ≡ Nowhere → Shaped p
+pub shaped : (p : Bytes) → length_wrong p ≡ false → first (shape_wrong p) (nodes p) ≡ None → Shaped p
 unfolding length_wrong first shape_wrong
 shaped p l e =
     let o = or_none _ _ l in
@@ -72,7 +69,7 @@ shaped p l e =
     }
 
 -- the root of such a program
-pub root_signal : (p : Bytes) → length_wrong p ≡ false → first (shape_wrong p) (nodes p) ≡ Nowhere → 0 < nodes p → NodeOf is_signal p (nodes p - 1)
+pub root_signal : (p : Bytes) → length_wrong p ≡ false → first (shape_wrong p) (nodes p) ≡ None → 0 < nodes p → NodeOf is_signal p (nodes p - 1)
 unfolding first shape_wrong
 root_signal p l e h =
     let f = (or_none _ _ (nowhere_from (shape_wrong p) (nodes p) 0 (nodes p - 1) e (omega arith) (omega arith))).1 in

@@ -10,11 +10,11 @@ use Rattle.rules.specs.Bytes.{Bytes, ◌and◌}
 use Rattle.rules.specs.Layout.{kind_at, type_at, a_at, b_at, c_at}
 use Rattle.rules.specs.declared.Field.TheVariants.{Expression}
 use Rattle.rules.specs.Kinds.{row, is_expression, fields_of}
-use Rattle.rules.specs.Shaped.{Shaped, NodeOf}
+use Rattle.rules.specs.Shaped.{NodeOf}
 use Rattle.rules.specs.Tree.{operation, negation, choice, just, taking, expr_at}
 use Rattle.rules.proofs.Static.{and_both}
 use Rattle.rules.proofs.Nodes.{expr_negation, expr_choice, expr_operation, expr_just, expr_taking}
-use Rattle.rules.proofs.Kids.{Child, Kid, kids}
+use Rattle.rules.proofs.Kids.{Child, kids}
 
 module _ (p : Bytes) (n : ℕ) (w : NodeOf is_expression p n) where
   pub negation_kid : kind_at p n ≡ 24 → Child is_expression p n (a_at p n)

@@ -1,17 +1,16 @@
 -- The children of a node of a shaped program: smaller, and of the sort that the field asks for. One law for all kinds.
 -- Assumes nothing.
-use mathlib.Core.Path.{◌≡◌, refl, sym, ap, ◌∙◌, subst}
-use mathlib.Core.Logic.{◌≢◌}
+use mathlib.Core.Path.{◌≡◌, refl, sym, subst}
 use mathlib.Core.Bool.{Bool, true, false, not}
-use Prim.Native.Nat.{ℕ, ◌≤◌, ◌<◌}
+use Prim.Native.Nat.{ℕ, ◌<◌}
 use native.Mathlib.Omega.{arith}
-use lib.Dec.{eqb, ltb}
-use borrow.Author.Tests.{ltb-true, leb-true, le-leb, lt-leb, eq-eqb, ne_eqb}
+use lib.Dec.{ltb}
+use borrow.Author.Tests.{ltb-true, ne_eqb}
 use Rattle.rules.specs.Bytes.{Bytes, ◌and◌, ◌or◌}
-use Rattle.rules.specs.Layout.{nodes, records, kind_at, a_at, b_at, c_at}
+use Rattle.rules.specs.Layout.{nodes, kind_at, a_at, b_at, c_at}
 use Rattle.rules.specs.declared.Field.{Field}
 use Rattle.rules.specs.declared.Field.TheVariants.{Unused, Channel, PresentByte, Signal, Expression, FirstBranch, NextBranch, FirstCase, NextCase, Binder, Target}
-use Rattle.rules.specs.Kinds.{row, is_signal, is_expression, is_branch, is_case, fields_of}
+use Rattle.rules.specs.Kinds.{is_signal, is_expression, is_branch, is_case, fields_of}
 use Rattle.rules.specs.Shape.{is_child, may_be, may_stop, child_wrong, children_wrong}
 use Rattle.rules.proofs.Static.{and_both, not_both}
 use Rattle.rules.specs.Shaped.{Shaped, NodeOf}

@@ -9,6 +9,7 @@ pub mod Established
 pub mod Expressions
 pub mod Signals
 pub mod Verdicts
+pub mod Same
 pub mod Within
 pub mod Cells
 pub mod Bounds

@@ -1,7 +1,7 @@
 -- In a program whose shape is right each node stands in the root's tree exactly once: what is weighed over the tree is what is weighed over
 -- the table. So the tree has as many nodes as the table, and the bound is at most N(N + 1).
 -- Assumes nothing.
-use Rattle.std.specs.Prelude.{if◌then◌else◌}
+use Rattle.std.specs.Prelude.{if◌then◌else◌, None}
 use mathlib.Core.Path.{◌≡◌, refl, sym, ap, subst, ◌∙◌}
 use mathlib.Core.Bool.{Bool, true, false}
 use Prim.Native.Nat.{ℕ, zero, suc, ◌+◌, ◌-◌, ◌*◌, ◌≤◌, ◌<◌}
@@ -12,7 +12,6 @@ use Rattle.rules.specs.Bytes.{Bytes, first, ◌and◌}
 use Rattle.rules.specs.Layout.{kind_at, a_at, b_at, c_at, nodes, has_cell, cells_before}
 use Rattle.rules.specs.declared.Field.{Field}
 use Rattle.rules.specs.declared.Field.TheVariants.{Unused, Channel, PresentByte, Signal, Expression, FirstBranch, NextBranch, FirstCase, NextCase, Binder, Target}
-use Rattle.rules.specs.declared.Place.TheVariants.{Nowhere}
 use Rattle.rules.specs.Kinds.{fields_of}
 use Rattle.rules.specs.Format.{length_wrong}
 use Rattle.rules.specs.Shape.{is_child, names, names_in, named_below, named, shape_wrong}
@@ -89,7 +88,7 @@ unfolding total named_below
 named_total p k zero = refl
 named_total p k (suc n) = ap (λ (x : ℕ). x + names_in p k n) (named_total p k n)
 
-module _ (p : Bytes) (l : length_wrong p ≡ false) (e : first (shape_wrong p) (nodes p) ≡ Nowhere) (h : 0 < nodes p) where
+module _ (p : Bytes) (l : length_wrong p ≡ false) (e : first (shape_wrong p) (nodes p) ≡ None) (h : 0 < nodes p) where
   named_once : (k : ℕ) → suc k < nodes p → named_below p k (nodes p) ≡ 1
   unfolding first shape_wrong named
   named_once k g =

@@ -1,5 +1,6 @@
 -- What code 4 establishes of a node: its type, its word and its channel are as the table of kinds says.
 -- Assumes nothing.
+use Rattle.std.specs.Prelude.{Some}
 use mathlib.Core.Path.{◌≡◌, refl, sym, ap, ◌∙◌}
 use mathlib.Core.Bool.{Bool, true, false}
 use Prim.Native.Nat.{ℕ, zero, suc, ◌+◌, ◌≤◌, ◌<◌}
@@ -13,14 +14,13 @@ use Rattle.rules.specs.Format.{field_wrong, type_field_wrong, node_wrong, record
 use Rattle.rules.specs.Kinds.{row, fields_of}
 use Rattle.rules.specs.Accepted.{Formed}
 use Rattle.rules.specs.declared.TypeField.TheVariants.{PlainType, ValueType}
-use Rattle.rules.specs.declared.Place.TheVariants.{At}
 use Rattle.rules.proofs.Static.{and_both}
 use Rattle.rules.proofs.Kids.{or_none, not_not}
 use Rattle.rules.proofs.Established.{nowhere_from, nodes_within}
 
 -- Before the first place where a test holds it fails.
 before_step : (test : ℕ → Bool) (left k n count : ℕ) (b d : Bool) → test k ≡ b → eqb k n ≡ d → k ≤ n
-    → n < place_or (elim b [ true ↦ At k | false ↦ first_from test (suc k) left ]) count
+    → n < place_or (elim b [ true ↦ Some k | false ↦ first_from test (suc k) left ]) count
     → (n < place_or (first_from test (suc k) left) count → (k ≡ n → ⊥) → test n ≡ false) → test n ≡ false
 unfolding place_or
 before_step test left k n count true d q r l h more = absurd (omega arith)

@@ -1,6 +1,6 @@
 -- What codes 1-5 establish together: an accepted program has a node, is shaped, and its root is a signal.
 -- Assumes nothing.
-use Rattle.std.specs.Prelude.{if◌then◌else◌}
+use Rattle.std.specs.Prelude.{if◌then◌else◌, Some}
 use mathlib.Core.Path.{◌≡◌, refl, sym}
 use mathlib.Core.Bool.{Bool, true, false, not}
 use Prim.Native.Nat.{ℕ, zero, suc, ◌-◌, ◌%◌, ◌<◌}
@@ -14,7 +14,6 @@ use Rattle.rules.specs.Format.{length_wrong, record_wrong, may_end, is_zero, aft
 use Rattle.rules.specs.Kinds.{is_signal}
 use Rattle.rules.specs.Shaped.{Shaped, NodeOf}
 use Rattle.rules.specs.Accepted.{Formed, Accepted}
-use Rattle.rules.specs.declared.Place.TheVariants.{At, Nowhere}
 use Rattle.rules.proofs.Static.{and_both, not_both}
 use Rattle.rules.proofs.Kids.{or_none, not_not}
 use Rattle.rules.proofs.Established.{shaped, root_signal, nowhere_from}
@@ -39,7 +38,7 @@ kind_0 p e = go (eqb (kind_at p 0) 0) e
 
 -- A first place from k on is not before k.
 after_step : (test : ℕ → Bool) (left k count : ℕ) (b : Bool) → 0 < k → 0 < place_or (first_from test (suc k) left) count
-    → 0 < place_or (elim b [ true ↦ At k | false ↦ first_from test (suc k) left ]) count
+    → 0 < place_or (elim b [ true ↦ Some k | false ↦ first_from test (suc k) left ]) count
 unfolding place_or
 after_step test left k count true l h = l
 after_step test left k count false l h = h
@@ -55,7 +54,7 @@ unfolding first first_from
 after_0 test zero h e = absurd (omega arith)
 after_0 test (suc m) h e = go (test 0) e
   where
-    go : (b : Bool) → b ≡ false → 0 < place_or (elim b [ true ↦ At 0 | false ↦ first_from test 1 m ]) (suc m)
+    go : (b : Bool) → b ≡ false → 0 < place_or (elim b [ true ↦ Some 0 | false ↦ first_from test 1 m ]) (suc m)
     go true q = absurd (not_both (sym q))
     go false q = after_start test m 1 (suc m) (omega arith) h
 

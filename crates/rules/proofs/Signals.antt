@@ -1,19 +1,18 @@
 -- A signal of each kind, a branch and a case in a shaped program: children, and the tree over theirs.
 -- Assumes nothing.
 use mathlib.Core.Path.{◌≡◌, ◌∙◌}
-use mathlib.Core.Bool.{Bool, true}
 use Prim.Native.Nat.{ℕ, suc, ◌≤◌, ◌<◌}
 use native.Mathlib.Omega.{arith}
 use borrow.Author.Tests.{leb-true, eqb-true}
 use Rattle.rules.specs.Bytes.{Bytes}
 use Rattle.rules.specs.Layout.{kind_at, type_at, a_at, b_at, c_at, cells_before}
 use Rattle.rules.specs.Kinds.{row, is_expression, is_signal, is_branch, is_case, fields_of}
-use Rattle.rules.specs.Shaped.{Shaped, NodeOf}
+use Rattle.rules.specs.Shaped.{NodeOf}
 use Rattle.rules.specs.Tree.{Branches, Cases, ext, delay, let_signal, switch, group, until, branch, case, no_branch, no_case, no_signal, below, branches_as, cases_as, expr_at, signal_at, branches_at, cases_at, value_at}
 use Rattle.rules.proofs.Static.{and_both}
 use Rattle.rules.proofs.Laws.{branches_law, cases_law}
 use Rattle.rules.proofs.Nodes.{below_lt, below_ge, signal_ext, signal_delay, signal_let, signal_switch, signal_group, signal_until}
-use Rattle.rules.proofs.Kids.{Child, Kid, kids}
+use Rattle.rules.proofs.Kids.{Child, kids}
 
 pub less : {m : ℕ} (k : ℕ) → m ≤ suc k → (m ≡ suc k → ⊥) → m ≤ k
 less k h d = omega (arith, d)

@@ -1,59 +1,42 @@
 -- A program has no fault exactly when it meets every rule; and then it has a node, and is shaped with a signal as its root.
 -- Assumes nothing.
-use Rattle.std.specs.Prelude.{if◌then◌else◌}
-use mathlib.Core.Path.{◌≡◌, refl, sym, ap, ◌∙◌}
-use mathlib.Core.Bool.{Bool, true, false, not}
-use Prim.Native.Nat.{ℕ, zero, suc, ◌+◌, ◌-◌, ◌*◌, ◌/◌, ◌%◌, ◌<◌, ◌≤◌}
+use Rattle.std.specs.Prelude.{Option, Some, None, Ok, Err, ℕ}
+use Rattle.rules.specs.Verdicts.{Verdict}
+use mathlib.Core.Path.{◌≡◌, refl}
+use mathlib.Core.Bool.{Bool, true, false}
+use Prim.Native.Nat.{ℕ}
 use native.Mathlib.Omega.{arith}
-use lib.Dec.{eqb, ltb}
-use lib.ListN.{length}
-use borrow.Author.Tests.{eqb-true, eqb-false, ne_eqb, eq-eqb}
-use Rattle.rules.specs.Bytes.{Bytes, ◌and◌, ◌or◌, first_from, first}
-use Rattle.rules.specs.Layout.{blocks, records, nodes, kind_at, place_or}
-use Rattle.rules.specs.Format.{length_wrong, sum_wrong, number_wrong, record_wrong, may_end, is_zero, after_end, node_wrong}
-use Rattle.rules.specs.Kinds.{is_signal}
-use Rattle.rules.specs.Shape.{shape_wrong}
-use Rattle.rules.specs.Shaped.{Shaped, NodeOf}
-use Rattle.rules.specs.Scope.{scope_fault}
-use Rattle.rules.specs.Typing.{type_fault}
-use Rattle.rules.specs.Ready.{ready_fault}
-use Rattle.rules.specs.Accepted.{Formed, Accepted}
+use Rattle.rules.specs.Bytes.{Bytes}
+use Rattle.rules.specs.Accepted.{Accepted}
 use Rattle.rules.specs.Calls.{◌otherwise◌, refuse_if, refuse_at, program_verdict}
-use Rattle.rules.specs.declared.Place.{Place}
-use Rattle.rules.specs.declared.Place.TheVariants.{At, Nowhere}
 use Rattle.rules.specs.declared.Refusal.{Refusal}
-use Rattle.rules.specs.declared.Refusal.TheVariants.{ProgramLength, CheckSum, BlockNumber, RecordFault, ShapeFault, ScopeFault, TypeFault, NotReady}
-use Rattle.rules.specs.declared.Verdict.{Verdict}
-use Rattle.rules.specs.declared.Verdict.TheVariants.{Fine, Refuse}
-use Rattle.rules.proofs.Kids.{or_none, not_not}
-use Rattle.rules.proofs.Established.{shaped, root_signal, nowhere_from}
 
 -- no refusal is fine
-pub not_fine : {r : Refusal} → Refuse r ≡ Fine → ⊥
+pub not_fine : {r : Refusal} → ◌≡◌ {A = Verdict} (Err r) (Ok tt) → ⊥
 not_fine e = let z : ◌≡◌ {A = ℕ} 0 1 = cc in omega arith
 
 -- neither of two has a fault
-pub both_fine : (v w : Verdict) → (v otherwise w) ≡ Fine → (v ≡ Fine) × (w ≡ Fine)
+pub both_fine : (v w : Verdict) → (v otherwise w) ≡ Ok tt → (v ≡ Ok tt) × (w ≡ Ok tt)
 unfolding ◌otherwise◌
-both_fine Fine w e = (refl, e)
-both_fine (Refuse r) w e = absurd (not_fine e)
+both_fine (Ok _) w e = (refl, e)
+both_fine (Err r) w e = absurd (not_fine e)
 
-pub fine_both : {v w : Verdict} → v ≡ Fine → w ≡ Fine → (v otherwise w) ≡ Fine
+pub fine_both : {v w : Verdict} → v ≡ Ok tt → w ≡ Ok tt → (v otherwise w) ≡ Ok tt
 unfolding ◌otherwise◌
 fine_both e f = rw (e, f)
 
-pub if_fine : (b : Bool) (r : Refusal) → refuse_if b r ≡ Fine → b ≡ false
+pub if_fine : (b : Bool) (r : Refusal) → refuse_if b r ≡ Ok tt → b ≡ false
 unfolding refuse_if
 if_fine true r e = absurd (not_fine e)
 if_fine false r e = refl
 
-pub at_fine : (reason : ℕ → Refusal) (q : Place) → refuse_at reason q ≡ Fine → q ≡ Nowhere
+pub at_fine : (reason : ℕ → Refusal) (q : Option ℕ) → refuse_at reason q ≡ Ok tt → q ≡ None
 unfolding refuse_at
-at_fine reason (At n) e = absurd (not_fine e)
-at_fine reason Nowhere e = refl
+at_fine reason (Some n) e = absurd (not_fine e)
+at_fine reason None e = refl
 
 -- what the verdict on a program says
-pub accepted : (p : Bytes) → program_verdict p ≡ Fine → Accepted p
+pub accepted : (p : Bytes) → program_verdict p ≡ Ok tt → Accepted p
 unfolding program_verdict
 accepted p e =
     let a = both_fine _ _ e in
@@ -76,7 +59,7 @@ accepted p e =
       ready_right = at_fine _ _ h.1;
     }
 
-pub fine_verdict : (p : Bytes) → Accepted p → program_verdict p ≡ Fine
+pub fine_verdict : (p : Bytes) → Accepted p → program_verdict p ≡ Ok tt
 unfolding program_verdict ◌otherwise◌ refuse_if refuse_at
 fine_verdict p a =
     rw (

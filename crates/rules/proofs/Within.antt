@@ -1,6 +1,6 @@
 -- The work of an evaluation and of an update is at most the bound, whatever the environment, the record and the state.
 -- Assumes nothing.
-use Rattle.std.specs.Prelude.{if◌then◌else◌}
+use Rattle.std.specs.Prelude.{if◌then◌else◌, Option, Some, None, ℕ}
 use mathlib.Core.Bool.{Bool, true, false}
 use Prim.Native.Nat.{ℕ, ◌+◌, ◌≤◌, max}
 use native.Mathlib.Nat.{le_refl}
@@ -20,14 +20,9 @@ use Rattle.rules.specs.Bound.{bound_e, bound_s, bound_sb, bound_sc, bound_u, bou
 use Rattle.rules.specs.declared.Value.{Value}
 use Rattle.rules.specs.declared.Value.TheVariants.{Plain, Absent, Present}
 use Rattle.rules.specs.declared.Tally.{Tally}
-use Rattle.rules.specs.declared.Word.{Word}
-use Rattle.rules.specs.declared.Word.TheVariants.{Is, Not}
-use Rattle.rules.specs.declared.Opened.{Opened}
-use Rattle.rules.specs.declared.Opened.TheVariants.{Here, Gone, Amiss}
-use Rattle.rules.specs.declared.Evaluated.{Evaluated}
-use Rattle.rules.specs.declared.Evaluated.TheVariants.{Done, Stuck}
-use Rattle.rules.specs.declared.Occurrence.{Occurrence}
-use Rattle.rules.specs.declared.Occurrence.TheVariants.{Took, Quiet}
+use Rattle.rules.specs.Opened.{Opened, Here, Gone, Amiss}
+use Rattle.rules.specs.Evaluated.{Evaluated, Done, Stuck}
+use Rattle.rules.specs.Occurrence.{Occurrence, Took, Quiet}
 
 -- an outcome's work is at most b
 abbrev pub AtMost : Evaluated → ℕ → Type 0
@@ -82,11 +77,11 @@ meant_within : (k x y : ℕ) → Within (meant k x y) 0
 unfolding meant noted
 meant_within k x y = record { most = le_refl 0 }
 
-on_words_within : (f : ℕ → ℕ → Evaluated) (x y : Word) → ((a b : ℕ) → Within (f a b) 0) → Within (on_words f x y) 0
+on_words_within : (f : ℕ → ℕ → Evaluated) (x y : Option ℕ) → ((a b : ℕ) → Within (f a b) 0) → Within (on_words f x y) 0
 unfolding on_words
-on_words_within f (Is x) (Is y) h = h x y
-on_words_within f (Is x) Not h = free
-on_words_within f Not y h = free
+on_words_within f (Some x) (Some y) h = h x y
+on_words_within f (Some x) None h = free
+on_words_within f None y h = free
 
 operate_within : (k : ℕ) (u v : Value) → Within (operate k u v) 0
 unfolding operate
@@ -98,20 +93,20 @@ operated_within k (Done u x) (Done v y) h g = done_within (x plus y) (operate k 
 operated_within k (Done u x) Stuck h g = free
 operated_within k Stuck s h g = free
 
-not_of_within : (w : Word) → Within (not_of w) 0
+not_of_within : (w : Option ℕ) → Within (not_of w) 0
 unfolding not_of
-not_of_within (Is w) = give_within _
-not_of_within Not = free
+not_of_within (Some w) = give_within _
+not_of_within None = free
 
 negated_within : (r : Evaluated) {b : ℕ} → Within r b → Within (negated r) b
 unfolding negated
 negated_within (Done u x) h = done_within x _ h.most (not_of_within _)
 negated_within Stuck h = free
 
-arm_of_within : (w : Word) (r s : Evaluated) {b c : ℕ} → Within r b → Within s c → Within (arm_of w r s) (max b c)
+arm_of_within : (w : Option ℕ) (r s : Evaluated) {b c : ℕ} → Within r b → Within s c → Within (arm_of w r s) (max b c)
 unfolding arm_of
-arm_of_within (Is w) r s h g = if_within (is_true w) r s (wider r h (omega arith)) (wider s g (omega arith))
-arm_of_within Not r s h g = free
+arm_of_within (Some w) r s h g = if_within (is_true w) r s (wider r h (omega arith)) (wider s g (omega arith))
+arm_of_within None r s h g = free
 
 chosen_within : (q r s : Evaluated) {a b c : ℕ} → Within q a → Within r b → Within s c → Within (chosen q r s) (a + max b c)
 unfolding chosen

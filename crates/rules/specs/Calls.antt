@@ -1,6 +1,7 @@
 -- The three calls: from the bytes that they are lent to the answer and the bytes after.
 -- Assumes nothing: these are definitions.
-use Rattle.std.specs.Prelude.{ℕ, zero, suc, ◌+◌, ◌*◌, ◌/◌, ◌%◌, Bool, not, length, eqb, ltb, leb, if◌then◌else◌}
+use Rattle.std.specs.Prelude.{ℕ, zero, suc, ◌+◌, ◌*◌, ◌/◌, ◌%◌, Bool, not, length, eqb, ltb, leb, if◌then◌else◌, Option, Some, None, Ok, Err}
+use Rattle.rules.specs.Verdicts.{CheckAnswer, RunAnswer, StartAnswer, Verdict, accepted_with, finished_with, refused_after}
 use Rattle.rules.specs.Bytes.{Bytes, byte_at, write_at, first, ◌and◌, ◌or◌}
 use Rattle.rules.specs.Values.{value_bytes}
 use Rattle.rules.specs.Layout.{blocks, records, nodes, cells, state_length, last_time, no_time, input_length, input_at, time_in, flag_on, event_on}
@@ -13,33 +14,23 @@ use Rattle.rules.specs.Ready.{ready_fault}
 use Rattle.rules.specs.Reset.{start_state}
 use Rattle.rules.specs.WellFormed.{long_as_cells, knows_program, rest_well, last_moment}
 use Rattle.rules.specs.Bound.{bound}
-use Rattle.rules.specs.Update.{Stepped, Made, NotMade, step_of}
-use Rattle.rules.specs.declared.Place.{Place}
-use Rattle.rules.specs.declared.Place.TheVariants.{At, Nowhere}
+use Rattle.rules.specs.Update.{Made, NotMade, step_of}
 use Rattle.rules.specs.declared.Refusal.{Refusal}
 use Rattle.rules.specs.declared.Refusal.TheVariants.{ProgramLength, CheckSum, BlockNumber, RecordFault, ShapeFault, ScopeFault, TypeFault, NotReady, StateFault, RecordsLength, OutputLength, InputFault, TimeBack, OtherProgram}
-use Rattle.rules.specs.declared.Verdict.{Verdict}
-use Rattle.rules.specs.declared.Verdict.TheVariants.{Fine, Refuse}
-use Rattle.rules.specs.declared.Checked.{Checked}
-use Rattle.rules.specs.declared.Checked.TheVariants.{Accepted}
-use Rattle.rules.specs.declared.Started.{Started}
-use Rattle.rules.specs.declared.Started.TheVariants.{Ready}
 use Rattle.rules.specs.declared.Tally.{Tally}
-use Rattle.rules.specs.declared.Ran.{Ran}
-use Rattle.rules.specs.declared.Ran.TheVariants.{Finished}
 
 -- The first fault of two.
 infixr 20 ◌otherwise◌
 unfoldable pub ◌otherwise◌ : Verdict → Verdict → Verdict
-Fine otherwise next = next
-Refuse r otherwise next = Refuse r
+(Ok _) otherwise next = next
+Err r otherwise next = Err r
 
 unfoldable pub refuse_if : Bool → Refusal → Verdict
-refuse_if wrong r = if wrong then Refuse r else Fine
+refuse_if wrong r = if wrong then Err r else Ok tt
 
-unfoldable pub refuse_at : (ℕ → Refusal) → Place → Verdict
-refuse_at reason (At n) = Refuse (reason n)
-refuse_at reason Nowhere = Fine
+unfoldable pub refuse_at : (ℕ → Refusal) → Option ℕ → Verdict
+refuse_at reason (Some n) = Err (reason n)
+refuse_at reason None = Ok tt
 
 -- Codes 1-8, lowest code first, then smallest place.
 unfoldable pub program_verdict : Bytes → Verdict
@@ -54,21 +45,21 @@ program_verdict p =
     otherwise refuse_at NotReady (ready_fault p)
 
 -- Check accepted: N, cells, bound, root type.
-unfoldable pub check_answer : Bytes → Verdict → Checked
-check_answer p Fine = Accepted (nodes p) (cells p) (bound p) (type_s (root p))
-check_answer p (Refuse r) = Checked.Refused r
+unfoldable pub check_answer : Bytes → Verdict → CheckAnswer
+check_answer p (Ok _) = accepted_with (nodes p) (cells p) (bound p) (type_s (root p))
+check_answer p (Err r) = Err r
 
-unfoldable pub check_call : Bytes → Checked
+unfoldable pub check_call : Bytes → CheckAnswer
 check_call p = check_answer p (program_verdict p)
 
 -- Start tries 1-9; 9 is the wrong length only. A refusal leaves the lent memory as before.
 pub record StartOutcome : Type 0 where
-  pub answer : Started
+  pub answer : StartAnswer
   pub state : Bytes
 
 unfoldable pub start_outcome : Bytes → Bytes → Verdict → StartOutcome
-start_outcome p st Fine = record { answer = Ready; state = start_state p }
-start_outcome p st (Refuse r) = record { answer = Started.Refused r; state = st }
+start_outcome p st (Ok _) = record { answer = Ok tt; state = start_state p }
+start_outcome p st (Err r) = record { answer = Err r; state = st }
 
 unfoldable pub start_call : Bytes → Bytes → StartOutcome
 start_call p st =
@@ -76,7 +67,7 @@ start_call p st =
 
 -- What a run answers and leaves.
 pub record RunOutcome : Type 0 where
-  pub answer : Ran
+  pub answer : RunAnswer
   pub state : Bytes
   pub output : Bytes
 
@@ -125,21 +116,21 @@ first_wrapped mark done w = if eqb mark no_step and w.wrapped then done else mar
 -- A run of the records left, after so many steps, so much work and that first wrapped step. A refusal keeps the finished steps. (NotMade never
 -- comes up in an accepted program and a well-formed state.)
 unfoldable pub run_from : Bytes → Bytes → ℕ → ℕ → ℕ → ℕ → Bytes → Bytes → RunOutcome
-run_from p recs zero done work mark st out = record { answer = Finished done work mark; state = st; output = out }
+run_from p recs zero done work mark st out = record { answer = finished_with done work mark; state = st; output = out }
 run_from p recs (suc left) done work mark st out =
     elim (record_verdict done st (input_at recs done)) [
-      | Refuse r ↦ record { answer = Ran.Refused r work mark; state = st; output = out }
-      | Fine ↦
+      | Err r ↦ record { answer = refused_after r work mark; state = st; output = out }
+      | Ok _ ↦
           elim (step_of p (input_at recs done) st) [
             | Made v st₁ w ↦
                 run_from p recs left (suc done) (work + w.work) (first_wrapped mark done w) st₁ (write_at out (8 * done) (value_bytes v))
-            | NotMade ↦ record { answer = Ran.Refused StateFault work mark; state = st; output = out }
+            | NotMade ↦ record { answer = refused_after StateFault work mark; state = st; output = out }
           ]
     ]
 
 unfoldable pub run_outcome : Bytes → Bytes → Bytes → Bytes → Verdict → RunOutcome
-run_outcome p st recs out Fine = run_from p recs (length recs / input_length) 0 0 no_step st out
-run_outcome p st recs out (Refuse r) = record { answer = Ran.Refused r 0 no_step; state = st; output = out }
+run_outcome p st recs out (Ok _) = run_from p recs (length recs / input_length) 0 0 no_step st out
+run_outcome p st recs out (Err r) = record { answer = refused_after r 0 no_step; state = st; output = out }
 
 -- A run has 0 to 4,096 records, output 8 bytes each. (A step is a run of one record.)
 unfoldable pub run_call : Bytes → Bytes → Bytes → Bytes → RunOutcome

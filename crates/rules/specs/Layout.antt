@@ -1,10 +1,8 @@
 -- Where things stand: blocks and nodes in a program, cells in a state, channels in a record.
 -- Assumes nothing: these are definitions.
-use Rattle.std.specs.Prelude.{ℕ, zero, suc, ◌+◌, ◌-◌, ◌*◌, ◌/◌, ◌%◌, ◌^◌, ◌++◌, Bool, length, take, drop, eqb, ltb, if◌then◌else◌}
+use Rattle.std.specs.Prelude.{ℕ, zero, suc, ◌+◌, ◌-◌, ◌*◌, ◌/◌, ◌%◌, ◌^◌, ◌++◌, Bool, length, take, drop, eqb, ltb, if◌then◌else◌, Option, Some, None}
 use Rattle.rules.specs.Bytes.{Bytes, byte_at, u16_at, u32_at, u64_at, bytes_of, write_at, first, how_many, ◌or◌}
 use Rattle.rules.specs.Values.{int_t, maybe_of, packed, unpacked, middle_in}
-use Rattle.rules.specs.declared.Place.{Place}
-use Rattle.rules.specs.declared.Place.TheVariants.{At, Nowhere}
 use Rattle.rules.specs.declared.Value.{Value}
 use Rattle.rules.specs.declared.Value.TheVariants.{Plain, Absent, Present}
 
@@ -73,9 +71,9 @@ abbrev pub no_next : ℕ
 no_next = 65535
 
 -- A count of nodes: up to the first record of kind 0.
-unfoldable pub place_or : Place → ℕ → ℕ
-place_or (At k) n = k
-place_or Nowhere n = n
+unfoldable pub place_or : Option ℕ → ℕ → ℕ
+place_or (Some k) n = k
+place_or None n = n
 
 unfoldable pub nodes : Bytes → ℕ
 nodes p = place_or (first (λ r. eqb (kind_at p r) 0) (records p)) (records p)

@@ -1,3 +1,4 @@
+pub mod Verdicts
 pub mod Answers
 pub mod Bytes
 pub mod Values
@@ -14,6 +15,10 @@ pub mod Places
 pub mod Scope
 pub mod Typing
 pub mod Ready
+pub mod Evaluated
+pub mod Moved
+pub mod Opened
+pub mod Occurrence
 pub mod Work
 pub mod Evaluate
 pub mod Reset

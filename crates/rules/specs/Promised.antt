@@ -1,12 +1,12 @@
 -- What each of the three calls promises: for every input, refusals too, the answer of the rules and the rules' content of all lent memory.
 -- Assumes nothing: these are definitions.
 use Rattle.std.specs.Prelude.{◌≡◌}
+use Rattle.rules.specs.Verdicts.{CheckAnswer}
 use Rattle.rules.specs.Bytes.{Bytes}
 use Rattle.rules.specs.Calls.{StartOutcome, RunOutcome, check_call, start_call, run_call}
-use Rattle.rules.specs.declared.Checked.{Checked}
 
 -- Check is lent a program to read.
-pub record Checks (call : Bytes → Checked) : Type 0 where
+pub record Checks (call : Bytes → CheckAnswer) : Type 0 where
   pub as_ruled : (p : Bytes) → call p ≡ check_call p
 
 -- Start is lent a program to read and a state to write.

@@ -1,8 +1,9 @@
 -- The readings that the paper gives to hold against, as rows: a program, records, and what the calls answer.
 -- Assumes nothing: these are definitions.
-use Rattle.std.specs.Prelude.{ℕ, ◌+◌, ◌*◌, List, [], ◌∷◌, ◌++◌, length, replicate}
+use Rattle.std.specs.Prelude.{ℕ, ◌+◌, ◌*◌, List, [], ◌∷◌, ◌++◌, length, replicate, Err}
+use Rattle.rules.specs.Verdicts.{CheckAnswer, RunAnswer, accepted_with, finished_with, refused_after}
 use Rattle.rules.specs.Bytes.{Bytes, bytes_of, u64_at}
-use Rattle.rules.specs.Values.{bool_t, int_t, maybe_of, unpacked, packed, value_bytes}
+use Rattle.rules.specs.Values.{bool_t, int_t, unpacked, value_bytes}
 use Rattle.rules.specs.Layout.{no_next, no_time, checks_of, state_length}
 use Rattle.rules.specs.Calls.{no_step, check_call, start_call, run_call}
 use Rattle.rules.specs.Samples.{minus, joined, program, program_in, program_two, quiet, measured, event, event_five, two_events, stray, input, ext, delay, let_signal, switch, let_continue, until, branch, case, variable, constant, truth, operation, add, divide, negation, choice, just}
@@ -10,32 +11,28 @@ use Rattle.rules.specs.declared.Value.{Value}
 use Rattle.rules.specs.declared.Value.TheVariants.{Plain, Absent, Present}
 use Rattle.rules.specs.declared.Refusal.{Refusal}
 use Rattle.rules.specs.declared.Refusal.TheVariants.{BlockNumber, ScopeFault, TypeFault, NotReady, InputFault}
-use Rattle.rules.specs.declared.Checked.{Checked}
-use Rattle.rules.specs.declared.Checked.TheVariants.{Accepted}
-use Rattle.rules.specs.declared.Ran.{Ran}
-use Rattle.rules.specs.declared.Ran.TheVariants.{Finished}
 
 -- What is seen of a program and records: the answer of check; from the start state, the answer and value of a run of each record by itself; the outcome of the run of all.
 pub record Step : Type 0 where
-  pub answer : Ran
+  pub answer : RunAnswer
   pub value : Value
 
 pub record Seen : Type 0 where
-  pub check : Checked
+  pub check : CheckAnswer
   pub steps : List Step
-  pub run : Ran
+  pub run : RunAnswer
   pub state : Bytes
   pub output : Bytes
 
 -- A step with its work, in which no number wrapped; and one in which a number wrapped. A refused step's output is as before.
 abbrev pub made : Value → ℕ → Step
-made v w = record { answer = Finished 1 w no_step; value = v }
+made v w = record { answer = finished_with 1 w no_step; value = v }
 
 abbrev pub wraps : Value → ℕ → Step
-wraps v w = record { answer = Finished 1 w 0; value = v }
+wraps v w = record { answer = finished_with 1 w 0; value = v }
 
 abbrev pub refused : Refusal → Step
-refused r = record { answer = Ran.Refused r 0 no_step; value = Absent 0 }
+refused r = record { answer = refused_after r 0 no_step; value = Absent 0 }
 
 abbrev pub steps_from : Bytes → Bytes → List Bytes → List Step
 steps_from p st [] = []
@@ -54,7 +51,7 @@ abbrev pub output_of : List Step → Bytes
 output_of [] = []
 output_of (s ∷ ss) = value_bytes s.value ++ output_of ss
 
-abbrev pub expect : Checked → List Step → Ran → Bytes → Seen
+abbrev pub expect : CheckAnswer → List Step → RunAnswer → Bytes → Seen
 expect c steps r st = record { check = c; steps = steps; run = r; state = st; output = output_of steps }
 
 -- A row: a program, records, and what is to be seen.
@@ -101,7 +98,7 @@ abbrev pub row_a : Row
 row_a = record {
   program = counting 0;
   records = quiet 0 ∷ quiet 100 ∷ quiet 100 ∷ [];
-  sight = expect (Accepted 8 1 13 int_t) (made (int 0) 13 ∷ made (int 1) 13 ∷ made (int 2) 13 ∷ []) (Finished 3 39 no_step)
+  sight = expect (accepted_with 8 1 13 int_t) (made (int 0) 13 ∷ made (int 1) 13 ∷ made (int 2) 13 ∷ []) (finished_with 3 39 no_step)
       (state_of (counting 0) 100 (holding (int 3) ∷ []));
 }
 
@@ -110,7 +107,7 @@ abbrev pub row_b : Row
 row_b = record {
   program = counting 2147483647;
   records = quiet 0 ∷ quiet 0 ∷ [];
-  sight = expect (Accepted 8 1 13 int_t) (wraps (int 2147483647) 13 ∷ made (int (minus 2147483648)) 13 ∷ []) (Finished 2 26 0)
+  sight = expect (accepted_with 8 1 13 int_t) (wraps (int 2147483647) 13 ∷ made (int (minus 2147483648)) 13 ∷ []) (finished_with 2 26 0)
       (state_of (counting 2147483647) 0 (holding (int (minus 2147483647)) ∷ []));
 }
 
@@ -131,7 +128,7 @@ abbrev pub row_c : Row
 row_c = record {
   program = selfish;
   records = [];
-  sight = expect (Checked.Refused (NotReady 4)) [] (Ran.Refused (NotReady 4) 0 no_step) (0 ∷ 0 ∷ 0 ∷ 0 ∷ 0 ∷ 0 ∷ 0 ∷ 0 ∷ []);
+  sight = expect (Err (NotReady 4)) [] (refused_after (NotReady 4) 0 no_step) (0 ∷ 0 ∷ 0 ∷ 0 ∷ 0 ∷ 0 ∷ 0 ∷ 0 ∷ []);
 }
 
 -- D: switch (ext 0) on x = input 4 in ext x. Events 5, none, 6, none give 0, 5, 5, 6; work 6, 7, 6, 7.
@@ -152,8 +149,8 @@ abbrev pub row_d : Row
 row_d = record {
   program = switching;
   records = event 0 5 ∷ quiet 1 ∷ event 2 6 ∷ quiet 3 ∷ [];
-  sight = expect (Accepted 6 1 7 int_t)
-      (made (int 0) 6 ∷ made (int 5) 7 ∷ made (int 5) 6 ∷ made (int 6) 7 ∷ []) (Finished 4 26 no_step)
+  sight = expect (accepted_with 6 1 7 int_t)
+      (made (int 0) 6 ∷ made (int 5) 7 ∷ made (int 5) 6 ∷ made (int 6) 7 ∷ []) (finished_with 4 26 no_step)
       (state_of switching 3 (holding (int 6) ∷ []));
 }
 
@@ -197,8 +194,8 @@ abbrev pub row_e : Row
 row_e = record {
   program = swaying;
   records = quiet 0 ∷ event 1 7 ∷ event 2 9 ∷ quiet 3 ∷ [];
-  sight = expect (Accepted 18 1 9 int_t)
-      (made (int 0) 9 ∷ made (int 0) 7 ∷ made (int 7) 7 ∷ made (int 1) 9 ∷ []) (Finished 4 32 no_step)
+  sight = expect (accepted_with 18 1 9 int_t)
+      (made (int 0) 9 ∷ made (int 0) 7 ∷ made (int 7) 7 ∷ made (int 1) 9 ∷ []) (finished_with 4 32 no_step)
       (state_of swaying 3 (in_branch up 9 ∷ []));
 }
 
@@ -219,7 +216,7 @@ abbrev pub divides : ℕ → ℕ → Step → Row
 divides x y s = record {
   program = dividing x y;
   records = quiet 0 ∷ [];
-  sight = expect (Accepted 4 0 5 maybe_int) (s ∷ []) s.answer (state_of (dividing x y) 0 []);
+  sight = expect (accepted_with 4 0 5 maybe_int) (s ∷ []) s.answer (state_of (dividing x y) 0 []);
 }
 
 -- F: -7 by 2 is present -4, 7 by -2 is present -4, -7 by -2 is 3. (And the lowest value by -1.) A negative quotient does not count as wrapped, and
@@ -248,7 +245,7 @@ abbrev pub row_h : Row
 row_h = record {
   program = input_only;
   records = [];
-  sight = expect (Accepted 1 0 2 int_t) [] (Finished 0 0 no_step) (state_of input_only no_time []);
+  sight = expect (accepted_with 1 0 2 int_t) [] (finished_with 0 0 no_step) (state_of input_only no_time []);
 }
 
 -- I: two cases present at once: the first in the list wins. (port, node 12, takes channel 4's value; starboard, node 9, channel 5's. The
@@ -285,7 +282,7 @@ abbrev pub row_i : Row
 row_i = record {
   program = turning;
   records = two_events 0 5 8 ∷ quiet 0 ∷ [];
-  sight = expect (Accepted 14 1 11 int_t) (made (int 0) 7 ∷ made (int 5) 5 ∷ []) (Finished 2 12 no_step)
+  sight = expect (accepted_with 14 1 11 int_t) (made (int 0) 7 ∷ made (int 5) 5 ∷ []) (finished_with 2 12 no_step)
       (state_of turning 0 (in_branch port 5 ∷ []));
 }
 
@@ -294,7 +291,7 @@ abbrev pub row_time : Row
 row_time = record {
   program = input_only;
   records = quiet 2147483647 ∷ quiet 2147483648 ∷ [];
-  sight = expect (Accepted 1 0 2 int_t) (made (int 0) 2 ∷ refused (InputFault 0) ∷ []) (Ran.Refused (InputFault 1) 2 no_step)
+  sight = expect (accepted_with 1 0 2 int_t) (made (int 0) 2 ∷ refused (InputFault 0) ∷ []) (refused_after (InputFault 1) 2 no_step)
       (state_of input_only 2147483647 []);
 }
 
@@ -308,7 +305,7 @@ abbrev pub operates : ℕ → ℕ → ℕ → Step → Row
 operates kind x y s = record {
   program = operating kind x y;
   records = quiet 0 ∷ [];
-  sight = expect (Accepted 4 0 5 int_t) (s ∷ []) s.answer (state_of (operating kind x y) 0 []);
+  sight = expect (accepted_with 4 0 5 int_t) (s ∷ []) s.answer (state_of (operating kind x y) 0 []);
 }
 
 -- 19: 5 from which 7 is taken is -2. 20: -3 times 5 is -15.
@@ -357,7 +354,7 @@ abbrev pub chooses : ℕ → Step → Row
 chooses x s = record {
   program = choosing x;
   records = quiet 0 ∷ [];
-  sight = expect (Accepted 11 0 11 int_t) (s ∷ []) s.answer (state_of (choosing x) 0 []);
+  sight = expect (accepted_with 11 0 11 int_t) (s ∷ []) s.answer (state_of (choosing x) 0 []);
 }
 
 abbrev pub row_arm_taken : Row
@@ -389,7 +386,7 @@ abbrev pub four : ℕ → Bytes → Bytes → Bytes → Bytes → Bytes → Byte
 four kind x₁ y₁ x₂ y₂ x₃ y₃ x₄ y₄ sum = record {
   program = four_pairs kind x₁ y₁ x₂ y₂ x₃ y₃ x₄ y₄;
   records = quiet 0 ∷ [];
-  sight = expect (Accepted 28 0 25 int_t) (made (int sum) 25 ∷ []) (Finished 1 25 no_step)
+  sight = expect (accepted_with 28 0 25 int_t) (made (int sum) 25 ∷ []) (finished_with 1 25 no_step)
       (state_of (four_pairs kind x₁ y₁ x₂ y₂ x₃ y₃ x₄ y₄) 0 []);
 }
 
@@ -419,7 +416,7 @@ abbrev pub row_not : Row
 row_not = record {
   program = negating;
   records = quiet 0 ∷ [];
-  sight = expect (Accepted 7 0 7 bool_t) (made (Plain bool_t 0) 7 ∷ []) (Finished 1 7 no_step) (state_of negating 0 []);
+  sight = expect (accepted_with 7 0 7 bool_t) (made (Plain bool_t 0) 7 ∷ []) (finished_with 1 7 no_step) (state_of negating 0 []);
 }
 
 -- Two faults of type, node 1 and node 3, each a not of an int: code 7 at the smaller, whichever of the two is met first.
@@ -429,7 +426,7 @@ two_faults first second =
     record {
       program = program (constant 1 ∷ negation one ∷ constant 1 ∷ negation other ∷ operation 25 first second ∷ ext joint ∷ []);
       records = [];
-      sight = expect (Checked.Refused (TypeFault 1)) [] (Ran.Refused (TypeFault 1) 0 no_step) (0 ∷ 0 ∷ 0 ∷ 0 ∷ 0 ∷ 0 ∷ 0 ∷ 0 ∷ []);
+      sight = expect (Err (TypeFault 1)) [] (refused_after (TypeFault 1) 0 no_step) (0 ∷ 0 ∷ 0 ∷ 0 ∷ 0 ∷ 0 ∷ 0 ∷ 0 ∷ []);
     }
 
 abbrev pub row_smaller_first : Row
@@ -446,7 +443,7 @@ row_absent =
       program = input_only;
       records =
           stray (1 ∷ 0 ∷ 0 ∷ 0 ∷ []) ∷ stray (0 ∷ 1 ∷ 0 ∷ 0 ∷ []) ∷ stray (0 ∷ 0 ∷ 1 ∷ 0 ∷ []) ∷ stray (0 ∷ 0 ∷ 0 ∷ 1 ∷ []) ∷ [];
-      sight = expect (Accepted 1 0 2 int_t) (no₀ ∷ no₀ ∷ no₀ ∷ no₀ ∷ []) (Ran.Refused (InputFault 0) 0 no_step) (state_of input_only no_time []);
+      sight = expect (accepted_with 1 0 2 int_t) (no₀ ∷ no₀ ∷ no₀ ∷ no₀ ∷ []) (refused_after (InputFault 0) 0 no_step) (state_of input_only no_time []);
     }
 
 -- J (edition two): the group berth inside the branch final of the group arrival; in berth's branch fast, input 5 goes around, which leaves both
@@ -500,8 +497,8 @@ abbrev pub row_j : Row
 row_j = record {
   program = program_two arriving;
   records = quiet 0 ∷ event 1 7 ∷ event 2 9 ∷ event_five 3 8 ∷ event 4 6 ∷ quiet 5 ∷ [];
-  sight = expect (Accepted 25 2 11 int_t)
-      (made (int 0) 9 ∷ made (int 0) 7 ∷ made (int 1) 9 ∷ made (int 9) 9 ∷ made (int 8) 7 ∷ made (int 1) 11 ∷ []) (Finished 6 52 no_step)
+  sight = expect (accepted_with 25 2 11 int_t)
+      (made (int 0) 9 ∷ made (int 0) 7 ∷ made (int 1) 9 ∷ made (int 9) 9 ∷ made (int 8) 7 ∷ made (int 1) 11 ∷ []) (finished_with 6 52 no_step)
       (state_of (program_two arriving) 5 (replicate 8 0 ∷ in_branch final 6 ∷ []));
 }
 
@@ -510,7 +507,7 @@ abbrev pub row_jone : Row
 row_jone = record {
   program = program arriving;
   records = [];
-  sight = expect (Checked.Refused (ScopeFault 13)) [] (Ran.Refused (ScopeFault 13) 0 no_step) (replicate 24 0);
+  sight = expect (Err (ScopeFault 13)) [] (refused_after (ScopeFault 13) 0 no_step) (replicate 24 0);
 }
 
 -- An edition above 1.
@@ -518,7 +515,7 @@ abbrev pub row_jthree : Row
 row_jthree = record {
   program = program_in 2 arriving;
   records = [];
-  sight = expect (Checked.Refused (BlockNumber 0)) [] (Ran.Refused (BlockNumber 0) 0 no_step) (replicate 24 0);
+  sight = expect (Err (BlockNumber 0)) [] (refused_after (BlockNumber 0) 0 no_step) (replicate 24 0);
 }
 
 -- What is evaluated before a jump counts: a group with port x = ext x and the body ext 0 until ext (just (2147483647 + 1)) => port.
@@ -548,7 +545,7 @@ abbrev pub row_jump_wraps : Row
 row_jump_wraps = record {
   program = leaving;
   records = quiet 0 ∷ quiet 0 ∷ [];
-  sight = expect (Accepted 13 1 13 int_t) (wraps (int 0) 11 ∷ made (int (minus 2147483648)) 5 ∷ []) (Finished 2 16 0)
+  sight = expect (accepted_with 13 1 13 int_t) (wraps (int 0) 11 ∷ made (int (minus 2147483648)) 5 ∷ []) (finished_with 2 16 0)
       (state_of leaving 0 (in_branch 11 (minus 2147483648) ∷ []));
 }
 
@@ -571,9 +568,9 @@ abbrev pub row_first_wrapped : Row
 row_first_wrapped = record {
   program = doubling;
   records = measured 0 5 ∷ measured 0 1073741824 ∷ measured 0 1073741824 ∷ quiet 2147483648 ∷ [];
-  sight = expect (Accepted 6 0 10 int_t)
+  sight = expect (accepted_with 6 0 10 int_t)
       (made (int 10) 10 ∷ wraps (int (minus 2147483648)) 10 ∷ wraps (int (minus 2147483648)) 10 ∷ refused (InputFault 0) ∷ [])
-      (Ran.Refused (InputFault 3) 30 1)
+      (refused_after (InputFault 3) 30 1)
       (state_of doubling 0 []);
 }
 

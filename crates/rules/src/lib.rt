@@ -43,51 +43,6 @@ pub struct Node {
     pub word: u32,
 }
 
-// The outcome of an evaluation.
-#[derive(Clone, Copy)]
-pub enum Evaluated {
-    Done(Value, Tally),
-    Stuck,
-}
-
-// The outcome of an update in place: it stays, or an until jumps to a branch with a value, which its group catches.
-#[derive(Clone, Copy)]
-pub enum Moved {
-    Stay(Tally),
-    Jump(u32, Value, Tally),
-    Stuck,
-}
-
-// The word of a plain value of the type that is asked for.
-#[derive(Clone, Copy)]
-pub enum Word {
-    Is(u32),
-    Not,
-}
-
-// A maybe taken apart: the plain value that it holds, or absent. (A plain value is no maybe.)
-#[derive(Clone, Copy)]
-pub enum Opened {
-    Here(Value),
-    Gone,
-    Amiss,
-}
-
-// What the events of an until did, in list order up to the first present one: it took a branch with a value, or none was present.
-#[derive(Clone, Copy)]
-pub enum Occurrence {
-    Took(u32, Value, Tally),
-    Quiet(Tally),
-    Stuck,
-}
-
-// A place, if there is one.
-#[derive(Clone, Copy)]
-pub enum Place {
-    At(u32),
-    Nowhere,
-}
-
 // Why a call refuses, with the place where the paper names one.
 #[derive(Clone, Copy)]
 pub enum Refusal {
@@ -107,33 +62,42 @@ pub enum Refusal {
     OtherProgram,
 }
 
-// A fault found, or none.
+// What check says of a program that it accepts: nodes, cells, bound, root type.
 #[derive(Clone, Copy)]
-pub enum Verdict {
-    Fine,
-    Refuse(Refusal),
+pub struct Checked {
+    pub nodes: u32,
+    pub cells: u32,
+    pub bound: u32,
+    pub root: u8,
 }
 
-// The answer of check: nodes, cells, bound, root type.
+// What run says of a run to its end: steps done, work and the first step in which a number wrapped, NO_STEP if none.
 #[derive(Clone, Copy)]
-pub enum Checked {
-    Accepted(u32, u32, u32, u8),
-    Refused(Refusal),
+pub struct Ran {
+    pub steps: u32,
+    pub work: u32,
+    pub wrapped: u32,
 }
 
-// The answer of start.
+// Why a run was refused, with the work of the steps done and the first of them in which a number wrapped, NO_STEP if none.
 #[derive(Clone, Copy)]
-pub enum Started {
-    Ready,
-    Refused(Refusal),
+pub struct Stopped {
+    pub why: Refusal,
+    pub work: u32,
+    pub wrapped: u32,
 }
 
-// The answer of run: steps done, work and the first step in which a number wrapped, NO_STEP if none; of a refusal, the work and that step of the
-// steps done.
-#[derive(Clone, Copy)]
-pub enum Ran {
-    Finished(u32, u32, u32),
-    Refused(Refusal, u32, u32),
+// A run that is refused before its first record.
+impl From<Refusal> for Stopped {
+    ghost from_gives = { λ r s. s ≡ record { why = r; work = 0; wrapped = 65535 } };
+
+    fn from(why: Refusal) -> Stopped {
+        Stopped {
+            why,
+            work: 0,
+            wrapped: NO_STEP,
+        }
+    }
 }
 
 // What a field a, b or c of a record is.

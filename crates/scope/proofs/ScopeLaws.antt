@@ -1,5 +1,6 @@
 -- The scope of an expression of each kind, and the same from what the calls for its parts have answered, marks as each of them has left them.
 -- Assumes nothing.
+use Rattle.std.specs.Prelude.{Option, None, ℕ}
 use mathlib.Core.Path.{◌≡◌, ap}
 use mathlib.Core.List.{List}
 use mathlib.Core.Bool.{Bool, false}
@@ -9,8 +10,6 @@ use Rattle.rules.specs.Bytes.{Bytes}
 use Rattle.rules.specs.Layout.{kind_at, a_at, b_at, c_at}
 use Rattle.rules.specs.Kinds.{is_expression}
 use Rattle.rules.specs.Places.{sooner, wrong_unless}
-use Rattle.rules.specs.declared.Place.{Place}
-use Rattle.rules.specs.declared.Place.TheVariants.{Nowhere}
 use Rattle.rules.specs.Tree.{expr_at}
 use Rattle.rules.specs.Scope.{Marks, mark, is_marked, scope_e}
 use Rattle.rules.proofs.Nodes.{expr_variable, expr_constant, expr_negation, expr_choice, expr_operation, expr_just, expr_taking}
@@ -26,7 +25,7 @@ module _ (p : Bytes) (n : ℕ) (w : NodeOf is_expression p n) (Γ : Marks) where
   unfolding scope_e
   variable_scope e = ap (scope_e Γ) (expr_variable p n e)
 
-  pub constant_scope : kind_at p n ≡ 17 → scope_e Γ (expr_at p n) ≡ Nowhere
+  pub constant_scope : kind_at p n ≡ 17 → scope_e Γ (expr_at p n) ≡ None
   unfolding scope_e
   constant_scope e = ap (scope_e Γ) (expr_constant p n e)
 
@@ -55,23 +54,23 @@ module _ (p : Bytes) (n : ℕ) (w : NodeOf is_expression p n) (Γ : Marks) where
       let k = operation_kids p n w o in
       ap (scope_e Γ) (expr_operation p n o.no16 o.no17 o.no24 o.no27 o.no28 o.no29 k.0.less k.1.less)
 
-  pub variable_parts : {a : ℕ} {t : Bool} {q : Place} → kind_at p n ≡ 16 → a ≡ a_at p n → t ≡ is_marked Γ a → q ≡ wrong_unless t n → q ≡ scope_e Γ (expr_at p n)
+  pub variable_parts : {a : ℕ} {t : Bool} {q : Option ℕ} → kind_at p n ≡ 16 → a ≡ a_at p n → t ≡ is_marked Γ a → q ≡ wrong_unless t n → q ≡ scope_e Γ (expr_at p n)
   variable_parts k ea ht hq = cc (variable_scope k)
 
-  pub one_part : {a : ℕ} {q : Place} → scope_e Γ (expr_at p n) ≡ scope_e Γ (expr_at p (a_at p n)) → a ≡ a_at p n → q ≡ scope_e Γ (expr_at p a) → q ≡ scope_e Γ (expr_at p n)
+  pub one_part : {a : ℕ} {q : Option ℕ} → scope_e Γ (expr_at p n) ≡ scope_e Γ (expr_at p (a_at p n)) → a ≡ a_at p n → q ≡ scope_e Γ (expr_at p a) → q ≡ scope_e Γ (expr_at p n)
   one_part e ea hq = cc
 
-  pub operation_parts : {a b : ℕ} {x y q : Place} {Γ' : Marks} → IsOperation (kind_at p n) → a ≡ a_at p n → b ≡ b_at p n
+  pub operation_parts : {a b : ℕ} {x y q : Option ℕ} {Γ' : Marks} → IsOperation (kind_at p n) → a ≡ a_at p n → b ≡ b_at p n
       → x ≡ scope_e Γ (expr_at p a) → Γ' ≡ Γ → y ≡ scope_e Γ' (expr_at p b) → q ≡ sooner x y
       → q ≡ scope_e Γ (expr_at p n)
   operation_parts o ea eb hx m hy hq = cc (operation_scope o)
 
-  pub choice_parts : {a b c : ℕ} {x y z v q : Place} {Γ' Γ'' : Marks} → kind_at p n ≡ 27 → a ≡ a_at p n → b ≡ b_at p n → c ≡ c_at p n
+  pub choice_parts : {a b c : ℕ} {x y z v q : Option ℕ} {Γ' Γ'' : Marks} → kind_at p n ≡ 27 → a ≡ a_at p n → b ≡ b_at p n → c ≡ c_at p n
       → x ≡ scope_e Γ (expr_at p a) → Γ' ≡ Γ → y ≡ scope_e Γ' (expr_at p b) → Γ'' ≡ Γ' → z ≡ scope_e Γ'' (expr_at p c)
       → v ≡ sooner y z → q ≡ sooner x v → q ≡ scope_e Γ (expr_at p n)
   choice_parts k ea eb ec hx m hy m' hz hv hq = cc (choice_scope k)
 
-  pub taking_parts : {a b c : ℕ} {x y z v q : Place} {Γ' Γ'' : Marks} → kind_at p n ≡ 29 → a ≡ a_at p n → b ≡ b_at p n → c ≡ c_at p n
+  pub taking_parts : {a b c : ℕ} {x y z v q : Option ℕ} {Γ' Γ'' : Marks} → kind_at p n ≡ 29 → a ≡ a_at p n → b ≡ b_at p n → c ≡ c_at p n
       → x ≡ scope_e Γ (expr_at p a) → Γ' ≡ Γ → y ≡ scope_e Γ' (expr_at p b) → Γ'' ≡ Γ' → z ≡ scope_e (mark Γ'' n) (expr_at p c)
       → v ≡ sooner y z → q ≡ sooner x v → q ≡ scope_e Γ (expr_at p n)
   taking_parts k ea eb ec hx m hy m' hz hv hq = cc (taking_scope k)

@@ -1,5 +1,6 @@
 -- The scope of a signal of each kind, of a list of branches and of a list of cases.
 -- Assumes nothing.
+use Rattle.std.specs.Prelude.{None}
 use mathlib.Core.Path.{◌≡◌, refl, sym, ap, ◌∙◌}
 use mathlib.Core.List.{List, [], ◌∷◌}
 use mathlib.Core.Bool.{Bool, true, false}
@@ -11,7 +12,6 @@ use Rattle.rules.specs.Bytes.{Bytes, ◌and◌, ◌or◌}
 use Rattle.rules.specs.Layout.{kind_at, a_at, b_at, c_at}
 use Rattle.rules.specs.Kinds.{is_signal, is_branch, is_case}
 use Rattle.rules.specs.Places.{sooner, wrong_unless}
-use Rattle.rules.specs.declared.Place.TheVariants.{Nowhere}
 use Rattle.rules.specs.Tree.{expr_at, signal_at, branches_at, cases_at, no_branch, no_case}
 use Rattle.rules.specs.Scope.{Marks, Offers, mark, onward, is_offered, scope_e, scope_s, scope_b, scope_c}
 use Rattle.rules.proofs.Static.{and_both}
@@ -21,7 +21,7 @@ use Rattle.rules.proofs.Signals.{less, ext_kid, delay_kid, let_kids, switch_kids
 
 module _ (ed : ℕ) (p : Bytes) (n : ℕ) (w : NodeOf is_branch p n) where
   pub branch_last_scope : (Γ : Marks) (Δ : Offers) → b_at p n ≡ 65535
-      → scope_b ed Γ Δ (branches_at p n) ≡ sooner (scope_s ed (mark Γ n) Δ (signal_at p (a_at p n))) Nowhere
+      → scope_b ed Γ Δ (branches_at p n) ≡ sooner (scope_s ed (mark Γ n) Δ (signal_at p (a_at p n))) None
   unfolding scope_b
   branch_last_scope Γ Δ e =
       ap (scope_b ed Γ Δ) (branch_law p n w (below_ge n no_branch (branches_at p) (b_at p n) (omega (arith, w.inside, w.shaped.small))))
@@ -34,7 +34,7 @@ module _ (ed : ℕ) (p : Bytes) (n : ℕ) (w : NodeOf is_branch p n) where
 
 module _ (ed : ℕ) (p : Bytes) (n : ℕ) (w : NodeOf is_case p n) (Γ : Marks) (Δ : Offers) where
   pub case_last_scope : b_at p n ≡ 65535
-      → scope_c ed Γ Δ (cases_at p n) ≡ sooner (wrong_unless (is_offered (c_at p n) Δ) n) (sooner (scope_s ed Γ [] (signal_at p (a_at p n))) Nowhere)
+      → scope_c ed Γ Δ (cases_at p n) ≡ sooner (wrong_unless (is_offered (c_at p n) Δ) n) (sooner (scope_s ed Γ [] (signal_at p (a_at p n))) None)
   unfolding scope_c
   case_last_scope e =
       ap (scope_c ed Γ Δ) (case_law p n w (below_ge n no_case (cases_at p) (b_at p n) (omega (arith, w.inside, w.shaped.small))))
@@ -76,7 +76,7 @@ module _ (ed : ℕ) (p : Bytes) (n : ℕ) (w : NodeOf is_signal p n) (Γ : Marks
   unfolding scope_s
   until_scope e = let k = until_kids p n w e in ap (scope_s ed Γ Δ) (signal_until p n e k.0.less k.1.less)
 
-  one_or_two : (b : Bool) → eqb (kind_at p n) 1 ≡ b → 1 ≤ kind_at p n → kind_at p n ≤ 2 → scope_s ed Γ Δ (signal_at p n) ≡ Nowhere
+  one_or_two : (b : Bool) → eqb (kind_at p n) 1 ≡ b → 1 ≤ kind_at p n → kind_at p n ≤ 2 → scope_s ed Γ Δ (signal_at p n) ≡ None
   unfolding scope_s
   one_or_two true q l u = ap (scope_s ed Γ Δ) (signal_input p n (eqb-true _ _ q))
   one_or_two false q l u = ap (scope_s ed Γ Δ) (signal_time p n (two (kind_at p n) q l u))
@@ -87,7 +87,7 @@ module _ (ed : ℕ) (p : Bytes) (n : ℕ) (w : NodeOf is_signal p n) (Γ : Marks
   -- Input and time.
   pub leaf_scope : {A : Type 0} {m : ℕ} → m ≡ kind_at p n
       → ((((((A × (m ≡ 3 → ⊥)) × (m ≡ 4 → ⊥)) × (m ≡ 5 → ⊥)) × (m ≡ 6 → ⊥)) × (m ≡ 7 → ⊥)) × (m ≡ 8 → ⊥))
-      → scope_s ed Γ Δ (signal_at p n) ≡ Nowhere
+      → scope_s ed Γ Δ (signal_at p n) ≡ None
   unfolding is_signal
   leaf_scope e r =
       let b = and_both _ _ w.sorted in

@@ -15,7 +15,6 @@ ghost use Rattle.scope.specs.Doors.{Doors};
 
 use cells::{index_branches, kind_of, number_of};
 use places::{NOWHERE, place, sooner, wrong_unless};
-use rules::Place;
 use table::{LAST, node};
 
 // Whether binder n is marked; by the whole array as a slice, whose length is told in the proof.
@@ -257,7 +256,7 @@ fn scope_c(
 }
 
 // The smallest variable or case out of scope, of a program whose root is a signal: above it no binder is marked, and no group is left for.
-pub fn scope_fault(p: &[u8], count: usize) -> Place
+pub fn scope_fault(p: &[u8], count: usize) -> Option<u32>
     requires { (count ≡ nodes p.now) × (0 < count) × NodeOf is_signal p.now (count - 1) × ListedOnce p.now }
     ensures { result ≡ scope_fault p.now }
 {

@@ -1,24 +1,18 @@
 -- The search of a name among the rows.
 -- Assumes nothing.
-use Rattle.std.specs.Prelude.{if◌then◌else◌}
 use mathlib.Core.Path.{◌≡◌, refl, sym, ap, ◌∙◌}
-use mathlib.Core.Bool.{Bool, true, false, not}
-use mathlib.Core.List.{List, []}
+use mathlib.Core.Bool.{Bool, true, false}
+use mathlib.Core.List.{List}
 use Prim.Native.Nat.{ℕ, zero, suc, ◌+◌, ◌-◌, ◌*◌, ◌%◌, ◌≤◌, ◌<◌}
 use native.Mathlib.Omega.{arith}
-use lib.Dec.{ltb, leb}
-use lib.ListN.{length, get_or, take, drop}
-use borrow.Author.Tests.{eq-eqb, ne_eqb, ltb-true, ltb-false, leb-true, leb-false}
-use Rattle.rules.specs.Bytes.{Bytes, ◌and◌}
-use Rattle.texts.specs.Tokens.{part}
+use lib.ListN.{get_or}
+use borrow.Author.Tests.{eq-eqb, ne_eqb}
+use Rattle.rules.specs.Bytes.{Bytes}
 use Rattle.texts.specs.Spelled.{same}
 use Rattle.texts.specs.Resolved.{number_of, binder_of, branch_of}
 use Rattle.labels.specs.Noted.{named_by}
-use Rattle.spell.proofs.NumberLaws.{and_left, and_right}
-use Rattle.spell.proofs.PartLaws.{part_length, same_lengths}
-use Rattle.labels.proofs.NoteLaws.{named_part, named_long}
 use Rattle.sealing.specs.Scratch.{count_in, column_of, name_in, row_in, rows_of, rows_in}
-use Rattle.sealing.specs.Found.{is_word, found_from, found_in, settled_in}
+use Rattle.sealing.specs.Found.{found_from, found_in, settled_in}
 
 module _ (w text : Bytes) (s : List ℕ) (k : ℕ) where
   pub found_start : found_in w text s k ≡ found_from w text s k (count_in s - 0) 0
@@ -85,47 +79,3 @@ module _ (text : Bytes) (s : List ℕ) (j kind k number : ℕ) {x : ℕ} (e : x 
   settled_own f q =
       q ∙ ap (λ (m : ℕ). found_in (named_by text (column_of s j 10) (get_or s m 0)) text s k) (let z : 13 * j + 14 + 11 ≡ 13 * j + 14 + 10 + 1 = omega arith in z)
       ∙ sym (rw (eq-eqb (column_of s j 0 % 256) kind (sym of_kind ∙ f), settled_in) refl)
-
--- Two numbers that are for a name, or not.
-no_part : {p : Bytes} (b : Bool) → p ≡ [] → (if b then p else []) ≡ []
-no_part true e = e
-no_part false e = refl
-
-module _ (text : Bytes) (start end : ℕ) where
-  pub word_there : {b : Bool} → b ≡ is_word text start end → b ≡ true → (start < end) × (end ≤ length text)
-  unfolding is_word
-  word_there e t =
-      let q : (ltb start end and leb end (length text)) ≡ true = sym e ∙ t in
-      (ltb-true start end (and_left _ _ q), leb-true end (length text) (and_right _ _ q))
-
-  nothing_there : end ≤ start → named_by text start end ≡ []
-  unfolding named_by part
-  nothing_there h =
-      no_part (leb start end and leb end (length text)) (ap (λ (m : ℕ). take m (drop start text)) (let z : end - start ≡ 0 = omega arith in z))
-
-  by : (x y : Bool) → ltb start end ≡ x → leb end (length text) ≡ y → (x and y) ≡ false → named_by text start end ≡ []
-  unfolding ◌and◌
-  by true true h k q = absurd (let z : ◌≡◌ {A = ℕ} 0 1 = cc in omega arith)
-  by true false h k q = named_long text start end (omega (arith, ltb-true start end h)) (leb-false end (length text) k)
-  by false y h k q = nothing_there (ltb-false start end h)
-
-  pub word_none : {b : Bool} → b ≡ is_word text start end → b ≡ false → named_by text start end ≡ []
-  unfolding is_word
-  word_none e f = by (ltb start end) (leb end (length text)) refl refl (sym e ∙ f)
-
-pub word_alike : (text : Bytes) (start end : ℕ) (v : Bytes) {b : Bool} → (start < end) × (end ≤ length text) → b ≡ same (part text start end) v
-    → b ≡ same (named_by text start end) v
-word_alike text start end v h e = e ∙ ap (λ (w : Bytes). same w v) (sym (named_part text start end (omega (arith, h.0)) h.1))
-
--- No name is only no name.
-module _ (text : Bytes) (begin stop : ℕ) (w : Bytes) (none : w ≡ []) where
-  another : (b : Bool) → b ≡ is_word text begin stop → not b ≡ same [] (named_by text begin stop)
-  unfolding same
-  another true e =
-      let h = word_there text begin stop e refl in
-      sym (same_lengths [] (named_by text begin stop) (λ q.
-      let y : 0 ≡ stop - begin = q ∙ ap length (named_part text begin stop (omega (arith, h.0)) h.1) ∙ part_length text begin stop h.1 in omega (arith, h.0)))
-  another false e = sym (ap (same []) (word_none text begin stop e refl))
-
-  pub none_alike : {b : Bool} → b ≡ is_word text begin stop → not b ≡ same w (named_by text begin stop)
-  none_alike {b} e = another b e ∙ ap (λ (v : Bytes). same v (named_by text begin stop)) (sym none)

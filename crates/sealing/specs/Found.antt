@@ -1,15 +1,11 @@
 -- What a name in the scratch is for, and the records of the rows.
 -- Assumes nothing: these are definitions.
-use Rattle.std.specs.Prelude.{ℕ, zero, suc, ◌+◌, ◌%◌, List, map, Bool, true, false, eqb, ltb, leb, length}
-use Rattle.rules.specs.Bytes.{Bytes, ◌and◌}
+use Rattle.std.specs.Prelude.{ℕ, zero, suc, ◌+◌, ◌%◌, List, map, true, false, eqb}
+use Rattle.rules.specs.Bytes.{Bytes}
 use Rattle.rules.specs.declared.Node.{Node}
 use Rattle.texts.specs.Spelled.{same}
 use Rattle.texts.specs.Resolved.{record_of}
 use Rattle.sealing.specs.Scratch.{count_in, column_of, name_in, rows_in}
-
--- Two numbers that are for a name in the text.
-unfoldable pub is_word : Bytes → ℕ → ℕ → Bool
-is_word text start end = ltb start end and leb end (length text)
 
 -- The number of the first of so many rows, from row j on, whose name at column k is a word; 0 if there is none.
 unfoldable pub found_from : Bytes → Bytes → List ℕ → ℕ → ℕ → ℕ → ℕ

@@ -5,49 +5,27 @@ ghost use Rattle.std.specs.Prelude.{◌≡◌, ◌+◌, ◌*◌, ◌%◌, ◌≤
 ghost use Rattle.rules.specs.Bytes.{write_at};
 ghost use Rattle.written.specs.Table.{block_of};
 ghost use Rattle.tidy.specs.Record.{row_from, rows_from};
-ghost use Rattle.texts.specs.Spelled.{same};
 ghost use Rattle.texts.specs.Resolved.{blocks_of};
 ghost use Rattle.labels.specs.Noted.{named_by};
 ghost use Rattle.sealing.specs.Scratch.{count_in, rows_in};
-ghost use Rattle.sealing.specs.Found.{is_word, found_in, settled_in, records_in};
+ghost use Rattle.sealing.specs.Found.{found_in, settled_in, records_in};
 
 use cells::{put, put32};
 use format::check_sum;
-use kinds::both;
-use labels::is_same;
+use labels::named;
 use rules::Node;
 use tidy::put_row;
-
-// Two numbers are for a name in the text.
-fn is_word(text: &[u8], start: usize, end: usize) -> bool
-    ensures { result ≡ is_word text.now start end }
-{
-    both(start < end, end <= text.len())
-}
-
-// Two names are the same, where numbers that are for no name are for none.
-fn is_alike(text: &[u8], start: usize, end: usize, begin: usize, stop: usize) -> bool
-    ensures { result ≡ same (named_by text.now start end) (named_by text.now begin stop) }
-{
-    if is_word(text, start, end) {
-        return is_same(text, start, end, begin, stop);
-    }
-    !is_word(text, begin, stop)
-}
 
 // The number of the first row whose name at a column is the one between two numbers; 0 if there is none.
 fn row_named(text: &[u8], rows: &[usize; 13118], column: usize, start: usize, end: usize) -> usize
     requires { (count_in rows.now ≤ 1008) × (column < 12) }
     ensures { result ≡ found_in (named_by text.now start end) text.now rows.now column }
 {
-    let count = rows[1];
-    let mut j = 0;
-    while j < count {
+    for j in 0..rows[1] {
         let at = 13 * j + 14 + column;
-        if is_alike(text, start, end, rows[at], rows[at + 1]) {
+        if named(text, start, end) == named(text, rows[at], rows[at + 1]) {
             return j;
         }
-        j += 1;
     }
     0
 }
@@ -116,11 +94,9 @@ fn put_rows(text: &[u8], rows: &[usize; 13118], room: &mut [u8], at: usize, firs
     requires { (count_in rows.now ≤ 1008) × (at + 504 ≤ length room.old) × (first ≤ 1008) }
     ensures { room.new ≡ write_at room.old at (rows_from 42 (records_in text.now rows.now) first) }
 {
-    let mut r: usize = 0;
-    while r < 42 {
+    for r in 0..42 {
         let n = record_at(text, rows, first + r);
         put_row(room, at + 12 * r, n);
-        r += 1;
     }
 }
 
@@ -151,10 +127,8 @@ pub fn put_blocks(text: &[u8], rows: &[usize; 13118], edition: usize, room: &mut
     ensures { (result ≡ length (blocks_of edition (rows_in text.now rows.now))) × (room.new ≡ write_at room.old 0 (blocks_of edition (rows_in text.now rows.now))) }
 {
     let blocks = (rows[1] + 41) / 42;
-    let mut j: usize = 0;
-    while j < blocks {
+    for j in 0..blocks {
         put_block(text, rows, edition, room, blocks, j);
-        j += 1;
     }
     512 * blocks
 }

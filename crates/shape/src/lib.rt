@@ -9,7 +9,7 @@ ghost use Rattle.rules.specs.Shape.{is_child, may_be, may_stop, child_wrong, chi
 ghost use Rattle.shape.specs.Counts.{more as moreOf, counted as countedOf, counted_in, marked_to, mark_of, last_wrong, Sized};
 
 use kinds::{a_in, b_in, both, c_in, either, is_child, is_signal, may_be, may_stop, row_of};
-use rules::{Field, Place};
+use rules::Field;
 use table::{LAST, node};
 
 // The child x that a field of node i names is out of range or of the wrong sort.
@@ -77,13 +77,11 @@ fn count_all(p: &[u8], counts: &mut [u8], count: usize) -> bool
     ensures { (counts.new ≡ marked_to p.now counts.old count) × (result ≡ last_wrong p.now count) }
 {
     let mut wrong = false;
-    let mut m: usize = 0;
-    while m < count {
+    for m in 0..count {
         wrong = children(p, counts, m);
         if wrong {
             counts[m] = 2;
         }
-        m += 1;
     }
     wrong
 }
@@ -101,18 +99,16 @@ fn shape_wrong(p: &[u8], i: usize, count: usize, mark: u8, last: bool) -> bool
 }
 
 // The first node whose shape is wrong.
-pub fn first_shape(p: &[u8], count: usize) -> Place
+pub fn first_shape(p: &[u8], count: usize) -> Option<u32>
     requires { Sized p.now count }
     ensures { result ≡ first (shape_wrong p.now) (nodes p.now) }
 {
     let mut counts: [u8; 1008] = [0; 1008];
     let last = count_all(p, &mut counts, count);
-    let mut j: usize = 0;
-    while j < count {
+    for j in 0..count {
         if shape_wrong(p, j, count, counts[j], last) {
-            return Place::At(j as u32);
+            return Some(j as u32);
         }
-        j += 1;
     }
-    Place::Nowhere
+    None
 }

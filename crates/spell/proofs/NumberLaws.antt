@@ -6,15 +6,17 @@ use mathlib.Core.List.{[], ◌∷◌}
 use Prim.Native.Nat.{ℕ, ◌+◌, ◌-◌, ◌*◌, ◌≤◌, ◌<◌}
 use native.Mathlib.Omega.{arith}
 use lib.Dec.{leb}
-use lib.ListN.{length, get_or}
+use lib.ListN.{length, get_or, drop, drop_of_length-le, take}
+use Rattle.std.proofs.lemmas.List.{take_all}
+use lib.Seq.{drop-cons}
+use native.Mathlib.Numerals.{add-one}
 use borrow.Author.Tests.{le-leb, lt-leb, leb-true, leb-false, eq-eqb, ne_eqb}
 use Rattle.texts.proofs.Gives.{false≢true}
 use Rattle.rules.specs.Bytes.{Bytes, ◌and◌}
 use Rattle.texts.specs.Spelling.{is_digit}
 use Rattle.texts.specs.Numerals.{are_digits, is_natural, is_negative, magnitude_of, is_number, read_on, size_of, in_range, word_of}
-use Rattle.texts.specs.Tokens.{part}
-use Rattle.spell.specs.declared.Number.TheVariants.{Other}
-use Rattle.spell.proofs.PartLaws.{part_next, part_none}
+use Rattle.std.specs.Prelude.{Err}
+use Rattle.spell.specs.declared.NumberFault.TheVariants.{Other}
 use Rattle.spell.specs.Vocabulary.{capped, number_of, digits_in, number_in}
 
 -- Reading on makes no number smaller.
@@ -51,22 +53,25 @@ unfolding is_digit
 digit_most b e = leb-true b 57 (and_right (leb 48 b) (leb b 57) e)
 
 -- Digits from a position on: the first of them, and what they come to.
-module _ (s : Bytes) (i e : ℕ) (h : i < e) (l : e ≤ length s) where
-  pub first_digit : are_digits (part s i e) ≡ true → is_digit (get_or s i 0) ≡ true
-  unfolding are_digits
-  first_digit d = and_left _ _ (ap are_digits (sym (part_next s i e h l)) ∙ d)
+module _ (w : Bytes) (i : ℕ) where
+  ahead : i < length w → drop i w ≡ get_or w i 0 ∷ drop (i + 1) w
+  ahead h = drop-cons w i 0 h ∙ ap (λ (k : ℕ). get_or w i 0 ∷ drop k w) (sym (add-one i))
 
-  pub later_digits : are_digits (part s i e) ≡ true → are_digits (part s (i + 1) e) ≡ true
+  pub first_digit : i < length w → are_digits (drop i w) ≡ true → is_digit (get_or w i 0) ≡ true
   unfolding are_digits
-  later_digits d = and_right _ _ (ap are_digits (sym (part_next s i e h l)) ∙ d)
+  first_digit h d = and_left _ _ (ap are_digits (sym (ahead h)) ∙ d)
 
-  pub read_next : (x : ℕ) → read_on x (part s i e) ≡ read_on (10 * x + (get_or s i 0 - 48)) (part s (i + 1) e)
+  pub later_digits : i < length w → are_digits (drop i w) ≡ true → are_digits (drop (i + 1) w) ≡ true
+  unfolding are_digits
+  later_digits h d = and_right _ _ (ap are_digits (sym (ahead h)) ∙ d)
+
+  pub read_next : i < length w → (x : ℕ) → read_on x (drop i w) ≡ read_on (10 * x + (get_or w i 0 - 48)) (drop (i + 1) w)
   unfolding read_on
-  read_next x = ap (read_on x) (part_next s i e h l)
+  read_next h x = ap (read_on x) (ahead h)
 
-pub read_done : (s : Bytes) (x i e : ℕ) → e ≤ i → read_on x (part s i e) ≡ x
-unfolding read_on
-read_done s x i e h = ap (read_on x) (part_none s i e h)
+  pub read_done : length w ≤ i → (x : ℕ) → read_on x (drop i w) ≡ x
+  unfolding read_on
+  read_done h x = ap (read_on x) (drop_of_length-le w h)
 
 -- A capped size gives the same number.
 pub capped_same : (negative : Bool) (n : ℕ) → number_of negative (capped n) ≡ number_of negative n
@@ -81,35 +86,38 @@ capped_same negative n = go (leb n 2147483648) refl
     go true q = ap (number_of negative) (capped_small n (leb-true n 2147483648 q))
     go false q = ap (number_of negative) (capped_large n (leb-false n 2147483648 q)) ∙ over negative (leb-false n 2147483648 q)
 
--- Digits as a number.
-module _ (s : Bytes) (negative : Bool) (i e : ℕ) (h : i < e) (l : e ≤ length s) where
-  natural : is_natural (part s i e) ≡ are_digits (part s i e)
-  unfolding is_natural
-  natural = ap is_natural (part_next s i e h l) ∙ ap are_digits (sym (part_next s i e h l))
+-- Digits, one or more.
+pub natural_digits : (w : Bytes) → is_natural w ≡ true → are_digits w ≡ true
+unfolding is_natural
+natural_digits [] e = absurd (false≢true e)
+natural_digits (b ∷ w) e = e
 
-  pub digits_not : are_digits (part s i e) ≡ false → digits_in negative (part s i e) ≡ Other
-  unfolding digits_in
-  digits_not d = rw (natural ∙ d) refl
+pub natural_none : (w : Bytes) → length w ≤ 0 → is_natural w ≡ false
+unfolding is_natural
+natural_none [] h = refl
+natural_none (b ∷ w) h = absurd (omega arith)
 
-  pub digits_are : are_digits (part s i e) ≡ true → digits_in negative (part s i e) ≡ number_of negative (read_on 0 (part s i e))
-  unfolding digits_in
-  digits_are d = rw (natural ∙ d) refl
+pub natural_some : (w : Bytes) → 0 < length w → is_natural w ≡ are_digits w
+unfolding is_natural
+natural_some [] h = absurd (omega arith)
+natural_some (b ∷ w) h = refl
 
 -- A word as a number: a sign or none, and digits.
 number_parts : (w : Bytes) → number_in w ≡ digits_in (is_negative w) (magnitude_of w)
 unfolding number_in is_number digits_in number_of in_range word_of size_of
 number_parts w = refl
 
-module _ (s : Bytes) (a e : ℕ) (h : a < e) (l : e ≤ length s) where
-  pub number_minus : get_or s a 0 ≡ 45 → number_in (part s a e) ≡ digits_in true (part s (a + 1) e)
-  unfolding is_negative magnitude_of
-  number_minus d = ap number_in (part_next s a e h l) ∙ number_parts _ ∙ rw (eq-eqb (get_or s a 0) 45 d) refl
+pub number_minus : (w : Bytes) → 0 < length w → get_or w 0 0 ≡ 45 → number_in w ≡ digits_in true (take (length w - 1) (drop 1 w))
+unfolding is_negative magnitude_of
+number_minus [] h d = absurd (omega arith)
+number_minus (b ∷ w) h d = number_parts (b ∷ w) ∙ rw (eq-eqb b 45 d) (ap (digits_in true) (sym (take_all _ w (omega arith))))
 
-  pub number_plain : (get_or s a 0 ≡ 45 → ⊥) → number_in (part s a e) ≡ digits_in false (part s a e)
-  unfolding is_negative magnitude_of
-  number_plain d =
-      ap number_in (part_next s a e h l) ∙ number_parts _ ∙ rw (ne_eqb (get_or s a 0) 45 d) (ap (digits_in false) (sym (part_next s a e h l)))
+pub number_plain : (w : Bytes) → 0 < length w → (get_or w 0 0 ≡ 45 → ⊥) → number_in w ≡ digits_in false w
+unfolding is_negative magnitude_of
+number_plain [] h d = absurd (omega arith)
+number_plain (b ∷ w) h d = number_parts (b ∷ w) ∙ rw (ne_eqb b 45 d) refl
 
-pub no_number : number_in [] ≡ Other
+pub no_number : (w : Bytes) → length w ≤ 0 → number_in w ≡ Err Other
 unfolding number_in is_number is_natural magnitude_of
-no_number = refl
+no_number [] h = refl
+no_number (b ∷ w) h = absurd (omega arith)

@@ -1,5 +1,6 @@
 -- The list of the form's words, and which of them a word is.
 -- Assumes nothing.
+use Rattle.std.specs.Prelude.{Option, Some, None, ℕ}
 use mathlib.Core.Path.{◌≡◌, refl, sym, ap, ◌∙◌}
 use mathlib.Core.Bool.{Bool, true, false, not}
 use mathlib.Core.List.{List, [], ◌∷◌}
@@ -7,18 +8,15 @@ use Prim.Native.Nat.{ℕ, zero, suc, ◌+◌, ◌-◌, ◌≤◌, ◌<◌}
 use native.Mathlib.Omega.{arith}
 use lib.Dec.{ltb, leb}
 use lib.ListN.{length, get_or}
-use borrow.Author.Tests.{ltb-true, ltb-false, lt-ltb, le-ltb, le-leb, lt-leb}
+use borrow.Author.Tests.{ltb-true, ltb-false, lt-ltb, le-ltb}
 use Rattle.rules.specs.Bytes.{Bytes, first, first_from, ◌and◌, ◌or◌}
-use Rattle.rules.specs.declared.Place.{Place}
-use Rattle.rules.specs.declared.Place.TheVariants.{At, Nowhere}
 use Rattle.texts.specs.Spelled.{spelled, same}
 use Rattle.texts.specs.Spelling.{kind_word, type_word, true_word, false_word, some_word, none_word, edition_word, edition_named, is_kept, is_letter, are_name_bytes, is_name}
 use Rattle.texts.proofs.Gives.{false≢true}
 use Rattle.texts.proofs.KindTests.{all_below, passes}
-use Rattle.texts.specs.Tokens.{part}
-use lib.ListN.{drop}
-use Rattle.spell.specs.Vocabulary.{listed, counted, IsPart}
-use Rattle.spell.proofs.PartLaws.{part_length, part_byte, same_lengths, same_next, same_not, same_ended}
+use lib.ListN.{drop, take}
+use Rattle.spell.specs.Vocabulary.{listed, counted}
+use Rattle.spell.proofs.PartLaws.{and_false}
 
 -- No word of the form is longer than 15 bytes.
 pub short : (row : ℕ) → row < 44 → length (listed row) < 16
@@ -44,17 +42,17 @@ unfolding listed
 type_row t h =
     rw (le-ltb (t + 30) 30 (omega arith), lt-ltb (t + 30) 38 (omega arith)) (ap type_word (let z : t + 30 - 30 ≡ t = omega arith in z))
 
-pub data Found : Place → Type 0 where
-  found : (k : ℕ) → Found (At k)
+pub data Found : Option ℕ → Type 0 where
+  found : (k : ℕ) → Found (Some k)
 
 -- A search that finds nothing, and one that finds something.
 module _ (test : ℕ → Bool) (count : ℕ) where
-  none_from : (j : ℕ) (left : ℕ) → j + left ≡ count → ((k : ℕ) → k < count → test k ≡ false) → first_from test j left ≡ Nowhere
+  none_from : (j : ℕ) (left : ℕ) → j + left ≡ count → ((k : ℕ) → k < count → test k ≡ false) → first_from test j left ≡ None
   unfolding first_from
   none_from j zero e h = refl
   none_from j (suc left) e h = rw (h j (omega arith), first_from) (none_from (suc j) left (omega arith) h)
 
-  pub first_none : ((k : ℕ) → k < count → test k ≡ false) → first test count ≡ Nowhere
+  pub first_none : ((k : ℕ) → k < count → test k ≡ false) → first test count ≡ None
   unfolding first
   first_none h = none_from 0 count (omega arith) h
 
@@ -67,7 +65,7 @@ module _ (test : ℕ → Bool) (count : ℕ) where
       above : (j ≡ k → ⊥) → suc j ≤ k
       above d = omega arith
 
-      go : (b : Bool) → test j ≡ b → (test j ≡ false → Found (first_from test (suc j) left)) → Found (elim b [ true ↦ At j | false ↦ first_from test (suc j) left ])
+      go : (b : Bool) → test j ≡ b → (test j ≡ false → Found (first_from test (suc j) left)) → Found (elim b [ true ↦ Some j | false ↦ first_from test (suc j) left ])
       go true q f = found j
       go false q f = f q
 
@@ -105,49 +103,47 @@ row_byte row i d h k =
     ap (λ (w : Bytes). get_or w i 0) (rows_at 0 44 row d h ∙ ap (λ (m : ℕ). spread 16 (counted (listed m))) (let z : 0 + row ≡ row = omega arith in z))
     ∙ spread_byte 16 (counted (listed row)) i k
 
--- A part of a text and the word of a row: their lengths, then byte by byte. (n is the word's length, x its byte i.)
-module _ (s : Bytes) (a e row n : ℕ) (p : IsPart s a e) (size : n ≡ length (listed row)) where
-  pub spells_never : (e - a ≡ n → ⊥) → same (part s a e) (listed row) ≡ false
-  spells_never d = same_lengths (part s a e) (listed row) (λ q. d (sym (part_length s a e p.1) ∙ q ∙ sym size))
+-- The word of a row, behind its length.
+take_spread : (n : ℕ) (w : Bytes) → length w ≤ n → take (length w) (spread n w) ≡ w
+unfolding spread
+take_spread n [] h = refl
+take_spread zero (b ∷ w) h = absurd (omega arith)
+take_spread (suc n) (b ∷ w) h = ap (λ (v : Bytes). b ∷ v) (take_spread n w (omega arith))
 
-  module _ (fit : e - a ≡ n) (i : ℕ) where
-    in_part : i < n → i < length (part s a e)
-    in_part h = rw (part_length s a e p.1) (omega arith)
+word_within : (w : Bytes) → length w < 16 → take (length w + 1 - 1) (drop 1 (spread 16 (counted w))) ≡ w
+unfolding spread counted
+word_within w h = ap (λ (n : ℕ). take n (spread 15 w)) (let z : length w + 1 - 1 ≡ length w = omega arith in z) ∙ take_spread 15 w (omega arith)
 
-    in_word : i < n → i < length (listed row)
-    in_word h = omega (arith, size)
-
-    module _ (x : ℕ) (h : i < n) (l : x ≡ get_or (counted (listed row)) (i + 1) 32) where
-      x_is : x ≡ get_or (listed row) i 0
-      x_is = l ∙ letter_is (listed row) i (in_word h)
-
-      b_is : get_or (part s a e) i 0 ≡ get_or s (a + i) 0
-      b_is = part_byte s a e i (omega arith)
-
-      pub spells_not : (get_or s (a + i) 0 ≡ x → ⊥) → same (drop i (part s a e)) (drop i (listed row)) ≡ false
-      spells_not d = same_not (part s a e) (listed row) i (in_part h) (in_word h) (λ q. d (sym b_is ∙ q ∙ sym x_is))
-
-      pub spells_next : get_or s (a + i) 0 ≡ x → same (drop i (part s a e)) (drop i (listed row)) ≡ same (drop (i + 1) (part s a e)) (drop (i + 1) (listed row))
-      spells_next q = same_next (part s a e) (listed row) i (in_part h) (in_word h) (b_is ∙ q ∙ x_is)
-
-    pub spells_done : n ≤ i → same (drop i (part s a e)) (drop i (listed row)) ≡ true
-    spells_done h = same_ended (part s a e) (listed row) i (rw (part_length s a e p.1) (omega arith)) (omega (arith, size))
+pub row_word : (row n : ℕ) (d : Bytes) → row < 44 → n ≡ length (listed row) → take (n + 1 - 1) (drop 1 (get_or (rows_from 0 44) row d)) ≡ listed row
+row_word row n d h e =
+    ap (λ (k : ℕ). take (k + 1 - 1) (drop 1 (get_or (rows_from 0 44) row d))) e
+    ∙ ap (λ (w : Bytes). take (length (listed row) + 1 - 1) (drop 1 w)) (rows_at 0 44 row d h ∙ ap (λ (m : ℕ). spread 16 (counted (listed m))) (let z : 0 + row ≡ row = omega arith in z))
+    ∙ word_within (listed row) (short row h)
 
 -- What a search tests: that a row may stand there, and that it is the word.
-pub tested : (r x y m : Bool) (w v u : Bytes) → r ≡ (x and y) → x ≡ m → y ≡ same w v → v ≡ u → r ≡ (m and same w u)
-tested r x y m w v u e₁ e₂ e₃ e₄ = e₁ ∙ ap (λ (b : Bool). b and y) e₂ ∙ ap (λ (b : Bool). m and b) (e₃ ∙ ap (same w) e₄)
+module _ (m x : Bool) (w v u : Bytes) (x_is : x ≡ same w v) (row : v ≡ u) where
+  pub tested : m ≡ true → x ≡ true → (m and same w u) ≡ true
+  unfolding ◌and◌
+  tested e f = rw e (ap (same w) (sym row) ∙ sym x_is ∙ f)
+
+  pub not_the_word : x ≡ false → (m and same w u) ≡ false
+  not_the_word f = ap (λ (b : Bool). m and b) (ap (same w) (sym row) ∙ sym x_is ∙ f) ∙ and_false m
+
+pub not_there : (m b : Bool) → m ≡ false → (m and b) ≡ false
+unfolding ◌and◌
+not_there m b e = rw e refl
 
 -- Editions.
 module _ (w : Bytes) where
-  pub edition_one : same w (listed 42) ≡ true → edition_named w ≡ At 0
+  pub edition_one : same w (listed 42) ≡ true → edition_named w ≡ Some 0
   unfolding edition_named first first_from listed
   edition_one e = rw (e, first_from) refl
 
-  pub edition_two : same w (listed 42) ≡ false → same w (listed 43) ≡ true → edition_named w ≡ At 1
+  pub edition_two : same w (listed 42) ≡ false → same w (listed 43) ≡ true → edition_named w ≡ Some 1
   unfolding edition_named first first_from listed
   edition_two d e = rw (d, e, first_from) refl
 
-  pub edition_none : same w (listed 42) ≡ false → same w (listed 43) ≡ false → edition_named w ≡ Nowhere
+  pub edition_none : same w (listed 42) ≡ false → same w (listed 43) ≡ false → edition_named w ≡ None
   unfolding edition_named first first_from listed
   edition_none d e = rw (d, e, first_from) refl
 
@@ -175,43 +171,43 @@ module _ (w : Bytes) where
   late (suc (suc (suc (suc (suc zero))))) h e = or_right _ _ e
   late (suc (suc (suc (suc (suc (suc m)))))) h e = absurd (omega arith)
 
-  kept : Place → Place → Bool
-  kept (At k) q = true
-  kept Nowhere (At t) = true
-  kept Nowhere Nowhere = others
+  kept : Option ℕ → Option ℕ → Bool
+  kept (Some k) q = true
+  kept None (Some t) = true
+  kept None None = others
 
   kept_is : is_kept w ≡ kept (first (λ k. same w (kind_word k)) 30) (first (λ t. same w (type_word t)) 8)
   unfolding is_kept kept others
   kept_is = go (first (λ k. same w (kind_word k)) 30) (first (λ t. same w (type_word t)) 8)
     where
-      go : (p q : Place)
-          → elim p [ At k ↦ true | Nowhere ↦ elim q [ At t ↦ true | Nowhere ↦ others ] ] ≡ kept p q
-      go (At k) q = refl
-      go Nowhere (At t) = refl
-      go Nowhere Nowhere = refl
+      go : (p q : Option ℕ)
+          → elim p [ Some k ↦ true | None ↦ elim q [ Some t ↦ true | None ↦ others ] ] ≡ kept p q
+      go (Some k) q = refl
+      go None (Some t) = refl
+      go None None = refl
 
   pub kept_none : ((j : ℕ) → j < 44 → same w (listed j) ≡ false) → is_kept w ≡ false
   unfolding kept others ◌or◌ listed
   kept_none h =
       kept_is
-      ∙ ap (λ (p : Place). kept p (first (λ t. same w (type_word t)) 8)) (first_none (λ k. same w (kind_word k)) 30 (λ k l. ap (same w) (sym (kind_row k l)) ∙ h k (omega arith)))
-      ∙ ap (kept Nowhere) (first_none (λ t. same w (type_word t)) 8 (λ t l. ap (same w) (sym (type_row t l)) ∙ h (t + 30) (omega arith)))
+      ∙ ap (λ (p : Option ℕ). kept p (first (λ t. same w (type_word t)) 8)) (first_none (λ k. same w (kind_word k)) 30 (λ k l. ap (same w) (sym (kind_row k l)) ∙ h k (omega arith)))
+      ∙ ap (kept None) (first_none (λ t. same w (type_word t)) 8 (λ t l. ap (same w) (sym (type_row t l)) ∙ h (t + 30) (omega arith)))
       ∙ rw (h 38 (omega arith), h 39 (omega arith), h 40 (omega arith), h 41 (omega arith), h 42 (omega arith), h 43 (omega arith)) refl
 
-  by_kind : (p q : Place) → Found p → kept p q ≡ true
+  by_kind : (p q : Option ℕ) → Found p → kept p q ≡ true
   unfolding kept
   by_kind _ q (found k) = refl
 
-  by_type : (p q : Place) → Found q → kept p q ≡ true
+  by_type : (p q : Option ℕ) → Found q → kept p q ≡ true
   unfolding kept
-  by_type (At k) q f = refl
-  by_type Nowhere _ (found t) = refl
+  by_type (Some k) q f = refl
+  by_type None _ (found t) = refl
 
-  by_other : (p q : Place) → others ≡ true → kept p q ≡ true
+  by_other : (p q : Option ℕ) → others ≡ true → kept p q ≡ true
   unfolding kept
-  by_other (At k) q e = refl
-  by_other Nowhere (At t) e = refl
-  by_other Nowhere Nowhere e = e
+  by_other (Some k) q e = refl
+  by_other None (Some t) e = refl
+  by_other None None e = e
 
   pub kept_by : (j : ℕ) → j < 44 → same w (listed j) ≡ true → is_kept w ≡ true
   kept_by j h e = kept_is ∙ go (ltb j 30) refl (ltb j 38) refl
@@ -226,32 +222,13 @@ module _ (w : Bytes) where
           let a : 38 ≤ j = ltb-false j 38 r in
           by_other _ _ (late (j - 38) (omega arith) (ap (λ (k : ℕ). same w (listed k)) (let z : 38 + (j - 38) ≡ j = omega arith in z) ∙ e))
 
--- Names, by the tests one after the other. (b is the first byte, r the bytes behind it.)
-module _ (w r : Bytes) (b : ℕ) (e : w ≡ b ∷ r) where
-  name_is : is_name w ≡ (is_letter b and are_name_bytes r and leb (length w) 31 and not (is_kept w))
-  unfolding is_name
-  name_is = ap is_name e ∙ sym (ap (λ (v : Bytes). is_letter b and are_name_bytes r and leb (length v) 31 and not (is_kept v)) e)
-
-  pub name_long : 31 < length w → is_name w ≡ false
-  unfolding ◌and◌
-  name_long h = name_is ∙ rw (lt-leb (length w) 31 h) (go (is_letter b and are_name_bytes r))
-    where
-      go : (x : Bool) → (x and false and not (is_kept w)) ≡ false
-      go true = refl
-      go false = refl
-
-  pub name_letter : is_letter b ≡ false → is_name w ≡ false
-  unfolding ◌and◌
-  name_letter h = name_is ∙ rw h refl
-
-  pub name_bytes : is_letter b ≡ true → are_name_bytes r ≡ false → is_name w ≡ false
-  unfolding ◌and◌
-  name_bytes h k = name_is ∙ rw (h, k) refl
-
-  pub name_kept : is_letter b ≡ true → are_name_bytes r ≡ true → length w ≤ 31 → is_name w ≡ not (is_kept w)
-  unfolding ◌and◌
-  name_kept h k l = name_is ∙ rw (h, k, le-leb (length w) 31 l) refl
-
-pub no_name : is_name [] ≡ false
+-- Names, by the tests one after the other.
+pub name_parts : (w : Bytes) → 0 < length w → is_name w ≡ (is_letter (get_or w 0 0) and are_name_bytes (drop 1 w) and leb (length w) 31 and not (is_kept w))
 unfolding is_name
-no_name = refl
+name_parts [] h = absurd (omega arith)
+name_parts (b ∷ w) h = refl
+
+pub no_name : (w : Bytes) → length w ≤ 0 → is_name w ≡ false
+unfolding is_name
+no_name [] h = refl
+no_name (b ∷ w) h = absurd (omega arith)

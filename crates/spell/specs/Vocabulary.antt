@@ -1,12 +1,12 @@
 -- The words of the text form in one list, and what a number in a text comes to.
 -- Assumes nothing: these are definitions.
-use Rattle.std.specs.Prelude.{ℕ, ◌-◌, ◌%◌, ◌≤◌, ◌∷◌, Bool, eqb, ltb, leb, length, if◌then◌else◌}
-use Rattle.rules.specs.Bytes.{Bytes}
+use Rattle.std.specs.Prelude.{ℕ, ◌-◌, ◌%◌, ◌≤◌, ◌∷◌, Bool, eqb, ltb, leb, length, if◌then◌else◌, Result, Ok, Err}
+use Rattle.rules.specs.Bytes.{Bytes, ◌or◌}
 use Rattle.rules.specs.Values.{is_plain, is_type}
-use Rattle.texts.specs.Spelling.{kind_word, type_word, true_word, false_word, some_word, none_word, edition_word}
+use Rattle.texts.specs.Spelling.{kind_word, type_word, true_word, false_word, some_word, none_word, edition_word, is_letter, is_digit}
 use Rattle.texts.specs.Numerals.{is_natural, read_on, is_number, in_range, word_of}
-use Rattle.spell.specs.declared.Number.{Number}
-use Rattle.spell.specs.declared.Number.TheVariants.{Inside, Outside, Other}
+use Rattle.spell.specs.declared.NumberFault.{NumberFault}
+use Rattle.spell.specs.declared.NumberFault.TheVariants.{Outside, Other}
 
 -- The kinds' words, by kind; the types', by type and 30; the other kept words.
 unfoldable pub listed : ℕ → Bytes
@@ -36,16 +36,20 @@ unfoldable pub capped : ℕ → ℕ
 capped n = if leb n 2147483648 then n else 2147483649
 
 -- A number of a sign and a size: in two's complement, if it is in the range of 32 bits.
-unfoldable pub number_of : Bool → ℕ → Number
+unfoldable pub number_of : Bool → ℕ → Result ℕ NumberFault
 number_of negative n =
     if leb n (if negative then 2147483648 else 2147483647)
-    then Inside (if negative then (4294967296 - n) % 4294967296 else n)
-    else Outside
+    then Ok (if negative then (4294967296 - n) % 4294967296 else n)
+    else Err Outside
 
 -- Digits, behind a minus sign or without, as a number.
-unfoldable pub digits_in : Bool → Bytes → Number
-digits_in negative w = if is_natural w then number_of negative (read_on 0 w) else Other
+unfoldable pub digits_in : Bool → Bytes → Result ℕ NumberFault
+digits_in negative w = if is_natural w then number_of negative (read_on 0 w) else Err Other
 
 -- A word as a number: inside the range of 32 bits, outside of it, or no number.
-unfoldable pub number_in : Bytes → Number
-number_in w = if is_number w then if in_range w then Inside (word_of w) else Outside else Other
+unfoldable pub number_in : Bytes → Result ℕ NumberFault
+number_in w = if is_number w then if in_range w then Ok (word_of w) else Err Outside else Err Other
+
+-- A letter, a digit or a hyphen.
+unfoldable pub is_name_byte : ℕ → Bool
+is_name_byte b = is_letter b or is_digit b or eqb b 45

@@ -1,26 +1,25 @@
 // The words of a text: which word of the form a part of the text is, whether it is a name, and which number.
 #![tactic(auto)]
 
-ghost use Rattle.std.specs.Prelude.{◌≡◌, true, ◌∷◌, [], ◌≤◌, ◌<◌, length, get_or};
-ghost use Rattle.texts.specs.Tokens.{part};
+ghost use Rattle.std.specs.Prelude.{◌≡◌, true, ◌∷◌, [], ◌<◌, length, get_or};
 ghost use Rattle.texts.specs.Spelled.{same};
-ghost use Rattle.texts.specs.Spelling.{kind_named, type_named, edition_named, is_kept, is_digit, is_letter, are_name_bytes, is_name};
-ghost use Rattle.texts.specs.Numerals.{are_digits, read_on};
-ghost use Rattle.spell.specs.Vocabulary.{listed, counted, IsPart, allowed, capped, number_of, digits_in, number_in};
+ghost use Rattle.texts.specs.Spelling.{kind_named, type_named, edition_named, is_kept, is_digit, is_letter, is_name};
+ghost use Rattle.std.specs.List.{list_all};
+ghost use Rattle.texts.specs.Numerals.{are_digits, is_natural, read_on};
+ghost use Rattle.spell.specs.Vocabulary.{listed, counted, allowed, capped, number_of, digits_in, number_in, is_name_byte};
 
-use kinds::{both, either, may_be};
-use rules::{Field, Place};
+use kinds::may_be;
+use rules::Field;
 
-// A word as a number: of 32 bits, in two's complement; a number that is out of range; no number.
-#[derive(Clone, Copy)]
-pub enum Number {
-    Inside(u32),
+// Why a word is no number of 32 bits: it is out of range, or no number at all.
+#[derive(Clone, Copy, Debug, PartialEq, Eq)]
+pub enum NumberFault {
     Outside,
     Other,
 }
 
 // The words of the form: kinds, types (from row 30 on), the others (from row 38 on). Each stands behind its length.
-const ROWS: [[u8; 16]; 44] = [
+static ROWS: [[u8; 16]; 44] = [
     *b"\x00               ",
     *b"\x05input          ",
     *b"\x04time           ",
@@ -84,107 +83,73 @@ pub fn size(row: usize) -> usize
     letter(row, 0) as usize
 }
 
-// A part of the text is the word of a row.
-pub fn spells(text: &[u8], start: usize, end: usize, row: usize) -> bool
-    requires part { IsPart text.now start end }
-    requires row_bound { row < 44 }
-    ensures { result ≡ same (part text.now start end) (listed row) }
+// A word is the one of a row.
+pub fn spells(word: &[u8], row: usize) -> bool
+    requires { row < 44 }
+    ensures { result ≡ same word.now (listed row) }
 {
-    let n = size(row);
-    if end - start != n {
-        return false;
-    }
-    let mut i = 0;
-    while i < n {
-        let b = text[start + i];
-        if b != letter(row, i + 1) {
-            return false;
-        }
-        i += 1;
-    }
-    true
+    word == &ROWS[row][1..size(row) + 1]
 }
 
-// A part of the text is one byte: a parenthesis.
-pub fn is_byte(text: &[u8], start: usize, end: usize, b: u8) -> bool
-    requires { IsPart text.now start end }
-    ensures { result ≡ same (part text.now start end) (b ∷ []) }
+// A word is one byte: a parenthesis.
+pub fn is_byte(word: &[u8], b: u8) -> bool
+    ensures { result ≡ same word.now (b ∷ []) }
 {
-    if end - start != 1 {
-        return false;
-    }
-    text[start] == b
+    word == [b].as_slice()
 }
 
 // The kind that a word stands for, where a field asks for one.
-pub fn kind_named(f: Field, text: &[u8], start: usize, end: usize) -> Place
-    requires { IsPart text.now start end }
-    ensures { result ≡ kind_named f (part text.now start end) }
+pub fn kind_named(f: Field, word: &[u8]) -> Option<u32>
+    ensures { result ≡ kind_named f word.now }
 {
-    let mut k: u8 = 0;
-    while k < 30 {
-        if both(may_be(f, k), spells(text, start, end, k as usize)) {
-            return Place::At(k as u32);
+    for k in 0..30u8 {
+        if may_be(f, k) && spells(word, k as usize) {
+            return Some(k as u32);
         }
-        k += 1;
     }
-    Place::Nowhere
+    None
 }
 
 // A type that may stand where a plain one is asked for, or any.
 fn type_fits(plain: bool, t: u8) -> bool
     ensures { result ≡ allowed plain t }
 {
-    let of_plain = both(1 <= t, t <= 3);
-    if plain {
-        return of_plain;
-    }
-    either(of_plain, both(5 <= t, t <= 7))
+    matches!(t, 1..=3) || (!plain && matches!(t, 5..=7))
 }
 
 // The type that a word stands for: a plain one, or any.
-pub fn type_named(plain: bool, text: &[u8], start: usize, end: usize) -> Place
-    requires { IsPart text.now start end }
-    ensures { result ≡ type_named (allowed plain) (part text.now start end) }
+pub fn type_named(plain: bool, word: &[u8]) -> Option<u32>
+    ensures { result ≡ type_named (allowed plain) word.now }
 {
-    let mut t: u8 = 0;
-    while t < 8 {
-        if both(
-            type_fits(plain, t),
-            spells(text, start, end, t as usize + 30),
-        ) {
-            return Place::At(t as u32);
+    for t in 0..8u8 {
+        if type_fits(plain, t) && spells(word, t as usize + 30) {
+            return Some(t as u32);
         }
-        t += 1;
     }
-    Place::Nowhere
+    None
 }
 
 // The edition that a word stands for.
-pub fn edition_named(text: &[u8], start: usize, end: usize) -> Place
-    requires { IsPart text.now start end }
-    ensures { result ≡ edition_named (part text.now start end) }
+pub fn edition_named(word: &[u8]) -> Option<u32>
+    ensures { result ≡ edition_named word.now }
 {
-    if spells(text, start, end, 42) {
-        return Place::At(0);
+    if spells(word, 42) {
+        return Some(0);
     }
-    if spells(text, start, end, 43) {
-        return Place::At(1);
+    if spells(word, 43) {
+        return Some(1);
     }
-    Place::Nowhere
+    None
 }
 
 // A word of the form is no name.
-fn is_kept(text: &[u8], start: usize, end: usize) -> bool
-    requires { IsPart text.now start end }
-    ensures { result ≡ is_kept (part text.now start end) }
+fn is_kept(word: &[u8]) -> bool
+    ensures { result ≡ is_kept word.now }
 {
-    let mut row = 0;
-    while row < 44 {
-        if spells(text, start, end, row) {
+    for row in 0..44 {
+        if spells(word, row) {
             return true;
         }
-        row += 1;
     }
     false
 }
@@ -192,127 +157,107 @@ fn is_kept(text: &[u8], start: usize, end: usize) -> bool
 fn is_digit(b: u8) -> bool
     ensures { result ≡ is_digit b }
 {
-    both(48 <= b, b <= 57)
+    48 <= b && b <= 57
 }
 
 fn is_letter(b: u8) -> bool
     ensures { result ≡ is_letter b }
 {
-    either(both(97 <= b, b <= 122), both(65 <= b, b <= 90))
+    (97 <= b && b <= 122) || (65 <= b && b <= 90)
 }
 
-// Letters, digits and hyphens.
-fn are_name_bytes(text: &[u8], start: usize, end: usize) -> bool
-    requires { IsPart text.now start end }
-    ensures { result ≡ are_name_bytes (part text.now start end) }
+// A letter, a digit or a hyphen.
+fn is_name_byte(b: u8) -> bool
+    ensures { result ≡ is_name_byte b }
 {
-    let mut i = start;
-    while i < end {
-        let b = text[i];
-        if !either(either(is_letter(b), is_digit(b)), b == 45) {
-            return false;
-        }
-        i += 1;
-    }
-    true
+    is_letter(b) || is_digit(b) || b == 45
+}
+
+fn are_name_bytes(word: &[u8]) -> bool
+    ensures { result ≡ list_all is_name_byte word.now }
+{
+    word.iter().all(|b| is_name_byte(*b))
 }
 
 // A name: a letter, then letters, digits and hyphens; at most 31 bytes; no word of the form.
-pub fn is_name(text: &[u8], start: usize, end: usize) -> bool
-    requires { IsPart text.now start end }
-    ensures { result ≡ is_name (part text.now start end) }
+pub fn is_name(word: &[u8]) -> bool
+    ensures { result ≡ is_name word.now }
 {
-    if start == end {
-        return false;
+    match word {
+        [] => false,
+        [first, rest @ ..] => {
+            is_letter(*first) && are_name_bytes(rest) && word.len() <= 31 && !is_kept(word)
+        }
     }
-    if 31 < end - start {
-        return false;
-    }
-    if !is_letter(text[start]) {
-        return false;
-    }
-    if !are_name_bytes(text, start + 1, end) {
-        return false;
-    }
-    !is_kept(text, start, end)
 }
 
 // Digits only.
-fn are_digits(text: &[u8], start: usize, end: usize) -> bool
-    requires { IsPart text.now start end }
-    ensures { result ≡ are_digits (part text.now start end) }
+fn are_digits(word: &[u8]) -> bool
+    ensures { result ≡ list_all is_digit word.now }
 {
-    let mut i = start;
-    while i < end {
-        if !is_digit(text[i]) {
-            return false;
-        }
-        i += 1;
-    }
-    true
+    word.iter().all(|b| is_digit(*b))
 }
 
 // What digits come to; 2147483649 where it is more.
-fn magnitude(text: &[u8], start: usize, end: usize) -> u32
-    requires part { IsPart text.now start end }
-    requires end_value { are_digits (part text.now start end) ≡ true }
-    ensures { result ≡ capped (read_on 0 (part text.now start end)) }
+fn magnitude(word: &[u8]) -> u32
+    requires { are_digits word.now ≡ true }
+    ensures { result ≡ capped (read_on 0 word.now) }
 {
     let mut x: u64 = 0;
-    let mut i = start;
-    while i < end {
-        x = 10 * x + (text[i] as u64 - 48);
+    for b in word {
+        x = 10 * x + (*b as u64 - 48);
         if 2147483648 < x {
             return 2147483649;
         }
-        i += 1;
     }
     x as u32
 }
 
 // Two's complement of a number's size.
-fn signed(negative: bool, n: u32) -> Number
+fn signed(negative: bool, n: u32) -> Result<u32, NumberFault>
     ensures { result ≡ number_of negative n }
 {
     if negative {
         if 2147483648 < n {
-            return Number::Outside;
+            return Err(NumberFault::Outside);
         }
-        if n == 0 {
-            return Number::Inside(0);
-        }
-        return Number::Inside((4294967295 - n) + 1);
+        return Ok(n.wrapping_neg());
     }
     if 2147483647 < n {
-        return Number::Outside;
+        return Err(NumberFault::Outside);
     }
-    Number::Inside(n)
+    Ok(n)
+}
+
+// Digits, one or more.
+fn is_natural(word: &[u8]) -> bool
+    ensures { result ≡ is_natural word.now }
+{
+    !word.is_empty() && are_digits(word)
 }
 
 // Digits, behind a minus sign or without, as a number.
-fn of_digits(text: &[u8], start: usize, end: usize, negative: bool) -> Number
-    requires { IsPart text.now start end }
-    ensures { result ≡ digits_in negative (part text.now start end) }
+fn of_digits(word: &[u8], negative: bool) -> Result<u32, NumberFault>
+    ensures { result ≡ digits_in negative word.now }
 {
-    if start == end {
-        return Number::Other;
+    if !is_natural(word) {
+        return Err(NumberFault::Other);
     }
-    if !are_digits(text, start, end) {
-        return Number::Other;
-    }
-    signed(negative, magnitude(text, start, end))
+    signed(negative, magnitude(word))
 }
 
 // A word as a number.
-pub fn number_of_word(text: &[u8], start: usize, end: usize) -> Number
-    requires { IsPart text.now start end }
-    ensures { result ≡ number_in (part text.now start end) }
+pub fn number_of_word(word: &[u8]) -> Result<u32, NumberFault>
+    ensures { result ≡ number_in word.now }
 {
-    if start == end {
-        return Number::Other;
+    match word {
+        [] => Err(NumberFault::Other),
+        [first, digits @ ..] => {
+            if *first == b'-' {
+                of_digits(digits, true)
+            } else {
+                of_digits(word, false)
+            }
+        }
     }
-    if text[start] == 45 {
-        return of_digits(text, start + 1, end, true);
-    }
-    of_digits(text, start, end, false)
 }

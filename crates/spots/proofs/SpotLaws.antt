@@ -1,7 +1,8 @@
 -- One byte more in what stands before a position. Assumes nothing.
 use Rattle.std.specs.Prelude.{if◌then◌else◌}
 use Prim.Native.Nat.{ℕ, ◌+◌}
-use mathlib.Core.Path.{◌≡◌, refl}
+use mathlib.Core.Path.{◌≡◌, refl, sym, ap, ◌∙◌}
+use mathlib.Core.Bool.{Bool, true, false}
 use native.Mathlib.Numerals.{unary_clauses}
 use native.Mathlib.Omega.{arith}
 use Rattle.rules.specs.Bytes.{Bytes}
@@ -15,6 +16,16 @@ pub more_start : (text : Bytes) (i : ℕ) → line_start text (i + 1) ≡ (if en
 unfolding line_start
 more_start text i = simp unary_clauses refl
 
--- A count and one more, on both sides.
-pub counts_on : {line more count : ℕ} (before after : ℕ) → line ≡ before + 1 → count ≡ more → after ≡ before + more → line + count ≡ after + 1
-counts_on before after a b c = omega (arith, a, b, c)
+-- One byte on, where a line ends with it,
+pub ended : (text : Bytes) (i line : ℕ) → line ≡ lines_before text i + 1 → ends_at text i ≡ true
+    → (line + 1 ≡ lines_before text (i + 1) + 1) × (i + 1 ≡ line_start text (i + 1))
+ended text i line e so =
+    let more = more_lines text i ∙ ap (λ (b : Bool). lines_before text i + (if b then 1 else 0)) so in
+    (omega (arith, e, more), sym (more_start text i ∙ ap (λ (b : Bool). if b then i + 1 else line_start text i) so))
+
+-- and where none does.
+pub stayed : (text : Bytes) (i line start : ℕ) → line ≡ lines_before text i + 1 → start ≡ line_start text i → ends_at text i ≡ false
+    → (line ≡ lines_before text (i + 1) + 1) × (start ≡ line_start text (i + 1))
+stayed text i line start e f so =
+    let more = more_lines text i ∙ ap (λ (b : Bool). lines_before text i + (if b then 1 else 0)) so in
+    (omega (arith, e, more), f ∙ sym (more_start text i ∙ ap (λ (b : Bool). if b then i + 1 else line_start text i) so))

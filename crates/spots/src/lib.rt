@@ -6,168 +6,104 @@ ghost use Rattle.rules.specs.Bytes.{byte_at};
 ghost use Rattle.spots.specs.Standing.{ends_line, lines_before, line_start, begins_one};
 
 // The line of a position, counted from 1, and the position at which that line begins.
-#[derive(Clone, Copy)]
+#[derive(Clone, Copy, Debug, PartialEq, Eq)]
 pub struct Spot {
     pub line: usize,
     pub start: usize,
 }
 
 // Does a line end with a byte that another follows?
+#[tactic(auto, unfolding(crate::specs::Standing::ends_line))]
 fn ends(byte: u8, next: u8) -> bool
     ensures { result ≡ ends_line byte next }
 {
-    if byte == 10 {
-        return true;
+    match byte {
+        b'\n' => true,
+        b'\r' => next != b'\n',
+        _ => false,
     }
-    if byte == 13 {
-        if next == 10 {
-            return false;
-        }
-        return true;
-    }
-    false
 }
 
 // The byte at index i, 0 behind the end.
+#[tactic(auto, unfolding(rules::specs::Bytes::byte_at))]
 fn byte_at(text: &[u8], i: usize) -> u8
     ensures { result ≡ byte_at text.now i }
 {
-    if i < text.len() {
-        return text[i];
-    }
-    0
-}
-
-// A position, or the text's end where it is behind that.
-fn within(text: &[u8], at: usize) -> usize
-    ensures { (result ≤ length text.now) × (at ≤ length text.now → result ≡ at) }
-{
-    if at < text.len() {
-        return at;
-    }
-    text.len()
-}
-
-// Counts what is so.
-fn counted(so: bool) -> usize
-    ensures { (result ≡ (if so then 1 else 0)) × (result ≤ 1) }
-{
-    if so {
-        return 1;
-    }
-    0
-}
-
-// One number where something is so, else another.
-fn chosen(so: bool, one: usize, other: usize) -> usize
-    ensures { result ≡ (if so then one else other) }
-{
-    if so {
-        return one;
-    }
-    other
+    text.get(i).copied().unwrap_or(0)
 }
 
 // Goes through the lines before a position.
 pub fn spot_of(text: &[u8], at: usize) -> Spot
     ensures { at ≤ length text.now → (result.line ≡ lines_before text.now at + 1) × (result.start ≡ line_start text.now at) }
 {
-    let stop = within(text, at);
-    let mut line: usize = 1;
-    let mut start: usize = 0;
-    let mut i: usize = 0;
-    while i < stop {
-        let is_end = ends(byte_at(text, i), byte_at(text, i + 1));
-        line += counted(is_end);
-        start = chosen(is_end, i + 1, start);
-        i += 1;
+    let mut spot = Spot { line: 1, start: 0 };
+    for i in 0..at.min(text.len()) {
+        if ends(byte_at(text, i), byte_at(text, i + 1)) {
+            spot = Spot {
+                line: spot.line + 1,
+                start: i + 1,
+            };
+        }
     }
-    Spot {
-        line: line,
-        start: start,
-    }
+    spot
 }
 
-// Counts a byte that begins a character; those from 128 to 191 go on with one.
-fn first(byte: u8) -> usize
-    ensures { (result ≡ begins_one byte) × (result ≤ 1) }
+// Does a byte begin a character? Those from 128 to 191 go on with one.
+#[tactic(auto, unfolding(crate::specs::Standing::begins_one))]
+fn begins(byte: u8) -> bool
+    ensures { (if result then 1 else 0) ≡ begins_one byte }
 {
-    if byte < 128 {
-        return 1;
-    }
-    if byte > 191 {
-        return 1;
-    }
-    0
+    !matches!(byte, 128..=191)
+}
+
+// The part of a text from an index to another, as far as there is one.
+fn part(text: &[u8], from: usize, to: usize) -> &[u8] {
+    text.get(from..to.min(text.len())).unwrap_or(&[])
 }
 
 // The column of a position, counted from 1 in characters, in the line that begins at a start.
 pub fn column(text: &[u8], start: usize, at: usize) -> usize {
-    let stop = within(text, at);
-    let mut n: usize = 1;
-    let mut i = start;
-    while i < stop {
-        n += first(byte_at(text, i));
-        i += 1;
-    }
-    n
+    let line = part(text, start, at);
+    1 + line.iter().filter(|byte| begins(**byte)).count()
 }
 
 // A byte as it is shown: no terminal takes it for anything but itself.
 fn seen(byte: u8) -> u8 {
-    if byte == b'\t' {
-        return byte;
+    match byte {
+        b'\t' => byte,
+        0..=31 | 127 => b'?',
+        _ => byte,
     }
-    if byte < 32 {
-        return b'?';
-    }
-    if byte == 127 {
-        return b'?';
-    }
-    byte
 }
 
 // From where on a line that begins at a start is shown, so that the place is in sight.
 pub fn shown_from(start: usize, at: usize) -> usize {
-    if at < start {
-        return start;
+    if at.saturating_sub(start) < 72 {
+        start
+    } else {
+        at - 72
     }
-    if at - start < 72 {
-        return start;
-    }
-    at - 72
 }
 
 // Puts the line from an index on to the front of a room, to its end or 112 bytes of it; how many bytes that are.
 pub fn line_part(text: &[u8], from: usize, room: &mut [u8; 128]) -> usize
     ensures { result ≤ 112 }
 {
-    let mut n = 0;
-    let mut i = from;
-    while i < text.len() {
-        if n >= 112 {
-            break;
-        }
-        let b = text[i];
-        if b == b'\n' {
-            break;
-        }
-        if b == b'\r' {
-            break;
-        }
-        room[n] = seen(b);
-        n += 1;
-        i += 1;
+    let rest = part(text, from, text.len());
+    let end = rest
+        .iter()
+        .position(|byte| matches!(byte, b'\n' | b'\r'))
+        .unwrap_or(rest.len());
+    let n = end.min(112);
+    for (place, &byte) in room.iter_mut().zip(&rest[..n]) {
+        *place = seen(byte);
     }
     n
 }
 
-// What stands before the mark: a tab for a tab, a space for all else (the rest of a character counts nothing).
+// What stands before the mark: a tab for a tab, a space for all else.
 fn blank(byte: u8) -> u8 {
-    if byte == b'\t' {
-        return byte;
-    }
-    b' '
+    if byte == b'\t' { byte } else { b' ' }
 }
 
 // Puts the mark under the place to the front of a room; how many bytes that are.
@@ -175,17 +111,14 @@ pub fn mark_part(text: &[u8], from: usize, at: usize, room: &mut [u8; 128]) -> u
     ensures { result ≤ 101 }
 {
     let mut n = 0;
-    let mut i = from;
-    while i < at {
+    for &byte in part(text, from, at) {
         if n >= 100 {
             break;
         }
-        if i >= text.len() {
-            break;
+        if begins(byte) {
+            room[n] = blank(byte);
+            n += 1;
         }
-        room[n] = blank(text[i]);
-        n += first(text[i]);
-        i += 1;
     }
     room[n] = b'^';
     n + 1

@@ -12,10 +12,8 @@ pub fn checks_of(p: &[u8]) -> u32
 {
     let count = p.len() / 512;
     let mut sum: u32 = 0;
-    let mut j: usize = 0;
-    while j < count {
+    for j in 0..count {
         sum = std::num::wrapping_add_u32(sum, u32_at(p, 512 * j + 508));
-        j += 1;
     }
     sum
 }

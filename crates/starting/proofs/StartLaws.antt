@@ -1,5 +1,6 @@
 -- What an accepted program gives its start, and the start by the room's length.
 -- Assumes nothing.
+use Rattle.std.specs.Prelude.{Ok, Err}
 use mathlib.Core.Path.{◌≡◌, sym, ap, ◌∙◌}
 use mathlib.Core.Bool.{not}
 use mathlib.Core.List.{List}
@@ -18,8 +19,6 @@ use Rattle.rules.specs.Accepted.{Accepted}
 use Rattle.rules.specs.Calls.{refuse_if, StartOutcome, start_outcome}
 use Rattle.rules.specs.Reset.{start_state}
 use Rattle.rules.specs.declared.Refusal.TheVariants.{StateFault}
-use Rattle.rules.specs.declared.Started.{Started}
-use Rattle.rules.specs.declared.Started.TheVariants.{Ready}
 use Rattle.rules.proofs.Rooted.{some_node, root_of, shaped_of}
 use Rattle.rules.proofs.Once.{tree_small}
 use Rattle.cells.specs.Indexed.{ListedOnce, Indexed}
@@ -62,18 +61,18 @@ right_length p count held size e f g = g ∙ ap cell_at (f ∙ all_cells p count
 
 -- start, by the room's length
 pub start_short : (p st : Bytes) → (length st ≡ state_length p → ⊥)
-    → start_outcome p st (refuse_if (not (eqb (length st) (state_length p))) StateFault) ≡ record { answer = Started.Refused StateFault; state = st }
+    → start_outcome p st (refuse_if (not (eqb (length st) (state_length p))) StateFault) ≡ record { answer = Err StateFault; state = st }
 unfolding refuse_if start_outcome
 start_short p st d = rw (ne_eqb _ _ d)
 
 pub start_made : (p st : Bytes) → length st ≡ state_length p
-    → start_outcome p st (refuse_if (not (eqb (length st) (state_length p))) StateFault) ≡ record { answer = Ready; state = start_state p }
+    → start_outcome p st (refuse_if (not (eqb (length st) (state_length p))) StateFault) ≡ record { answer = Ok tt; state = start_state p }
 unfolding refuse_if start_outcome
 start_made p st e = rw (eq-eqb _ _ e)
 
 -- what a start leaves: nothing changed but the table, or the start state, which is well-formed
 pub begun_short : (p st : Bytes) {index : List ℕ} → Indexed p index → (length st ≡ state_length p → ⊥)
-    → Begun p index st st (Started.Refused StateFault)
+    → Begun p index st st (Err StateFault)
 begun_short p st x d = record {
   answer_is = ap (λ (o : StartOutcome). o.answer) (sym (start_short p st d));
   state_is = ap (λ (o : StartOutcome). o.state) (sym (start_short p st d));
@@ -82,7 +81,7 @@ begun_short p st x d = record {
 }
 
 pub begun_made : (p st st₁ : Bytes) {index : List ℕ} → Small p → Accepted p → Indexed p index → length st ≡ state_length p → st₁ ≡ start_state p
-    → Begun p index st st₁ Ready
+    → Begun p index st st₁ (Ok tt)
 begun_made p st st₁ s a x l e = record {
   answer_is = ap (λ (o : StartOutcome). o.answer) (sym (start_made p st l));
   state_is = e ∙ ap (λ (o : StartOutcome). o.state) (sym (start_made p st l));

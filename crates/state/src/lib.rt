@@ -112,11 +112,7 @@ pub fn reset_c(p: &&[u8], index: &[u16; 10080], st: &mut [u8], j: usize)
 fn clear_all(st: &mut [u8])
     ensures { st.new ≡ replicate (length st.old) 0 }
 {
-    let mut k: usize = 0;
-    while k < st.len() {
-        st[k] = 0;
-        k += 1;
-    }
+    st.fill(0);
 }
 
 // The header of a start state, with no time and the sum of the program's checks, over the first bytes.

@@ -1,5 +1,7 @@
 -- A run, record by record, as a loop over the records goes.
 -- Assumes nothing.
+use Rattle.std.specs.Prelude.{Ok, Err}
+use Rattle.rules.specs.Verdicts.{Verdict, finished_with, refused_after}
 use mathlib.Core.Path.{◌≡◌, refl, sym, ap, ◌∙◌}
 use Prim.Native.Nat.{ℕ, zero, suc, ◌+◌, ◌-◌, ◌*◌, ◌/◌, ◌<◌, ◌≤◌}
 use native.Mathlib.Omega.{arith}
@@ -11,12 +13,8 @@ use Rattle.rules.specs.Calls.{record_verdict, no_step, first_wrapped, run_from}
 use Rattle.rules.specs.declared.Value.{Value}
 use Rattle.rules.specs.declared.Tally.{Tally}
 use Rattle.rules.specs.declared.Refusal.{Refusal}
-use Rattle.rules.specs.declared.Verdict.TheVariants.{Fine, Refuse}
-use Rattle.rules.specs.declared.Ran.{Ran}
-use Rattle.rules.specs.declared.Ran.TheVariants.{Finished}
 use Rattle.rules.specs.Layout.{time_in}
 use Rattle.rules.specs.WellFormed.{last_moment}
-use Rattle.rules.specs.declared.Verdict.{Verdict}
 use Rattle.rules.proofs.Verdicts.{both_fine, if_fine}
 use Rattle.promises.proofs.Runs.{in_time}
 use mathlib.Core.Bool.{true}
@@ -30,25 +28,25 @@ use Rattle.steps.specs.Going.{Going, Taken, Leaves, OnTheWay, most_work}
 use Rattle.steps.proofs.StepLaws.{gone, small_bound}
 
 next : (p recs : Bytes) (left done work mark : ℕ) (st out : Bytes) {v : Value} {st₁ : Bytes} {w : Tally}
-    → record_verdict done st (input_at recs done) ≡ Fine → step_of p (input_at recs done) st ≡ Made v st₁ w
+    → record_verdict done st (input_at recs done) ≡ Ok tt → step_of p (input_at recs done) st ≡ Made v st₁ w
     → run_from p recs (suc left) done work mark st out ≡ run_from p recs left (suc done) (work + w.work) (first_wrapped mark done w) st₁ (write_at out (8 * done) (value_bytes v))
 unfolding run_from
 next p recs left done work mark st out e f = rw (e, run_from, f)
 
 stops : (p recs : Bytes) (left done work mark : ℕ) (st out : Bytes) {r : Refusal}
-    → record_verdict done st (input_at recs done) ≡ Refuse r
-    → run_from p recs (suc left) done work mark st out ≡ record { answer = Ran.Refused r work mark; state = st; output = out }
+    → record_verdict done st (input_at recs done) ≡ Err r
+    → run_from p recs (suc left) done work mark st out ≡ record { answer = refused_after r work mark; state = st; output = out }
 unfolding run_from
 stops p recs left done work mark st out e = rw (e, run_from)
 
 ends : (p recs : Bytes) (done work mark : ℕ) (st out : Bytes)
-    → run_from p recs zero done work mark st out ≡ record { answer = Finished done work mark; state = st; output = out }
+    → run_from p recs zero done work mark st out ≡ record { answer = finished_with done work mark; state = st; output = out }
 unfolding run_from
 ends p recs done work mark st out = refl
 
 -- the record at a number, with the records left after it
 pub run_next : (p recs : Bytes) (n done work mark : ℕ) (w : Tally) (st st₁ out out₁ : Bytes) → done < n
-    → record_verdict done st (input_at recs done) ≡ Fine → Taken p (input_at recs done) st st₁ out out₁ (8 * done) w
+    → record_verdict done st (input_at recs done) ≡ Ok tt → Taken p (input_at recs done) st st₁ out out₁ (8 * done) w
     → run_from p recs (n - done) done work mark st out ≡ run_from p recs (n - (done + 1)) (done + 1) (work + w.work) (first_wrapped mark done w) st₁ out₁
 run_next p recs n done work mark w st st₁ out out₁ h e t =
     let a : n - done ≡ suc (n - (done + 1)) = omega arith in
@@ -58,20 +56,20 @@ run_next p recs n done work mark w st st₁ out out₁ h e t =
     ∙ (λ i. run_from p recs (n - (done + 1)) (b i) (work + w.work) (first_wrapped mark done w) st₁ (sym t.shown i))
 
 pub run_stops : (p recs : Bytes) (n done work mark : ℕ) (st out : Bytes) {r : Refusal} → done < n
-    → record_verdict done st (input_at recs done) ≡ Refuse r
-    → run_from p recs (n - done) done work mark st out ≡ record { answer = Ran.Refused r work mark; state = st; output = out }
+    → record_verdict done st (input_at recs done) ≡ Err r
+    → run_from p recs (n - done) done work mark st out ≡ record { answer = refused_after r work mark; state = st; output = out }
 run_stops p recs n done work mark st out h e =
     let a : n - done ≡ suc (n - (done + 1)) = omega arith in
     ap (λ (k : ℕ). run_from p recs k done work mark st out) a ∙ stops p recs (n - (done + 1)) done work mark st out e
 
 pub run_ends : (p recs : Bytes) (n done work mark : ℕ) (st out : Bytes) → n ≤ done
-    → run_from p recs (n - done) done work mark st out ≡ record { answer = Finished done work mark; state = st; output = out }
+    → run_from p recs (n - done) done work mark st out ≡ record { answer = finished_with done work mark; state = st; output = out }
 run_ends p recs n done work mark st out h =
     let a : n - done ≡ 0 = omega arith in
     ap (λ (k : ℕ). run_from p recs k done work mark st out) a ∙ ends p recs done work mark st out
 
 -- a record that is not refused: its time is not too large
-record_in_time : (done : ℕ) (st rec : Bytes) → record_verdict done st rec ≡ Fine → time_in rec ≤ last_moment
+record_in_time : (done : ℕ) (st rec : Bytes) → record_verdict done st rec ≡ Ok tt → time_in rec ≤ last_moment
 unfolding record_verdict
 record_in_time done st rec e = in_time rec (if_fine _ _ (both_fine _ _ e).0)
 
@@ -93,11 +91,11 @@ module _ {p : Bytes} {index : List ℕ} {recs st₀ out₀ st : Bytes} {env : En
     judged : v ≡ record_verdict done st (input_at recs done)
     judged = e ∙ ap (record_verdict done st) (slice_is recs done)
 
-    pub goes_on : v ≡ Fine → {st₁ out₁ : Bytes} {n : Tally}
+    pub goes_on : v ≡ Ok tt → {st₁ out₁ : Bytes} {n : Tally}
         → Taken p (take (40 * done + 40 - 40 * done) (drop (40 * done) recs)) st st₁ out out₁ (8 * done) n → {env₁ : Env} → env₁ ≡ env
         → OnTheWay p index recs st₀ out₀ st₁ env₁ out₁ count left (done + 1) (work + n.work) (first_wrapped mark done n)
     goes_on f {st₁} {out₁} {n} t q =
-        let fine : record_verdict done st (input_at recs done) ≡ Fine = sym judged ∙ f in
+        let fine : record_verdict done st (input_at recs done) ≡ (Ok tt) = sym judged ∙ f in
         let well = t.well (record_in_time done st _ (sym e ∙ f)) in
         let t₁ : Taken p (input_at recs done) st st₁ out out₁ (8 * done) n = rw (slice_is recs done) at t in
         record {
@@ -110,7 +108,7 @@ module _ {p : Bytes} {index : List ℕ} {recs st₀ out₀ st : Bytes} {env : En
           same = sym (run_next p recs left done work mark n st st₁ out out₁ h fine t₁) ∙ w.same;
         }
 
-    pub stopped : {r : Refusal} → v ≡ Refuse r → Leaves (run_from p recs left 0 0 no_step st₀ out₀) (Ran.Refused r work mark) st out
+    pub stopped : {r : Refusal} → v ≡ Err r → Leaves (run_from p recs left 0 0 no_step st₀ out₀) (refused_after r work mark) st out
     stopped f =
         let s = sym w.same ∙ run_stops p recs left done work mark st out h (sym judged ∙ f) in
         rw s (record { answer_is = refl; state_is = refl; output_is = refl })
@@ -119,7 +117,7 @@ module _ {p : Bytes} {index : List ℕ} {recs st₀ out₀ st : Bytes} {env : En
   pub worked : work ≤ most_work * (length recs / 40)
   worked = omega (arith, w.fits, w.within, w.all)
 
-  pub ended : left ≤ done → Leaves (run_from p recs left 0 0 no_step st₀ out₀) (Finished done work mark) st out
+  pub ended : left ≤ done → Leaves (run_from p recs left 0 0 no_step st₀ out₀) (finished_with done work mark) st out
   ended h =
       let s = sym w.same ∙ run_ends p recs left done work mark st out h in
       rw s (record { answer_is = refl; state_is = refl; output_is = refl })

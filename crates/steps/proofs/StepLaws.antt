@@ -1,7 +1,8 @@
 -- What a step of an accepted program needs, and what it comes to.
 -- Assumes nothing.
+use Rattle.std.specs.Prelude.{Some, None}
 use mathlib.Core.Path.{◌≡◌, refl, sym, ap, ◌∙◌, subst}
-use mathlib.Core.Bool.{Bool, true, false, ◌||◌}
+use mathlib.Core.Bool.{true, false, ◌||◌}
 use mathlib.Core.List.{List}
 use Prim.Native.Nat.{ℕ, ◌+◌, ◌-◌, ◌*◌, ◌<◌, ◌≤◌}
 use native.Mathlib.Omega.{arith}
@@ -20,9 +21,8 @@ use Rattle.rules.specs.Evaluate.{Env, unbound, eval_s}
 use Rattle.rules.specs.Update.{Made, NotMade, upd_s, updated, evaluated, step_of}
 use Rattle.rules.specs.declared.Value.{Value}
 use Rattle.rules.specs.declared.Tally.{Tally}
-use Rattle.rules.specs.declared.Evaluated.{Evaluated}
-use Rattle.rules.specs.declared.Evaluated.TheVariants.{Done, Stuck}
-use Rattle.rules.specs.declared.Moved.{Moved}
+use Rattle.rules.specs.Evaluated.{Evaluated, Done, Stuck}
+use Rattle.rules.specs.Moved.{Moved}
 use Rattle.rules.proofs.Rooted.{some_node, root_of, shaped_of}
 use Rattle.rules.proofs.Once.{bound_small, tree_small}
 use Rattle.rules.proofs.Bounds.{bound_s≤, update_small}
@@ -31,8 +31,6 @@ use Rattle.outcomes.specs.Outcome.{Slots}
 use Rattle.evaluate.specs.Ready.{ReadyS}
 use Rattle.moves.specs.Lent.{Ready}
 use native.Mathlib.Nat.{mul-le-mul}
-use lib.Dec.{ltb}
-use borrow.Author.Tests.{ltb-true, ltb-false, lt-ltb, le-ltb}
 use Rattle.outcomes.specs.Combine.{count_of, work_of}
 use Rattle.outcomes.proofs.Tallies.{same_tally}
 use Rattle.moves.proofs.NumberLaws.{or_same}
@@ -42,7 +40,6 @@ use Rattle.recalled.specs.Recall.{fill_s, recall_s}
 use Rattle.recalled.proofs.RootRecall.{root_recalled}
 use Rattle.noted.specs.Noted.{memory_in, Notes}
 use Rattle.moves.specs.Outcomes.{calm_of}
-use Rattle.moves.specs.declared.Calm.TheVariants.{Still, Broken}
 use Rattle.promises.specs.Small.{Small}
 use Rattle.promises.proofs.FromTable.{seated}
 use Rattle.promises.proofs.Steps.{StepGoes, step_goes, well_parts}
@@ -198,11 +195,11 @@ displays h f {out} {out₁} {place} a b =
     rw f (record { written = a ∙ ap (λ (n : ℕ). write_at out place (bytes_of 8 n)) b; counted = refl; below = omega (arith, h, ap work_of f) })
 
 -- an update that is calm stays
-still_stay : (x : Moved) {t : Tally} → calm_of x ≡ Still t → x ≡ Moved.Stay t
+still_stay : (x : Moved) {t : Tally} → calm_of x ≡ Some t → x ≡ Moved.Stay t
 unfolding calm_of
 still_stay (Moved.Stay u) {t} e = let q : u ≡ t = cc in ap Moved.Stay q
-still_stay (Moved.Jump j w u) e = let z : ◌≡◌ {A = ℕ} 0 1 = cc in absurd (omega arith)
-still_stay Moved.Stuck e = let z : ◌≡◌ {A = ℕ} 0 1 = cc in absurd (omega arith)
+still_stay (Moved.Jump j w u) e = cc
+still_stay Moved.Stuck e = cc
 
 -- the update neither halts nor jumps, and stays
 module _ {p st : Bytes} {index : List ℕ} {env : Env} {count : ℕ} (g : Going p index st env count) where
@@ -225,16 +222,16 @@ module _ {p st : Bytes} {index : List ℕ} {env : Env} {count : ℕ} (g : Going 
         unfolding moved
         never_jumps k = let e = (both p rec st goes).updates in let z : ◌≡◌ {A = ℕ} 0 1 = cc (updated_at h ∙ ap (λ (y : Moved). moved y st₁) k) in omega arith
 
-        broken : (y : Moved) → x ≡ y → calm_of y ≡ Broken → ⊥
+        broken : (y : Moved) → x ≡ y → calm_of y ≡ None → ⊥
         unfolding calm_of
         broken (Moved.Stay t) k e = let z : ◌≡◌ {A = ℕ} 0 1 = cc in omega arith
         broken (Moved.Jump j w t) k e = never_jumps k
         broken Moved.Stuck k e = never_halted k
 
-        pub never_broken : calm_of x ≡ Broken → ⊥
+        pub never_broken : calm_of x ≡ None → ⊥
         never_broken e = broken x refl e
 
-        pub advances : {t : Tally} → calm_of x ≡ Still t → {st₂ : Bytes} {moment : ℕ} → st₂ ≡ set_time st₁ moment → moment ≡ time_in rec
+        pub advances : {t : Tally} → calm_of x ≡ Some t → {st₂ : Bytes} {moment : ℕ} → st₂ ≡ set_time st₁ moment → moment ≡ time_in rec
             → Advanced p rec st st₂ t
         unfolding moved ◌plus◌
         advances {t} c {st₂} a b =
@@ -256,7 +253,7 @@ module _ {p st : Bytes} {index : List ℕ} {env : Env} {count : ℕ} (g : Going 
               below = omega (arith, small_bound p g.accepted, m.within, ap (λ (x : Tally). x.work) w);
             }
 
-        pub calm_small : {t : Tally} → calm_of x ≡ Still t → t.work ≤ most_work
+        pub calm_small : {t : Tally} → calm_of x ≡ Some t → t.work ≤ most_work
         calm_small k = (advances k {st₂ = set_time st₁ (time_in rec)} {moment = time_in rec} refl refl).below
 
 -- shown and advanced, a step is taken

@@ -1,6 +1,7 @@
 -- What a step and a run stand on, and what they leave.
 -- Assumes nothing: these are definitions.
 use Rattle.std.specs.Prelude.{◌≡◌, true, List, ℕ, ◌+◌, ◌-◌, ◌*◌, ◌/◌, ◌≤◌, length}
+use Rattle.rules.specs.Verdicts.{RunAnswer}
 use Rattle.rules.specs.Bytes.{Bytes, write_at}
 use Rattle.rules.specs.Values.{value_bytes}
 use Rattle.rules.specs.Layout.{nodes, most_nodes, input_length, state_length, time_in}
@@ -14,9 +15,7 @@ use Rattle.rules.specs.Update.{Made, step_of}
 use Rattle.rules.specs.Calls.{RunOutcome, no_step, run_from}
 use Rattle.rules.specs.declared.Value.{Value}
 use Rattle.rules.specs.declared.Tally.{Tally}
-use Rattle.rules.specs.declared.Ran.{Ran}
-use Rattle.rules.specs.declared.Evaluated.{Evaluated}
-use Rattle.rules.specs.declared.Evaluated.TheVariants.{Done, Stuck}
+use Rattle.rules.specs.Evaluated.{Evaluated, Done, Stuck}
 use Rattle.outcomes.specs.Combine.{count_of}
 use Rattle.cells.specs.Indexed.{Indexed}
 use Rattle.recalled.specs.Recall.{Memory, fill_s}
@@ -77,7 +76,7 @@ pub record Taken (p rec st st₁ out out₁ : Bytes) (place : ℕ) (tally : Tall
   pub within : tally.work ≤ bound p
 
 -- The answer, state and output room of an outcome.
-pub record Leaves (o : RunOutcome) (answer : Ran) (st out : Bytes) : Type 0 where
+pub record Leaves (o : RunOutcome) (answer : RunAnswer) (st out : Bytes) : Type 0 where
   pub answer_is : answer ≡ o.answer
   pub state_is : st ≡ o.state
   pub output_is : out ≡ o.output

@@ -14,10 +14,9 @@ ghost use Rattle.promises.specs.Run.{work_in};
 
 use cells::{put64, set_time};
 use evaluate::evaluated;
-use moves::{Calm, settled};
-use outcomes::Shown;
+use moves::settled;
 use record::{first_wrapped, record_verdict, time_of};
-use rules::{NO_STEP, Ran, Tally, Verdict};
+use rules::{NO_STEP, Ran, Stopped, Tally};
 use update::update_s;
 
 // The value of an outcome, at a place of the output room. The answer is what was counted.
@@ -25,17 +24,14 @@ pub fn display(outcome: u64, out: &mut [u8], at: usize) -> Tally
     requires { IsOutcome outcome × (work_of (outcome_in outcome) ≤ most_work) × (at + 8 ≤ length out.old) }
     ensures { Displayed (outcome_in outcome) out.old out.new at result }
 {
-    let shown = outcomes::show(outcome);
-    match shown {
-        Shown::Stuck => Tally {
+    let Some(shown) = outcomes::show(outcome) else {
+        return Tally {
             work: 0,
             wrapped: false,
-        },
-        Shown::Value(v, u) => {
-            put64(out, at, v);
-            u
-        }
-    }
+        };
+    };
+    put64(out, at, shown.value);
+    shown.count
 }
 
 // The output of a step: the root is evaluated, and its value goes to the output room. The answer is what was counted.
@@ -72,7 +68,7 @@ pub fn advance(
     ensures { Advanced p.now rec.now st.old st.new result × Held p.now index.now (length st.new) env.new count × Noted p.now memo.new }
 {
     let moved = update_s(&p, index, &rec, st, env, count - 1, memo);
-    let Calm::Still(w) = settled(moved) else {
+    let Some(w) = settled(moved) else {
         return Tally {
             work: 0,
             wrapped: false,
@@ -116,26 +112,32 @@ pub fn run_records(
     out: &mut [u8],
     count: usize,
     memo: &mut [u64; 1008],
-) -> Ran
+) -> Result<Ran, Stopped>
     requires { Going p.now index.now st.old env.old count × (length recs.now ≤ 163840) × (length out.old ≡ 8 * (length recs.now / input_length)) × Noted p.now memo.old }
     ensures { Leaves (run_from p.now recs.now (length recs.now / input_length) 0 0 no_step st.old out.old) result st.new out.new × Going p.now index.now st.new env.new count × (work_in result ≤ most_work * (length recs.now / input_length)) × Noted p.now memo.new }
 {
     let left = recs.len() / 40;
-    let mut done: usize = 0;
     let mut work: u32 = 0;
     let mut mark: u32 = NO_STEP;
-    while done < left {
+    for done in 0..left {
         let from = 40 * done;
         let to = from + 40;
         let rec = &recs[from..to];
         let found = record_verdict(st, rec, done as u32);
-        if let Verdict::Refuse(r) = found {
-            return Ran::Refused(r, work, mark);
+        if let Err(r) = found {
+            return Err(Stopped {
+                why: r,
+                work,
+                wrapped: mark,
+            });
         }
         let spent = make_step(p, index, rec, st, env, out, 8 * done, count, memo);
         work += spent.work as u32;
         mark = first_wrapped(mark, done as u32, spent);
-        done += 1;
     }
-    Ran::Finished(done as u32, work, mark)
+    Ok(Ran {
+        steps: left as u32,
+        work,
+        wrapped: mark,
+    })
 }

@@ -11,37 +11,28 @@ use rules::{NO_NEXT, Node};
 // A next field that holds this number is its list's last.
 pub const LAST: usize = NO_NEXT as usize;
 
-fn wide(x: u8) -> usize
-    ensures { (result ≡ x) × (result < 256) }
+// The number of 2 bytes at a position.
+pub fn half_at(p: &[u8], at: usize) -> u16
+    requires { at + 2 ≤ length p.now }
+    ensures { result ≡ u16_at p.now at }
 {
-    x as usize
+    u16::from_le_bytes([p[at], p[at + 1]])
 }
 
-fn wide32(x: u8) -> u32
-    ensures { (result ≡ x) × (result < 256) }
-{
-    x as u32
-}
-
+// The same number as an index.
 pub fn u16_at(p: &[u8], at: usize) -> usize
     requires { at + 2 ≤ length p.now }
     ensures { result ≡ u16_at p.now at }
 {
-    wide(p[at]) + 256 * wide(p[at + 1])
+    usize::from(half_at(p, at))
 }
 
-fn half_at(p: &[u8], at: usize) -> u32
-    requires { at + 2 ≤ length p.now }
-    ensures { (result ≡ u16_at p.now at) × (result < 65536) }
-{
-    wide32(p[at]) + 256 * wide32(p[at + 1])
-}
-
+// The number of 4 bytes at a position.
 pub fn u32_at(p: &[u8], at: usize) -> u32
     requires { at + 4 ≤ length p.now }
     ensures { result ≡ u32_at p.now at }
 {
-    half_at(p, at) + 65536 * half_at(p, at + 2)
+    u32::from_le_bytes([p[at], p[at + 1], p[at + 2], p[at + 3]])
 }
 
 // Where record i stands: a block of 512 bytes has 42 records of 12 and 8 bytes beside them.

@@ -1,3 +1,3 @@
+pub mod CellLaws
 pub mod LetLaws
 pub mod NamedLaws
-pub mod TurnLaws

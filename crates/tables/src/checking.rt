@@ -1,24 +1,18 @@
 // tables check FILE: the first line of watchrun and the channels that the table names; or a refusal in words, and then REFUSED.
-use crate::files::argument;
+use crate::files::{PROGRAM, argument};
+use crate::say::Told;
 use crate::{codes, say};
 use rules::Checked;
 
-// A program is at most 24 blocks; one byte more tells that the file is longer.
-pub fn check(rt: &HostRuntime) {
-    let mut program = [0u8; 12289];
-    let got = argument(rt, 2, &mut program);
-    if !got.whole {
-        return;
-    }
-    let table = feed::first(&program, got.count);
+pub fn check(rt: &HostRuntime) -> Result<(), Told> {
+    let mut program = [0u8; PROGRAM];
+    let n = argument(rt, 2, &mut program)?;
+    let table = &program[..n];
     match watch::check(table) {
-        Checked::Accepted(n, held, bound, ty) => {
-            say::accepted(rt, n, held, bound, ty);
-            say::channels(rt, channels::named_channels(table));
+        Ok(found) => {
+            say::accepted(rt, found.nodes, found.cells, found.bound, found.root)?;
+            say::channels(rt, channels::named_channels(table))
         }
-        Checked::Refused(r) => {
-            codes::told(rt, table, r);
-            say::refused(rt, r);
-        }
+        Err(r) => codes::refused(rt, table, r),
     }
 }

@@ -2,207 +2,286 @@
 ghost use Rattle.std.specs.Prelude.{◌≡◌, ◌<◌};
 ghost use Rattle.rules.specs.Layout.{records, kind_at};
 
-use crate::rows::row;
-use crate::say::put;
+use crate::kind::Kind;
+use crate::say::{Misuse, Told, misused, put, show};
 use crate::{given, say};
 use rules::{Checked, Refusal};
+use std::fmt;
 
-// The line of a code in the text below: that of 0 where there is no such code.
-fn sentence_row(code: u8) -> u8 {
-    if code > 29 {
-        return 0;
+// What a code means: of a program, from StateFault on of what else a call is handed: the memory of a run, lists and rooms, a text, and a
+// pairing. 14 was one, and is not used again; 20 was none.
+#[derive(Clone, Copy, Debug, PartialEq, Eq)]
+pub enum Meaning {
+    ProgramLength = 1,
+    CheckSum = 2,
+    BlockNumber = 3,
+    RecordFault = 4,
+    ShapeFault = 5,
+    ScopeFault = 6,
+    TypeFault = 7,
+    NotReady = 8,
+    StateFault = 9,
+    RecordsLength = 10,
+    OutputLength = 11,
+    InputFault = 12,
+    TimeBack = 13,
+    OtherProgram = 15,
+    MendList = 16,
+    WatchList = 17,
+    WatchEntry = 18,
+    NewRoom = 19,
+    BadWord = 21,
+    BadName = 22,
+    BadNumber = 23,
+    TextRoom = 24,
+    NoLet = 25,
+    ChainRoom = 26,
+    PairingLength = 27,
+    PairingEntry = 28,
+    EditionsDiffer = 29,
+}
+
+impl fmt::Display for Meaning {
+    fn fmt<W: fmt::Write>(&self, f: &mut fmt::Formatter<W>) -> fmt::Result {
+        f.write_str(match self {
+            Meaning::ProgramLength =>
+                "the program is empty, longer than 24 blocks or not whole blocks of 512 bytes",
+            Meaning::CheckSum => "the check sum of this block is not that of its bytes",
+            Meaning::BlockNumber =>
+                "this block has not its own number, the count of all blocks or the edition of block 0",
+            Meaning::RecordFault => {
+                "this record of the table by itself is wrong: its kind, type, constant, channel, a field that must be zero, or the end of the records"
+            }
+            Meaning::ShapeFault => "the nodes do not make one tree of the right sorts",
+            Meaning::ScopeFault => {
+                "the binder of this variable does not hold here, or the target of this case is no branch of a group that it may leave"
+            }
+            Meaning::TypeFault => "the types at this node do not agree",
+            Meaning::NotReady => "the definition of this let needs its own value of the same step",
+            Meaning::StateFault =>
+                "the state is not one that this program can have, or has not its length",
+            Meaning::RecordsLength =>
+                "the records are not whole records of 40 bytes, or more than 4,096",
+            Meaning::OutputLength => "the room for values is not 8 bytes for each record",
+            Meaning::InputFault => "this record is not well-formed",
+            Meaning::TimeBack => "the time of this record is before the time of the state",
+            Meaning::OtherProgram => "the state is that of another program",
+            Meaning::MendList =>
+                "the room for the list is not one entry for each cell and one more",
+            Meaning::WatchList => "the list of nodes to watch has not 1 to 8 entries",
+            Meaning::WatchEntry =>
+                "this entry of the list is no signal node, or not above the one before",
+            Meaning::NewRoom => "the room for the new program is shorter than the old program",
+            Meaning::BadWord => "this word or parenthesis does not fit here",
+            Meaning::BadName => "this name is unknown here, or bound twice",
+            Meaning::BadNumber => "this constant or channel is out of range",
+            Meaning::TextRoom => "the result is longer than the room for it",
+            Meaning::NoLet =>
+                "no let needs its own value of the same step: there is nothing to explain",
+            Meaning::ChainRoom => "the room for the chain is not 1,008 entries",
+            Meaning::PairingLength => "the pairing has not one entry for each new node",
+            Meaning::PairingEntry => "this entry of the pairing is wrong",
+            Meaning::EditionsDiffer => "the old and the new program are of different editions",
+        })
     }
-    code
 }
 
-// The sentence of a code, a line for each: of a program, from 9 on of what else a call is handed: the memory of a run, lists and rooms, a text,
-// and a pairing.
-fn sentence(rt: &HostRuntime, code: u8) -> bool {
-    put(
-        rt,
-        row(
-            b"refused
-the program is empty, longer than 24 blocks or not whole blocks of 512 bytes
-the check sum of this block is not that of its bytes
-this block has not its own number, the count of all blocks or the edition of block 0
-this record of the table by itself is wrong: its kind, type, constant, channel, a field that must be zero, or the end of the records
-the nodes do not make one tree of the right sorts
-the binder of this variable does not hold here, or the target of this case is no branch of a group that it may leave
-the types at this node do not agree
-the definition of this let needs its own value of the same step
-the state is not one that this program can have, or has not its length
-the records are not whole records of 40 bytes, or more than 4,096
-the room for values is not 8 bytes for each record
-this record is not well-formed
-the time of this record is before the time of the state
-refused
-the state is that of another program
-the room for the list is not one entry for each cell and one more
-the list of nodes to watch has not 1 to 8 entries
-this entry of the list is no signal node, or not above the one before
-the room for the new program is shorter than the old program
-refused
-this word or parenthesis does not fit here
-this name is unknown here, or bound twice
-this constant or channel is out of range
-the result is longer than the room for it
-no let needs its own value of the same step: there is nothing to explain
-the room for the chain is not 1,008 entries
-the pairing has not one entry for each new node
-this entry of the pairing is wrong
-the old and the new program are of different editions",
-            sentence_row(code),
-        ),
-    )
-}
-
-// Codes 33 to 40 are 1 to 8 of the new program.
-pub fn sentence_of(rt: &HostRuntime, code: u8) -> bool {
-    if code > 32 {
-        put(rt, b"of the new program: ");
-        return sentence(rt, code - 32);
-    }
-    sentence(rt, code)
-}
-
-// Is there such a code? 14 was one, and is not used again; 20, 30, 31 and 32 were none.
-fn is_code(code: u8) -> bool {
-    match code {
-        0 => false,
-        14 => false,
-        20 => false,
-        30 => false,
-        31 => false,
-        32 => false,
-        _ => code < 41,
+impl From<Refusal> for Meaning {
+    fn from(r: Refusal) -> Meaning {
+        match r {
+            Refusal::ProgramLength => Meaning::ProgramLength,
+            Refusal::CheckSum(_) => Meaning::CheckSum,
+            Refusal::BlockNumber(_) => Meaning::BlockNumber,
+            Refusal::RecordFault(_) => Meaning::RecordFault,
+            Refusal::ShapeFault(_) => Meaning::ShapeFault,
+            Refusal::ScopeFault(_) => Meaning::ScopeFault,
+            Refusal::TypeFault(_) => Meaning::TypeFault,
+            Refusal::NotReady(_) => Meaning::NotReady,
+            Refusal::StateFault => Meaning::StateFault,
+            Refusal::RecordsLength => Meaning::RecordsLength,
+            Refusal::OutputLength => Meaning::OutputLength,
+            Refusal::InputFault(_) => Meaning::InputFault,
+            Refusal::TimeBack(_) => Meaning::TimeBack,
+            Refusal::OtherProgram => Meaning::OtherProgram,
+        }
     }
 }
+
+// A code: 1 to 29 by its meaning, and 33 to 40, which are 1 to 8 of the new program of two.
+#[derive(Clone, Copy, Debug, PartialEq, Eq)]
+pub enum Code {
+    Of(Meaning),
+    OfNew(Meaning),
+}
+
+// A number that is no code.
+#[derive(Clone, Copy, Debug, PartialEq, Eq)]
+pub struct NoCode;
+
+impl TryFrom<u8> for Meaning {
+    type Error = NoCode;
+
+    fn try_from(number: u8) -> Result<Meaning, NoCode> {
+        Ok(match number {
+            1 => Meaning::ProgramLength,
+            2 => Meaning::CheckSum,
+            3 => Meaning::BlockNumber,
+            4 => Meaning::RecordFault,
+            5 => Meaning::ShapeFault,
+            6 => Meaning::ScopeFault,
+            7 => Meaning::TypeFault,
+            8 => Meaning::NotReady,
+            9 => Meaning::StateFault,
+            10 => Meaning::RecordsLength,
+            11 => Meaning::OutputLength,
+            12 => Meaning::InputFault,
+            13 => Meaning::TimeBack,
+            15 => Meaning::OtherProgram,
+            16 => Meaning::MendList,
+            17 => Meaning::WatchList,
+            18 => Meaning::WatchEntry,
+            19 => Meaning::NewRoom,
+            21 => Meaning::BadWord,
+            22 => Meaning::BadName,
+            23 => Meaning::BadNumber,
+            24 => Meaning::TextRoom,
+            25 => Meaning::NoLet,
+            26 => Meaning::ChainRoom,
+            27 => Meaning::PairingLength,
+            28 => Meaning::PairingEntry,
+            29 => Meaning::EditionsDiffer,
+            _ => return Err(NoCode),
+        })
+    }
+}
+
+impl TryFrom<u8> for Code {
+    type Error = NoCode;
+
+    fn try_from(number: u8) -> Result<Code, NoCode> {
+        match number {
+            33..=40 => Ok(Code::OfNew(Meaning::try_from(number - 32)?)),
+            _ => Ok(Code::Of(Meaning::try_from(number)?)),
+        }
+    }
+}
+
+impl fmt::Display for Code {
+    fn fmt<W: fmt::Write>(&self, f: &mut fmt::Formatter<W>) -> fmt::Result {
+        match self {
+            Code::Of(meaning) => write!(f, "{meaning}"),
+            Code::OfNew(meaning) => write!(f, "of the new program: {meaning}"),
+        }
+    }
+}
+
+// The most of a code's number.
+const LAST_CODE: u8 = 40;
 
 // tables codes [CODE]: each code with its sentence, or that of the code that is named.
-pub fn list(rt: &HostRuntime) {
+pub fn list(rt: &HostRuntime) -> Result<(), Told> {
     let mut word = [0u8; 16];
     let n = given::word(rt, 2, &mut word);
-    if !asked(rt, &word[..n]) {
-        say::no_code(rt);
-    }
-}
-
-// Says the lines that a word asks for; true if there is one.
-fn asked(rt: &HostRuntime, word: &[u8]) -> bool {
-    let mut code: u8 = 1;
+    let word = &word[..n];
     let mut any = false;
-    while code < 41 {
-        if is_wanted(word, code) {
-            any = listed(rt, code);
+    for number in 1..=LAST_CODE {
+        if let Ok(code) = Code::try_from(number) {
+            if is_wanted(word, number) {
+                show(rt, format_args!("{number} {code}\n"))?;
+                any = true;
+            }
         }
-        code += 1;
     }
-    any
+    if any {
+        Ok(())
+    } else {
+        Err(misused(rt, Misuse::NoCode))
+    }
 }
 
 // Is a code asked for, by a word that is empty or its number?
-fn is_wanted(word: &[u8], code: u8) -> bool {
+fn is_wanted(word: &[u8], number: u8) -> bool {
     let mut digits = [0u8; 20];
-    let k = io::decimal(code as u64, &mut digits);
-    if is_code(code) {
-        return word.len() == 0 || check::same(word, &digits[..k]);
+    let k = io::decimal(number as u64, &mut digits);
+    word.is_empty() || word == &digits[..k]
+}
+
+// The word of a kind, and what stands before it; nothing where there is no such kind.
+pub fn kind_word(rt: &HostRuntime, before: &str, number: u8) -> Result<(), Told> {
+    match Kind::try_from(number) {
+        Ok(kind) => show(rt, format_args!("{before}{kind}")),
+        Err(_) => Ok(()),
     }
-    false
 }
 
-// The line of a code.
-fn listed(rt: &HostRuntime, code: u8) -> bool {
-    numbered(rt, b"", code as u32);
-    put(rt, b" ");
-    sentence_of(rt, code);
-    put(rt, b"\n")
-}
-
-// A word, and what stands before it.
-fn behind(rt: &HostRuntime, before: &[u8], word: &[u8]) -> bool {
-    put(rt, before);
-    put(rt, word)
-}
-
-// The word of a kind, and what stands before it; nothing where there is no such kind. A line for each kind.
-pub fn kind_word(rt: &HostRuntime, before: &[u8], kind: u8) -> bool {
-    let word = row(
-        b"\ninput\ntime\next\ndelay\nlet signal\nswitch\nlet continue\nuntil\nbranch\ncase\n\n\n\n\n\nvariable\nconstant\nadd\nsubtract\nmultiply\ndivide\nless\nequal\nnot\nand\nor\nif\njust\ntake",
-        kind,
-    );
-    if word.len() == 0 {
-        return true;
-    }
-    behind(rt, before, word)
+// How many records a program has.
+pub fn records(p: &[u8]) -> usize
+    ensures { result ≡ records p.now }
+{
+    p.len() / 512 * 42
 }
 
 // The kind of record r, where there is such a record.
 pub fn kind_at(p: &[u8], r: usize) -> u8
     ensures { r < records p.now → result ≡ kind_at p.now r }
 {
-    if r < p.len() / 512 * 42 {
+    if r < records(p) {
         let at = table::record_at(p, r);
         return p[at];
     }
     0
 }
 
-// A number behind a word.
-pub fn numbered(rt: &HostRuntime, word: &[u8], n: u32) -> bool {
-    let mut digits = [0u8; 20];
-    let k = io::decimal(n as u64, &mut digits);
-    put(rt, word);
-    put(rt, &digits[..k])
-}
-
 // How many nodes an accepted table has.
 pub fn nodes(p: &[u8]) -> u32 {
     match watch::check(p) {
-        Checked::Accepted(n, _, _, _) => n,
-        Checked::Refused(_) => 0,
+        Ok(found) => found.nodes,
+        Err(_) => 0,
     }
-}
-
-// The place: a block, a record of the table or a node with the word of its kind.
-fn place_words(rt: &HostRuntime, p: &[u8], code: u8, place: u32) -> bool {
-    if code < 2 {
-        return true;
-    }
-    if code < 4 {
-        return numbered(rt, b": block ", place);
-    }
-    if code < 5 {
-        return record_words(rt, b": record ", p, place);
-    }
-    if code < 9 {
-        return record_words(rt, b": node ", p, place);
-    }
-    true
 }
 
 // A record behind a word, with the word of its kind.
-fn record_words(rt: &HostRuntime, word: &[u8], p: &[u8], place: u32) -> bool {
-    numbered(rt, word, place);
-    kind_word(rt, b", ", kind_at(p, place as usize))
+fn record_words(rt: &HostRuntime, word: &str, p: &[u8], place: u32) -> Result<(), Told> {
+    show(rt, format_args!(": {word} {place}"))?;
+    kind_word(rt, ", ", kind_at(p, place as usize))
+}
+
+// The place: a block, a record of the table or a node with the word of its kind.
+fn place_words(rt: &HostRuntime, p: &[u8], r: Refusal) -> Result<(), Told> {
+    match r {
+        Refusal::CheckSum(block) => show(rt, format_args!(": block {block}")),
+        Refusal::BlockNumber(block) => show(rt, format_args!(": block {block}")),
+        Refusal::RecordFault(record) => record_words(rt, "record", p, record),
+        Refusal::ShapeFault(node) => record_words(rt, "node", p, node),
+        Refusal::ScopeFault(node) => record_words(rt, "node", p, node),
+        Refusal::TypeFault(node) => record_words(rt, "node", p, node),
+        Refusal::NotReady(node) => record_words(rt, "node", p, node),
+        _ => Ok(()),
+    }
 }
 
 // A line in words, for people; the line of numbers follows it.
-pub fn told(rt: &HostRuntime, p: &[u8], r: Refusal) -> bool {
-    let code = rules::code_of(r);
-    let place = rules::place_of(r);
-    sentence(rt, code);
-    place_words(rt, p, code, place);
+fn told(rt: &HostRuntime, p: &[u8], code: Code, r: Refusal) -> Result<(), Told> {
+    show(rt, code)?;
+    place_words(rt, p, r)?;
     put(rt, b"\n")
+}
+
+// The refusal of a program: in words, and as the last line.
+pub fn refused(rt: &HostRuntime, p: &[u8], r: Refusal) -> Result<(), Told> {
+    told(rt, p, Code::Of(Meaning::from(r)), r)?;
+    say::refused(rt, r)
 }
 
 // The same for the new program of two, whose codes have 32 added.
-pub fn told_new(rt: &HostRuntime, p: &[u8], r: Refusal) -> bool {
-    put(rt, b"of the new program: ");
-    told(rt, p, r)
+pub fn refused_new(rt: &HostRuntime, p: &[u8], r: Refusal) -> Result<(), Told> {
+    let meaning = Meaning::from(r);
+    told(rt, p, Code::OfNew(meaning), r)?;
+    say::refused_at(rt, meaning as u8 + 32, rules::place_of(r))
 }
 
-// The same for a code that has no place.
-pub fn told_alone(rt: &HostRuntime, code: u8) -> bool {
-    sentence_of(rt, code);
-    put(rt, b"\n")
+// The same for a refusal whose place is not said in words.
+pub fn refused_alone(rt: &HostRuntime, meaning: Meaning, place: u32) -> Result<(), Told> {
+    show(rt, format_args!("{meaning}\n"))?;
+    say::refused_at(rt, meaning as u8, place)
 }

@@ -1,5 +1,5 @@
 // The words that the program is called with: word 0 is the program's own name.
-ghost use Rattle.std.specs.Prelude.{◌≤◌, IfOk, length};
+ghost use Rattle.std.specs.Prelude.{IfOk};
 ghost use Rattle.io.specs.Counts.{IsPrefixLen};
 
 use std::env::FillError;
@@ -11,25 +11,26 @@ const EINVAL: i32 = 22;
 
 const ENAMETOOLONG: i32 = 36;
 
+// Why a word is not there, as an error of the system.
+fn missing(error: FillError) -> Error {
+    Error::from_raw_os_error(match error {
+        FillError::NotPresent => EINVAL,
+        FillError::TooLong => ENAMETOOLONG,
+    })
+}
+
 // Puts word i at the start of room, and answers its length, or why it is not there.
 pub fn whole_word(rt: &HostRuntime, i: usize, room: &mut [u8]) -> Result<usize, Error>
-    ensures { IfOk result (λ n. n ≤ length room.new) }
+    ensures { IfOk result (λ n. IsPrefixLen n room.new) }
 {
-    match rt.arg(i, room) {
-        Ok(n) => Ok(n),
-        Err(FillError::NotPresent) => Err(Error::from_raw_os_error(EINVAL)),
-        Err(FillError::TooLong) => Err(Error::from_raw_os_error(ENAMETOOLONG)),
-    }
+    rt.arg(i, room).map_err(missing)
 }
 
 // The same, with 0 where it is missing or longer than room.
 pub fn word(rt: &HostRuntime, i: usize, room: &mut [u8]) -> usize
     ensures { IsPrefixLen result room.new }
 {
-    match rt.arg(i, room) {
-        Ok(n) => n,
-        Err(_) => 0,
-    }
+    rt.arg(i, room).unwrap_or(0)
 }
 
 // Is there a word i?
@@ -40,10 +41,7 @@ pub fn is_word(rt: &HostRuntime, i: usize) -> bool {
 
 // How many words there are.
 pub fn count(rt: &HostRuntime) -> usize {
-    for i in 0..usize::MAX {
-        if !is_word(rt, i) {
-            return i;
-        }
-    }
-    usize::MAX
+    (0..usize::MAX)
+        .find(|&i| !is_word(rt, i))
+        .unwrap_or(usize::MAX)
 }

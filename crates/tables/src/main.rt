@@ -1,4 +1,4 @@
-// tables WORD ARGUMENTS: the commands over tables. A further command is a module with one public function, a test below and a line of help.
+// tables WORD ARGUMENTS: the commands over tables. A further command is a module with one public function, a word below and a line of help.
 #![tactic(auto)]
 
 mod checking;
@@ -6,77 +6,81 @@ mod codes;
 mod files;
 mod given;
 mod here;
+mod kind;
 mod mended;
 mod paired;
-mod rows;
 mod say;
 mod tidying;
 mod typed;
 mod watching;
 mod why;
 
-// Does what a word names: a command over a table,
-fn chosen(rt: &HostRuntime, word: &[u8]) {
-    if check::same(word, b"check") {
-        checking::check(rt);
-        return;
-    }
-    if check::same(word, b"read") {
-        typed::read(rt);
-        return;
-    }
-    if check::same(word, b"print") {
-        typed::print(rt);
-        return;
-    }
-    if check::same(word, b"why") {
-        why::why(rt);
-        return;
-    }
-    changed(rt, word);
+use say::{Misuse, Told, misused};
+
+// What a word names: a command over a table, one over a table and another file, or one about the commands.
+#[derive(Clone, Copy, Debug, PartialEq, Eq)]
+enum Command {
+    Check,
+    Read,
+    Print,
+    Why,
+    Mend,
+    Pair,
+    Tidy,
+    Watch,
+    Codes,
+    Version,
+    Help,
 }
 
-// a command over a table and another file,
-fn changed(rt: &HostRuntime, word: &[u8]) {
-    if check::same(word, b"mend") {
-        mended::mend(rt);
-        return;
+impl TryFrom<&[u8]> for Command {
+    type Error = Misuse;
+
+    fn try_from(word: &[u8]) -> Result<Command, Misuse> {
+        match word {
+            b"check" => Ok(Command::Check),
+            b"read" => Ok(Command::Read),
+            b"print" => Ok(Command::Print),
+            b"why" => Ok(Command::Why),
+            b"mend" => Ok(Command::Mend),
+            b"pair" => Ok(Command::Pair),
+            b"tidy" => Ok(Command::Tidy),
+            b"watch" => Ok(Command::Watch),
+            b"codes" => Ok(Command::Codes),
+            b"version" => Ok(Command::Version),
+            b"help" => Ok(Command::Help),
+            _ => Err(Misuse::NoCommand),
+        }
     }
-    if check::same(word, b"pair") {
-        paired::pair(rt);
-        return;
-    }
-    if check::same(word, b"tidy") {
-        tidying::tidy(rt);
-        return;
-    }
-    if check::same(word, b"watch") {
-        watching::watch_nodes(rt);
-        return;
-    }
-    told(rt, word);
 }
 
-// or a word about the commands.
-fn told(rt: &HostRuntime, word: &[u8]) {
-    if check::same(word, b"codes") {
-        codes::list(rt);
-        return;
+impl Command {
+    fn run(self, rt: &HostRuntime) -> Result<(), Told> {
+        match self {
+            Command::Check => checking::check(rt),
+            Command::Read => typed::read(rt),
+            Command::Print => typed::print(rt),
+            Command::Why => why::why(rt),
+            Command::Mend => mended::mend(rt),
+            Command::Pair => paired::pair(rt),
+            Command::Tidy => tidying::tidy(rt),
+            Command::Watch => watching::watch_nodes(rt),
+            Command::Codes => codes::list(rt),
+            Command::Version => say::version(rt),
+            Command::Help => say::help(rt),
+        }
     }
-    if check::same(word, b"version") {
-        say::version(rt);
-        return;
-    }
-    if check::same(word, b"help") {
-        say::help(rt);
-        return;
-    }
-    say::no_command(rt);
 }
 
-// The command that the first argument names.
-fn main(rt: HostRuntime) {
+// Does what the first argument names.
+fn chosen(rt: &HostRuntime) -> Result<(), Told> {
     let mut word = [0u8; 16];
-    let n = given::word(&rt, 1, &mut word);
-    chosen(&rt, &word[..n]);
+    let n = given::word(rt, 1, &mut word);
+    let command = Command::try_from(&word[..n]).map_err(|misuse| misused(rt, misuse))?;
+    command.run(rt)
+}
+
+// What went wrong is told by then, and ./tables gives the status by the last line.
+fn main(rt: HostRuntime) {
+    let _ = chosen(&rt);
 }

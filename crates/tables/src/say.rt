@@ -1,6 +1,42 @@
 // The lines.
 use rules::Refusal;
+use std::fmt;
 use std::io::{Error, Print};
+
+// What went wrong is told on standard error already: no line follows it.
+#[derive(Clone, Copy, Debug, PartialEq, Eq)]
+pub struct Told;
+
+// Bad use: what no command takes.
+#[derive(Clone, Copy, Debug, PartialEq, Eq)]
+pub enum Misuse {
+    NoCommand,
+    NoCode,
+    LongText,
+    HalfEntry,
+    NoFile,
+    NoNode,
+}
+
+impl fmt::Display for Misuse {
+    fn fmt<W: fmt::Write>(&self, f: &mut fmt::Formatter<W>) -> fmt::Result {
+        f.write_str(match self {
+            Misuse::NoCommand => "no such command; tables help lists them",
+            Misuse::NoCode => "no such code; tables codes lists them",
+            Misuse::LongText => "the text is longer than 262,144 bytes",
+            Misuse::HalfEntry => "the pairing is not whole entries of 2 bytes",
+            Misuse::NoFile =>
+                "mend writes the state back in its file, and takes none from standard input",
+            Misuse::NoNode => "a node is a number from 0 to 65535",
+        })
+    }
+}
+
+// Tells bad use on standard error.
+pub fn misused(rt: &HostRuntime, misuse: Misuse) -> Told {
+    let _ = rt.stderr().print(format_args!("tables: {misuse}\n"));
+    Told
+}
 
 // Writes words to standard error. There is nowhere to say that they are lost.
 fn warn(rt: &HostRuntime, words: &[u8]) {
@@ -26,63 +62,62 @@ fn put_error(rt: &HostRuntime, error: Error) {
 }
 
 // Writes a line to standard error: what failed, and why.
-pub fn failed(rt: &HostRuntime, what: &[u8], error: Error) {
+pub fn failed(rt: &HostRuntime, what: &[u8], error: Error) -> Told {
     warn(rt, what);
     warn(rt, b": ");
     put_error(rt, error);
     warn(rt, b"\n");
+    Told
 }
 
-// Writes a line, or a part of one, or says on standard error that it is lost.
-pub(crate) fn put(rt: &HostRuntime, line: &[u8]) -> bool {
-    match rt.write_all(line) {
-        Ok(()) => true,
-        Err(error) => {
-            failed(rt, b"tables: standard output", error);
-            false
-        }
-    }
+// A write to standard output, or that it is lost, told on standard error.
+fn kept(rt: &HostRuntime, written: Result<(), Error>) -> Result<(), Told> {
+    written.map_err(|error| failed(rt, b"tables: standard output", error))
 }
 
-pub fn accepted(rt: &HostRuntime, n: u32, held: u32, bound: u32, ty: u8) -> bool {
-    let mut line = [0u8; 64];
-    let k = lines::first_line(n, held, bound, ty, &mut line);
-    put(rt, &line[..k])
+// Writes bytes: a line, or a part of one.
+pub fn put(rt: &HostRuntime, bytes: &[u8]) -> Result<(), Told> {
+    kept(rt, rt.write_all(bytes))
+}
+
+// Writes what prints itself: a line, or a part of one.
+pub fn show<D: fmt::Display + Drop>(rt: &HostRuntime, what: D) -> Result<(), Told> {
+    kept(rt, rt.print(what))
+}
+
+// Writes a line that a function of crate lines puts at the start of a room.
+fn line<F: FnOnce(&mut [u8; 64]) -> usize>(rt: &HostRuntime, make: F) -> Result<(), Told>
+    requires { F.IsAlwaysCallable make }
+{
+    let mut room = [0u8; 64];
+    let n = make(&mut room);
+    put(rt, feed::first(&room, n))
+}
+
+pub fn accepted(rt: &HostRuntime, n: u32, held: u32, bound: u32, ty: u8) -> Result<(), Told> {
+    line(rt, |room| lines::first_line(n, held, bound, ty, room))
 }
 
 // The channels that a table names, a bit a channel.
-pub fn channels(rt: &HostRuntime, bits: u8) -> bool {
-    let mut line = [0u8; 64];
-    let k = lines::channels_line(bits, &mut line);
-    put(rt, &line[..k])
+pub fn channels(rt: &HostRuntime, bits: u8) -> Result<(), Told> {
+    line(rt, |room| lines::channels_line(bits, room))
 }
 
-pub fn refused(rt: &HostRuntime, r: Refusal) -> bool {
-    let mut line = [0u8; 64];
-    let k = lines::refused_line(r, &mut line);
-    put(rt, &line[..k])
+pub fn refused(rt: &HostRuntime, r: Refusal) -> Result<(), Told> {
+    line(rt, |room| lines::refused_line(r, room))
 }
 
 // The last line for a code that is no refusal of one program.
-pub fn refused_at(rt: &HostRuntime, code: u32, place: u32) -> bool {
-    let mut digits = [0u8; 20];
-    put(rt, b"REFUSED ");
-    let k = io::decimal(code as u64, &mut digits);
-    put(rt, &digits[..k]);
-    put(rt, b" ");
-    let k = io::decimal(place as u64, &mut digits);
-    put(rt, &digits[..k]);
-    put(rt, b"\n")
+pub fn refused_at(rt: &HostRuntime, code: u8, place: u32) -> Result<(), Told> {
+    show(rt, format_args!("REFUSED {code} {place}\n"))
 }
 
 // Two numbers as a run's last line: the let that is explained and how many entries its chain has; the nodes of an old and of a new table.
-pub fn ended(rt: &HostRuntime, x: u32, entries: u32) -> bool {
-    let mut line = [0u8; 64];
-    let k = lines::end_line(x, entries, &mut line);
-    put(rt, &line[..k])
+pub fn ended(rt: &HostRuntime, x: u32, entries: u32) -> Result<(), Told> {
+    line(rt, |room| lines::end_line(x, entries, room))
 }
 
-pub fn help(rt: &HostRuntime) -> bool {
+pub fn help(rt: &HostRuntime) -> Result<(), Told> {
     put(
         rt,
         b"tables check FILE                  checks a table, and prints the channels that it names; - is standard input
@@ -102,33 +137,6 @@ tables help                        prints this
 }
 
 // The version stands in include/couplerfinch.h; tools/hosts holds this line against it.
-pub fn version(rt: &HostRuntime) -> bool {
+pub fn version(rt: &HostRuntime) -> Result<(), Told> {
     put(rt, b"couplerfinch 1.1.0\n")
-}
-
-pub fn no_command(rt: &HostRuntime) {
-    warn(rt, b"tables: no such command; tables help lists them\n");
-}
-
-pub fn no_code(rt: &HostRuntime) {
-    warn(rt, b"tables: no such code; tables codes lists them\n");
-}
-
-pub fn long_text(rt: &HostRuntime) {
-    warn(rt, b"tables: the text is longer than 262,144 bytes\n");
-}
-
-pub fn half_entry(rt: &HostRuntime) {
-    warn(rt, b"tables: the pairing is not whole entries of 2 bytes\n");
-}
-
-pub fn no_file(rt: &HostRuntime) {
-    warn(
-        rt,
-        b"tables: mend writes the state back in its file, and takes none from standard input\n",
-    );
-}
-
-pub fn no_node(rt: &HostRuntime) {
-    warn(rt, b"tables: a node is a number from 0 to 65535\n");
 }

@@ -1,7 +1,7 @@
 // tables watch NODE..: standard input as watchrun takes it; each step's line with the listed nodes' values behind it, - where the evaluation did
 // not come to the node. Each line is written as its step is done. How much is read, what is a record, and what each line is, crates turns and lines
 // answer.
-ghost use Rattle.std.specs.Prelude.{true, false, ◌≡◌, ◌+◌, ◌≤◌, ◌<◌, length, take};
+ghost use Rattle.std.specs.Prelude.{◌≡◌, ◌≤◌, ◌<◌, length, take, IfOk, MatchOption};
 ghost use Rattle.io.specs.Counts.{IsPrefixLen};
 ghost use Rattle.rules.specs.Bytes.{u64_at};
 ghost use Rattle.rules.specs.Layout.{time_in};
@@ -9,75 +9,53 @@ ghost use Rattle.rules.specs.Values.{unpacked};
 ghost use Rattle.lines.specs.Shown.{shown_line};
 ghost use Rattle.tables.specs.Named.{with_digit, number_of};
 
+use crate::codes::Meaning;
 use crate::paired::entry;
-use crate::say::put;
+use crate::say::{Misuse, Told, failed, misused, put, show};
 use crate::{codes, given, say};
-use feed::Place;
-use rules::{Checked, Ran, Refusal, Started};
+use feed::Reader;
+use rules::{Checked, Ran, Refusal, Stopped};
 use std::io::{Error, Read};
-use watched::Watched;
+use watched::ListFault;
 
-// A number with one more digit behind it; 65536 where that is no digit, or the number none of 16 bits.
-fn longer(n: u32, b: u8) -> u32
-    requires { n ≤ 65535 }
-    ensures { result ≡ with_digit n b }
+// A number with one more digit behind it; none where that is no digit, or the number none of 16 bits.
+#[tactic(auto, using(crate::proofs::NamedLaws::digits))]
+fn longer(n: u16, b: u8) -> Option<u16>
+    ensures { MatchOption result (with_digit n b ≡ 65536) (λ m. (with_digit n b ≡ m) × (m ≤ 65535)) }
 {
-    if b < b'0' {
-        return 65536;
+    match b {
+        b'0'..=b'9' => n.checked_mul(10)?.checked_add(u16::from(b - b'0')),
+        _ => None,
     }
-    if b > b'9' {
-        return 65536;
-    }
-    let m = n * 10 + (b - b'0') as u32;
-    if m > 65535 {
-        return 65536;
-    }
-    m
 }
 
-// The number that an argument says; 65536 where it is none of 16 bits.
-fn number(text: &[u8]) -> u32
-    ensures { result ≡ number_of text.now }
+// The number that an argument says; none where it is none of 16 bits.
+fn number(text: &[u8]) -> Option<u16>
+    ensures { MatchOption result (number_of text.now ≡ 65536) (λ n. number_of text.now ≡ n) }
 {
-    if text.len() == 0 {
-        return 65536;
+    if text.is_empty() {
+        return None;
     }
-    let mut n: u32 = 0;
-    let mut i: usize = 0;
-    while i < text.len() {
-        n = longer(n, text[i]);
-        if n > 65535 {
-            return 65536;
-        }
-        i += 1;
+    let mut n = 0;
+    for &b in text {
+        n = longer(n, b)?;
     }
-    n
+    Some(n)
 }
 
-// The node that argument i names; 65536 for none.
-fn node(rt: &HostRuntime, i: usize) -> u32 {
+// The node that argument i names.
+fn node(rt: &HostRuntime, i: usize) -> Result<u16, Misuse> {
     let mut text = [0u8; 16];
     let n = given::word(rt, i, &mut text);
-    number(&text[..n])
+    number(&text[..n]).ok_or(Misuse::NoNode)
 }
 
-// Puts the nodes that the arguments name into a list of nine (more than eight are refused by 17 in any case); false where one is no number.
-fn nodes(rt: &HostRuntime, list: &mut [u16], count: usize) -> bool
-    requires { length list.old ≡ 9 }
-{
-    let mut j: usize = 0;
-    while j < list.len() {
-        if j >= count {
-            return true;
-        }
-        let n = node(rt, 2 + j);
-        if n > 65535 {
-            return false;
-        }
-        list[j] = n as u16;
-        j += 1;
+// Puts the nodes that the arguments name into a list.
+fn nodes(rt: &HostRuntime, list: &mut [u16]) -> Result<(), Misuse> {
+    for (entry, i) in list.iter_mut().zip(2..usize::MAX) {
+        *entry = node(rt, i)?;
     }
-    true
+    Ok(())
 }
 
 // The line of a step: the record's time, the value of its 8 bytes, the work, and the first entries of its row.
@@ -98,7 +76,7 @@ fn step_line(
     lines::shown_line(time, v, work, row, entries, line)
 }
 
-// Writes the line of a step; false where it is lost.
+// Writes the line of a step.
 fn put_step(
     rt: &HostRuntime,
     rec: &[u8; 40],
@@ -106,7 +84,7 @@ fn put_step(
     work: u32,
     row: &[u8; 64],
     entries: usize,
-) -> bool
+) -> Result<(), Told>
     requires { entries ≤ 8 }
 {
     let mut line = [0u8; 175];
@@ -114,360 +92,206 @@ fn put_step(
     put(rt, &line[..n])
 }
 
-// After a turn: what is unread, the steps done and their work, and whether there is more to do.
-#[derive(Clone, Copy)]
-struct Next {
-    at: usize,
-    end: usize,
-    steps: u32,
-    total: u32,
-    more: bool,
-}
-
-// Nothing more is to be read or printed.
-fn stop() -> Next
-    ensures { result.more ≡ false }
-{
-    Next {
-        at: 0,
-        end: 0,
-        steps: 0,
-        total: 0,
-        more: false,
-    }
+// A read of standard input that failed is told: what was printed is not the whole run.
+fn unread(rt: &HostRuntime, error: Error) -> Told {
+    failed(rt, b"tables: standard input", error)
 }
 
 // A refusal of the run, in words and as the last line.
-fn refuse(rt: &HostRuntime, r: Refusal) -> Next
-    ensures { result.more ≡ false }
-{
-    codes::told_alone(rt, rules::code_of(r));
-    say::refused(rt, r);
-    stop()
+fn refuse(rt: &HostRuntime, r: Refusal) -> Result<(), Told> {
+    codes::refused_alone(rt, Meaning::from(r), rules::place_of(r))
 }
 
 // A list that has not 1 to 8 entries.
-fn refuse_length(rt: &HostRuntime) -> Next
-    ensures { result.more ≡ false }
-{
-    codes::told_alone(rt, 17);
-    say::refused_at(rt, 17, 0);
-    stop()
-}
-
-// An entry of the list that is off: its place, its node and the word of that node's kind.
-fn refuse_entry(rt: &HostRuntime, program: &[u8], list: &[u16], j: u32) -> Next
-    ensures { result.more ≡ false }
-{
-    let x = entry(list, j as usize);
-    codes::sentence_of(rt, 18);
-    codes::numbered(rt, b": entry ", j);
-    codes::numbered(rt, b", node ", x);
-    codes::kind_word(rt, b", ", codes::kind_at(program, x as usize));
-    put(rt, b"\n");
-    say::refused_at(rt, 18, j);
-    stop()
-}
-
-// A sum that stays a number of 32 bits. (No run's work comes near what is none.)
-fn sum(a: u32, b: u32) -> u32 {
-    if b > u32::MAX - a {
-        return u32::MAX;
-    }
-    a + b
-}
-
-// What the run of one record did: its line, or its refusal, with the steps printed for its place.
-fn ran_one(
-    rt: &HostRuntime,
-    ran: Ran,
-    place: Place,
-    steps: u32,
-    total: u32,
-    rec: &[u8; 40],
-    value: &[u8; 8],
-    row: &[u8; 64],
-    entries: usize,
-) -> Next
-    requires { (entries ≤ 8) × (steps < 4096) }
-    ensures { result.more ≡ true → result.steps ≡ steps + 1 }
-{
-    match ran {
-        Ran::Finished(_, work, _) => {
-            let is_put = put_step(rt, rec, value, work, row, entries);
-            Next {
-                at: place.at,
-                end: place.end,
-                steps: steps + 1,
-                total: sum(total, work),
-                more: is_put,
-            }
-        }
-        Ran::Refused(r, _, _) => refuse(rt, turns::placed(steps, r)),
-    }
-}
-
-// The watched run of one record, with the first n bytes of a row for its entries.
-fn one_watched(
-    program: &[u8],
-    state: &mut [u8],
-    rec: &[u8],
-    list: &[u16],
-    value: &mut [u8],
-    row: &mut [u8],
-    n: usize,
-) -> Watched {
-    if n > row.len() {
-        return Watched::ListLength;
-    }
-    peeking::watched(program, state, rec, list, value, &mut row[..n])
-}
-
-// A step of one record, and its line.
-fn stepped(
-    rt: &HostRuntime,
-    place: Place,
-    steps: u32,
-    total: u32,
-    program: &[u8],
-    state: &mut [u8],
-    list: &[u16],
-    rec: &[u8; 40],
-) -> Next
-    requires { steps < 4096 }
-    ensures { result.more ≡ true → result.steps ≡ steps + 1 }
-{
-    let mut value = [0u8; 8];
-    let mut row = [0u8; 64];
-    let n = list.len();
-    if n > 8 {
-        return refuse_length(rt);
-    }
-    match one_watched(program, state, rec, list, &mut value, &mut row, 8 * n) {
-        Watched::AsRun(ran) => ran_one(rt, ran, place, steps, total, rec, &value, &row, n),
-        Watched::ListLength => refuse_length(rt),
-        Watched::ListEntry(j) => refuse_entry(rt, program, list, j),
-    }
+fn refuse_length(rt: &HostRuntime) -> Result<(), Told> {
+    codes::refused_alone(rt, Meaning::WatchList, 0)
 }
 
 // The last line where no record is taken any more and so many bytes were read.
-fn last(rt: &HostRuntime, left: usize, steps: u32, total: u32) -> Next
-    ensures { result.more ≡ false }
-{
+fn last(rt: &HostRuntime, left: usize, steps: u32, total: u32) -> Result<(), Told> {
     if left > 0 {
         return refuse(rt, Refusal::RecordsLength);
     }
-    say::ended(rt, steps, total);
-    stop()
+    say::ended(rt, steps, total)
 }
 
-// The C library's number for a read that failed and now would not.
-const EIO: i32 = 5;
+// The most records of a run.
+const MOST_STEPS: u32 = 4096;
 
-// A read that failed is told: what was printed is not the whole run. Why it failed is what one more read answers.
-fn unread(rt: &HostRuntime) -> Next
-    ensures { result.more ≡ false }
-{
-    let mut none = [0u8; 1];
-    match rt.stdin().read(&mut none) {
-        Ok(_) => say::failed(rt, b"tables: standard input", Error::from_raw_os_error(EIO)),
-        Err(error) => say::failed(rt, b"tables: standard input", error),
+// A program, and the nodes of it that are watched.
+#[derive(Clone, Copy)]
+struct Watch<'a> {
+    program: &'a [u8],
+    list: &'a [u16],
+}
+
+impl<'a> Watch<'a> {
+    // An entry of the list that is off: its place, its node and the word of that node's kind.
+    fn refuse_entry(self, rt: &HostRuntime, j: u32) -> Result<(), Told> {
+        let meaning = Meaning::WatchEntry;
+        let x = entry(self.list, j as usize);
+        show(rt, format_args!("{meaning}: entry {j}, node {x}"))?;
+        codes::kind_word(rt, ", ", codes::kind_at(self.program, x as usize))?;
+        put(rt, b"\n")?;
+        say::refused_at(rt, meaning as u8, j)
     }
-    stop()
-}
 
-// One turn: reads what is wanted for it, and steps, or says the last line.
-fn turn(
-    rt: &HostRuntime,
-    place: Place,
-    steps: u32,
-    total: u32,
-    program: &[u8],
-    state: &mut [u8],
-    list: &[u16],
-    input: &mut [u8],
-) -> Next
-    ensures { result.more ≡ true → (steps < 4096) × (result.steps ≡ steps + 1) }
-{
-    let mut rec = [0u8; 40];
-    let got = feed::gather(rt, place, input, &mut rec, 0, turns::wanted(steps));
-    let after = got.place;
-    if after.failed {
-        return unread(rt);
-    }
-    if turns::is_record(got.count, steps) {
-        return stepped(rt, after, steps, total, program, state, list, &rec);
-    }
-    last(rt, got.count, steps, total)
-}
-
-// One turn after the other, while there is more to do.
-fn turns(
-    rt: &HostRuntime,
-    place: Place,
-    program: &[u8],
-    state: &mut [u8],
-    list: &[u16],
-    input: &mut [u8],
-) {
-    let mut at = place.at;
-    let mut end = place.end;
-    let mut steps: u32 = 0;
-    let mut total: u32 = 0;
-    let mut more = true;
-    while more {
-        let here = Place {
-            at: at,
-            end: end,
-            failed: false,
-        };
-        let t = turn(rt, here, steps, total, program, state, list, input);
-        at = t.at;
-        end = t.end;
-        steps = t.steps;
-        total = t.total;
-        more = t.more;
-    }
-}
-
-// Tries the list on no records.
-fn tried(program: &[u8], state: &mut [u8], list: &[u16]) -> Watched {
-    let none = [0u8; 40];
-    let mut value = [0u8; 8];
-    let mut row = [0u8; 8];
-    peeking::watched(
-        program,
-        state,
-        &none[..0],
-        list,
-        &mut value[..0],
-        &mut row[..0],
-    )
-}
-
-// Tries the list, and makes the turns.
-fn begun(
-    rt: &HostRuntime,
-    place: Place,
-    program: &[u8],
-    state: &mut [u8],
-    list: &[u16],
-    input: &mut [u8],
-) {
-    match tried(program, state, list) {
-        Watched::AsRun(_) => {
-            turns(rt, place, program, state, list, input);
+    // A step of one record, and its line. Answers its work where the run goes on, none where it is refused.
+    fn stepped(
+        self,
+        rt: &HostRuntime,
+        state: &mut [u8],
+        steps: u32,
+        rec: &[u8; 40],
+    ) -> Result<Option<u32>, Told> {
+        let mut value = [0u8; 8];
+        let mut row = [0u8; 64];
+        let n = self.list.len();
+        if n > 8 {
+            refuse_length(rt)?;
+            return Ok(None);
         }
-        Watched::ListLength => {
-            refuse_length(rt);
+        match peeking::watched(
+            self.program,
+            state,
+            rec,
+            self.list,
+            &mut value,
+            &mut row[..8 * n],
+        ) {
+            Ok(ran) => match ran {
+                Ok(ran) => {
+                    put_step(rt, rec, &value, ran.work, &row, n)?;
+                    return Ok(Some(ran.work));
+                }
+                Err(stop) => refuse(rt, turns::placed(steps, stop.why))?,
+            },
+            Err(ListFault::ListLength) => refuse_length(rt)?,
+            Err(ListFault::ListEntry(j)) => self.refuse_entry(rt, j)?,
         }
-        Watched::ListEntry(j) => {
-            refuse_entry(rt, program, list, j);
-        }
+        Ok(None)
     }
-}
 
-// Starts a state, and goes on.
-fn started(
-    rt: &HostRuntime,
-    place: Place,
-    program: &[u8],
-    state: &mut [u8],
-    list: &[u16],
-    input: &mut [u8],
-) {
-    match watch::start(program, state) {
-        Started::Ready => {
-            begun(rt, place, program, state, list, input);
+    // One turn: reads what is wanted for it, and steps, or says the last line. Answers the work of all steps where there is more to do.
+    fn turn<R: Read>(
+        self,
+        rt: &HostRuntime,
+        reader: &mut Reader<'_, R>,
+        state: &mut [u8],
+        steps: u32,
+        total: u32,
+    ) -> Result<Option<u32>, Told> {
+        let mut rec = [0u8; 40];
+        let got = reader
+            .gather(&mut rec, turns::wanted(steps))
+            .map_err(|error| unread(rt, error))?;
+        if turns::is_record(got, steps) {
+            let work = self.stepped(rt, state, steps, &rec)?;
+            return Ok(work.map(|more| total.saturating_add(more)));
         }
-        Started::Refused(r) => {
-            refuse(rt, r);
-        }
+        last(rt, got, steps, total)?;
+        Ok(None)
     }
-}
 
-// Lends the first n bytes of the state, which all states of accepted programs fit in.
-fn lent(
-    rt: &HostRuntime,
-    place: Place,
-    n: usize,
-    program: &[u8],
-    state: &mut [u8],
-    list: &[u16],
-    input: &mut [u8],
-) {
-    if n > state.len() {
-        return;
-    }
-    started(rt, place, program, &mut state[..n], list, input);
-}
-
-// Checks a table, prints its first line, and watches its run.
-fn checked(rt: &HostRuntime, place: Place, program: &[u8], list: &[u16], input: &mut [u8]) {
-    let mut state = [0u8; 8072];
-    match watch::check(program) {
-        Checked::Accepted(n, held, bound, ty) => {
-            if say::accepted(rt, n, held, bound, ty) {
-                lent(
-                    rt,
-                    place,
-                    8 + 8 * (held as usize),
-                    program,
-                    &mut state,
-                    list,
-                    input,
-                );
+    // One turn after the other, while there is more to do: one for each record at most, and one that says the last line.
+    fn turns<R: Read>(
+        self,
+        rt: &HostRuntime,
+        reader: &mut Reader<'_, R>,
+        state: &mut [u8],
+    ) -> Result<(), Told> {
+        let mut total = 0;
+        for steps in 0..=MOST_STEPS {
+            match self.turn(rt, reader, state, steps, total)? {
+                Some(all) => total = all,
+                None => break,
             }
         }
-        Checked::Refused(r) => {
-            codes::told(rt, program, r);
-            say::refused(rt, r);
+        Ok(())
+    }
+
+    // Tries the list on no records.
+    fn tried(self, state: &mut [u8]) -> Result<Result<Ran, Stopped>, ListFault> {
+        let none = [0u8; 0];
+        peeking::watched(
+            self.program,
+            state,
+            &none,
+            self.list,
+            &mut [0u8; 0],
+            &mut [0u8; 0],
+        )
+    }
+
+    // Starts a state, tries the list, and makes the turns.
+    fn started<R: Read>(
+        self,
+        rt: &HostRuntime,
+        reader: &mut Reader<'_, R>,
+        state: &mut [u8],
+    ) -> Result<(), Told> {
+        match watch::start(self.program, state) {
+            Ok(()) => {}
+            Err(r) => return refuse(rt, r),
+        }
+        match self.tried(state) {
+            Ok(_) => self.turns(rt, reader, state),
+            Err(ListFault::ListLength) => refuse_length(rt),
+            Err(ListFault::ListEntry(j)) => self.refuse_entry(rt, j),
         }
     }
+
+    // Checks the program, prints its first line, and watches its run, with the first bytes of a state, which all states of accepted programs fit in.
+    fn checked<R: Read>(self, rt: &HostRuntime, reader: &mut Reader<'_, R>) -> Result<(), Told> {
+        let mut state = [0u8; 8072];
+        match watch::check(self.program) {
+            Ok(found) => {
+                say::accepted(rt, found.nodes, found.cells, found.bound, found.root)?;
+                match state.get_mut(..8 + 8 * (found.cells as usize)) {
+                    Some(part) => self.started(rt, reader, part),
+                    None => Ok(()),
+                }
+            }
+            Err(r) => codes::refused(rt, self.program, r),
+        }
+    }
+}
+
+// Reads the blocks from the front of a run, and answers how many bytes they are.
+fn blocks<R: Read>(
+    rt: &HostRuntime,
+    reader: &mut Reader<'_, R>,
+    program: &mut [u8],
+) -> Result<usize, Told>
+    requires { 512 ≤ length program.old }
+{
+    let head = reader
+        .gather(program, 512)
+        .map_err(|error| unread(rt, error))?;
+    let left = turns::blocks_left(program, head);
+    let tail = reader
+        .gather(&mut program[512..], left)
+        .map_err(|error| unread(rt, error))?;
+    Ok(head + tail)
 }
 
 // Reads the blocks from standard input, and watches their run with a list.
-fn listed(rt: &HostRuntime, list: &[u16]) {
+fn listed(rt: &HostRuntime, list: &[u16]) -> Result<(), Told> {
     let mut input = io::large_buffer();
+    let mut reader = Reader::new(rt.reader(), &mut input);
     let mut program = [0u8; 12288];
-    let begin = Place {
-        at: 0,
-        end: 0,
-        failed: false,
-    };
-    let head = feed::gather(rt, begin, &mut input, &mut program, 0, 512);
-    let first = head.place;
-    if first.failed {
-        unread(rt);
-        return;
-    }
-    let left = turns::blocks_left(&program, head.count);
-    let tail = feed::gather(rt, first, &mut input, &mut program, 512, left);
-    let after = tail.place;
-    if after.failed {
-        unread(rt);
-        return;
-    }
-    checked(
-        rt,
-        after,
-        feed::first(&program, head.count + tail.count),
+    let n = blocks(rt, &mut reader, &mut program)?;
+    let watch = Watch {
+        program: feed::first(&program, n),
         list,
-        &mut input,
-    );
+    };
+    watch.checked(rt, &mut reader)
 }
 
-// Watches what the arguments name.
-pub fn watch_nodes(rt: &HostRuntime) {
-    let count = given::count(rt);
+// Watches what the arguments name. (A list of more than eight is refused by 17, so that the ninth says enough.)
+pub fn watch_nodes(rt: &HostRuntime) -> Result<(), Told> {
     let mut list = [0u16; 9];
-    if count < 3 {
-        listed(rt, &list[..0]);
-        return;
-    }
-    if !nodes(rt, &mut list, count - 2) {
-        say::no_node(rt);
-        return;
-    }
-    listed(rt, feed::first_entries(&list, count - 2));
+    let count = given::count(rt).saturating_sub(2).min(9);
+    nodes(rt, &mut list[..count]).map_err(|misuse| misused(rt, misuse))?;
+    listed(rt, &list[..count])
 }

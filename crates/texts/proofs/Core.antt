@@ -1,6 +1,7 @@
 -- Printed and read again: for a table that is laid out well (numbered children first), the reader stops nowhere in the printed text and gives the
 -- table's rows, with the printed names. (That the printed text has each target's branch is taken as given here: Aims.)
 -- Assumes nothing.
+use Rattle.std.specs.Prelude.{Some}
 use mathlib.Core.Path.{◌≡◌, refl, sym, ap, ◌∙◌}
 use mathlib.Core.Bool.{Bool, true, false}
 use mathlib.Core.List.{List, [], ◌∷◌, ◌++◌, append-nil, cons≢nil}
@@ -8,7 +9,6 @@ use Prim.Native.Nat.{ℕ, zero, suc, ◌-◌, ◌<◌, ◌≤◌}
 use native.Mathlib.Omega.{arith}
 use lib.ListN.{length}
 use Rattle.rules.specs.Bytes.{Bytes, first, first_from, ◌and◌, ◌or◌}
-use Rattle.rules.specs.declared.Place.TheVariants.{At}
 use Rattle.rules.specs.Layout.{nodes, edition}
 use Rattle.rules.specs.declared.Field.TheVariants.{Signal}
 use Rattle.texts.specs.Tokens.{Token, tokens, is_white, ends_line, is_comment, is_mark, is_part, are_parts, is_plain_word}
@@ -38,7 +38,7 @@ edition_word_lem zero l = refl
 edition_word_lem (suc zero) l = refl
 edition_word_lem (suc (suc e)) l = absurd (omega arith)
 
-pub edition_named_lem : (e : ℕ) → e ≤ 1 → edition_named (edition_word e) ≡ At e
+pub edition_named_lem : (e : ℕ) → e ≤ 1 → edition_named (edition_word e) ≡ Some e
 unfolding edition_named edition_word first first_from spelled same ◌and◌
 edition_named_lem zero l = refl
 edition_named_lem (suc zero) l = refl

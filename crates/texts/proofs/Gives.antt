@@ -1,6 +1,7 @@
 -- What a part of the reader gives, step by step: it is not stopped, and of what it gives something holds. A step's law says what the steps
 -- behind it may take for granted, so that a proof reads like the reader.
 -- Assumes nothing.
+use Rattle.std.specs.Prelude.{Some}
 use mathlib.Core.Path.{◌≡◌, refl, sym, ap, subst, ◌∙◌}
 use mathlib.Core.Bool.{Bool, true, false}
 use mathlib.Core.List.{List, [], ◌∷◌, nil≢cons, head-eq_of_cons-eq, tail-eq_of_cons-eq}
@@ -8,7 +9,6 @@ use Prim.Native.Nat.{ℕ}
 use lib.Dec.{T}
 use borrow.Author.Tests.{eq-eqb}
 use Rattle.rules.specs.Bytes.{Bytes, ◌and◌}
-use Rattle.rules.specs.declared.Place.TheVariants.{At}
 use Rattle.texts.specs.Tokens.{Token}
 use Rattle.texts.specs.Spelled.{same, is_among}
 use Rattle.texts.specs.Spelling.{type_named, is_name}
@@ -103,7 +103,7 @@ module _ {B : Type 0} {Q : Claim B} where
 
   -- A type's word.
   pub after_type : (k : ℕ → List Token → Sofar → Got B) (allowed : ℕ → Bool) (w : Bytes) (t : ℕ) (W : List Bytes) (finish : ℕ) (ts : List Token) (so : Sofar)
-      → words ts ≡ w ∷ W → type_named allowed w ≡ At t → ((rest : List Token) → words rest ≡ W → Gives Q (k t rest so))
+      → words ts ≡ w ∷ W → type_named allowed w ≡ Some t → ((rest : List Token) → words rest ≡ W → Gives Q (k t rest so))
       → Gives Q (type allowed finish ts so onward k)
   unfolding type
   after_type k allowed w t W finish ts so e is_a_type h =

@@ -1,5 +1,6 @@
 -- In a tree that is in scope each variable's binder is open above it, and each case's target is a branch: as the text form needs it.
 -- Assumes nothing.
+use Rattle.std.specs.Prelude.{None}
 use mathlib.Core.Path.{◌≡◌, refl, sym, ap, subst, ◌∙◌}
 use mathlib.Core.Bool.{Bool, true, false}
 use mathlib.Core.List.{[], ◌∷◌}
@@ -16,7 +17,6 @@ use Rattle.rules.specs.Kinds.{row, fields_of}
 use Rattle.rules.specs.Size.{size_e, size_s, size_b}
 use Rattle.rules.specs.Tree.{Expr, variable, constant, operation, negation, choice, just, taking, Signal, input, time, ext, delay, let_signal, switch, group, until, Branches, no_branch, branch, Cases, no_case, case}
 use Rattle.rules.specs.Scope.{Marks, mark, is_marked, Offers, has_branch, is_offered, onward, scope_e, scope_s, scope_b, scope_c}
-use Rattle.rules.specs.declared.Place.TheVariants.{Nowhere}
 use Rattle.rules.specs.declared.Field.TheVariants.{FirstBranch, NextBranch, FirstCase, NextCase}
 use Rattle.rules.proofs.Static.{both, holds, not_both}
 use Rattle.written.specs.Parts.{Part, part, child, size_p, size_k, row_p}
@@ -66,17 +66,17 @@ module _ (q : Bytes) (targets : Opens) (N : ℕ) (few : N ≤ 1008) (hit : (m : 
   no_offer x e = absurd (not_both e)
 
   -- Trees at equal places.
-  moved_e : (Γ : Marks) (e : Expr) (l m : ℕ) → l ≡ m → scope_e Γ (placed_e φ e l) ≡ Nowhere → scope_e Γ (placed_e φ e m) ≡ Nowhere
-  moved_e Γ e l m z h = subst (λ (x : ℕ). scope_e Γ (placed_e φ e x) ≡ Nowhere) z h
+  moved_e : (Γ : Marks) (e : Expr) (l m : ℕ) → l ≡ m → scope_e Γ (placed_e φ e l) ≡ None → scope_e Γ (placed_e φ e m) ≡ None
+  moved_e Γ e l m z h = subst (λ (x : ℕ). scope_e Γ (placed_e φ e x) ≡ None) z h
 
-  moved : (Γ : Marks) (Δ : Offers) (s : Signal) (l m : ℕ) → l ≡ m → scope_s e₀ Γ Δ (placed_s s κ φ l) ≡ Nowhere → scope_s e₀ Γ Δ (placed_s s κ φ m) ≡ Nowhere
-  moved Γ Δ s l m z h = subst (λ (x : ℕ). scope_s e₀ Γ Δ (placed_s s κ φ x) ≡ Nowhere) z h
+  moved : (Γ : Marks) (Δ : Offers) (s : Signal) (l m : ℕ) → l ≡ m → scope_s e₀ Γ Δ (placed_s s κ φ l) ≡ None → scope_s e₀ Γ Δ (placed_s s κ φ m) ≡ None
+  moved Γ Δ s l m z h = subst (λ (x : ℕ). scope_s e₀ Γ Δ (placed_s s κ φ x) ≡ None) z h
 
-  moved_b : (Γ : Marks) (Δ : Offers) (s : Branches) (l m : ℕ) → l ≡ m → scope_b e₀ Γ Δ (placed_b s κ φ l) ≡ Nowhere → scope_b e₀ Γ Δ (placed_b s κ φ m) ≡ Nowhere
-  moved_b Γ Δ s l m z h = subst (λ (x : ℕ). scope_b e₀ Γ Δ (placed_b s κ φ x) ≡ Nowhere) z h
+  moved_b : (Γ : Marks) (Δ : Offers) (s : Branches) (l m : ℕ) → l ≡ m → scope_b e₀ Γ Δ (placed_b s κ φ l) ≡ None → scope_b e₀ Γ Δ (placed_b s κ φ m) ≡ None
+  moved_b Γ Δ s l m z h = subst (λ (x : ℕ). scope_b e₀ Γ Δ (placed_b s κ φ x) ≡ None) z h
 
-  moved_c : (Γ : Marks) (Δ : Offers) (s : Cases) (l m : ℕ) → l ≡ m → scope_c e₀ Γ Δ (placed_c s κ φ l) ≡ Nowhere → scope_c e₀ Γ Δ (placed_c s κ φ m) ≡ Nowhere
-  moved_c Γ Δ s l m z h = subst (λ (x : ℕ). scope_c e₀ Γ Δ (placed_c s κ φ x) ≡ Nowhere) z h
+  moved_c : (Γ : Marks) (Δ : Offers) (s : Cases) (l m : ℕ) → l ≡ m → scope_c e₀ Γ Δ (placed_c s κ φ l) ≡ None → scope_c e₀ Γ Δ (placed_c s κ φ m) ≡ None
+  moved_c Γ Δ s l m z h = subst (λ (x : ℕ). scope_c e₀ Γ Δ (placed_c s κ φ x) ≡ None) z h
 
   -- Expressions.
   two_open : (opens : Opens) (lo k : ℕ) (x y : Part) → Operates k → OpenP x targets opens lo → OpenP y targets opens (lo + size_p x)
@@ -84,7 +84,7 @@ module _ (q : Bytes) (targets : Opens) (N : ℕ) (few : N ≤ 1008) (hit : (m : 
   unfolding row opens_for opened_by may_stop size_p
   two_open opens lo k x y o a b = rw (operation_row k o) (a, b, tt)
 
-  open_e : (e : Expr) (lo : ℕ) (Γ : Marks) (opens : Opens) → scope_e Γ (placed_e φ e lo) ≡ Nowhere → RightE φ e → lo + size_p (part_e φ e) ≤ N → Open Γ opens
+  open_e : (e : Expr) (lo : ℕ) (Γ : Marks) (opens : Opens) → scope_e Γ (placed_e φ e lo) ≡ None → RightE φ e → lo + size_p (part_e φ e) ≤ N → Open Γ opens
       → OpenP (part_e φ e) targets opens lo
   unfolding part_e placed_e scope_e size_p fields_of row opens_for opened_by may_stop ◌and◌
   open_e (variable n b t) lo Γ opens s r l g = (g (φ b) (holds _ lo s), tt, tt)
@@ -157,7 +157,7 @@ module _ (q : Bytes) (targets : Opens) (N : ℕ) (few : N ≤ 1008) (hit : (m : 
   mutual
     unfolding part_s placed_s scope_s size_p fields_of row opens_for opened_by may_stop ◌and◌
 
-    pub open_s : (s : Signal) (lo : ℕ) (Γ : Marks) (Δ : Offers) (opens : Opens) → scope_s e₀ Γ Δ (placed_s s κ φ lo) ≡ Nowhere → HoldsP (part_s s φ) q lo → RightS s φ
+    pub open_s : (s : Signal) (lo : ℕ) (Γ : Marks) (Δ : Offers) (opens : Opens) → scope_s e₀ Γ Δ (placed_s s κ φ lo) ≡ None → HoldsP (part_s s φ) q lo → RightS s φ
         → lo + size_p (part_s s φ) ≤ N → Open Γ opens → Offer Δ → OpenP (part_s s φ) targets opens lo
     open_s (input n c) lo Γ Δ opens s h r l g o = (tt, tt, tt)
     open_s (time n) lo Γ Δ opens s h r l g o = (tt, tt, tt)
@@ -210,7 +210,7 @@ module _ (q : Bytes) (targets : Opens) (N : ℕ) (few : N ≤ 1008) (hit : (m : 
           tt,
         )
 
-    open_b : (brs : Branches) (lo : ℕ) (Γ : Marks) (Δ : Offers) (opens : Opens) → scope_b e₀ Γ Δ (placed_b brs κ φ lo) ≡ Nowhere → HoldsK (slot_b brs φ) q lo → RightB brs φ
+    open_b : (brs : Branches) (lo : ℕ) (Γ : Marks) (Δ : Offers) (opens : Opens) → scope_b e₀ Γ Δ (placed_b brs κ φ lo) ≡ None → HoldsK (slot_b brs φ) q lo → RightB brs φ
         → lo + size_k (slot_b brs φ) ≤ N → Open Γ opens → Offer Δ → OpenK (slot_b brs φ) targets opens NextBranch lo
     open_b no_branch lo Γ Δ opens s h r l g o = tt
     open_b (branch n t x brs) lo Γ Δ opens s h r l g o =
@@ -224,7 +224,7 @@ module _ (q : Bytes) (targets : Opens) (N : ℕ) (few : N ≤ 1008) (hit : (m : 
           tt,
         )
 
-    open_c : (cs : Cases) (lo : ℕ) (Γ : Marks) (Δ : Offers) (opens : Opens) → scope_c e₀ Γ Δ (placed_c cs κ φ lo) ≡ Nowhere → HoldsK (slot_c cs φ) q lo → RightC cs φ
+    open_c : (cs : Cases) (lo : ℕ) (Γ : Marks) (Δ : Offers) (opens : Opens) → scope_c e₀ Γ Δ (placed_c cs κ φ lo) ≡ None → HoldsK (slot_c cs φ) q lo → RightC cs φ
         → lo + size_k (slot_c cs φ) ≤ N → Open Γ opens → Offer Δ → OpenK (slot_c cs φ) targets opens NextCase lo
     open_c no_case lo Γ Δ opens s h r l g o = tt
     open_c (case n x target t cs) lo Γ Δ opens s h r l g o =

@@ -1,5 +1,6 @@
 -- What is needed of the table of kinds and of the words: one computed test each, over all kinds and types.
 -- Assumes nothing.
+use Rattle.std.specs.Prelude.{Option, Some, None, ℕ}
 use mathlib.Core.Path.{◌≡◌, refl, sym, ap, ◌∙◌}
 use mathlib.Core.Bool.{Bool, true, false, not}
 use mathlib.Core.List.{[]}
@@ -11,8 +12,6 @@ use borrow.Author.Tests.{eqb-true, eqb-false, ne_eqb, leb-true}
 use Rattle.rules.specs.Bytes.{first, first_from, ◌and◌, ◌or◌}
 use Rattle.rules.specs.Kinds.{row, is_signal, is_expression, is_branch, is_case, is_kind, fields_of}
 use Rattle.rules.specs.Shape.{is_child, may_be, may_stop}
-use Rattle.rules.specs.declared.Place.{Place}
-use Rattle.rules.specs.declared.Place.TheVariants.{At, Nowhere}
 use Rattle.rules.specs.declared.Field.{Field}
 use Rattle.rules.specs.declared.Field.TheVariants.{Unused, Channel, PresentByte, Signal, Expression, FirstBranch, NextBranch, FirstCase, NextCase, Binder, Target}
 use Rattle.rules.specs.declared.TypeField.{TypeField}
@@ -244,14 +243,14 @@ module _ (k : ℕ) (l : k < 30) where
   one_word e e₁ e₂ = or_else (eqb k 17) _ (or_else (eqb k 16) _ (or_else (not (is_kind k)) _ (passes words_test 30 words_pass k l) (flip_not _ e)) e₁) e₂
 
 -- The tests over kinds for each sort of child: the kind's word stands for it; only in a list has it a next.
-unfoldable is_at : Place → ℕ → Bool
-is_at (At j) k = eqb j k
-is_at Nowhere k = false
+unfoldable is_at : Option ℕ → ℕ → Bool
+is_at (Some j) k = eqb j k
+is_at None k = false
 
-is_at_lem : (x : Place) (k : ℕ) → is_at x k ≡ true → x ≡ At k
+is_at_lem : (x : Option ℕ) (k : ℕ) → is_at x k ≡ true → x ≡ Some k
 unfolding is_at
-is_at_lem (At j) k e = ap At (eqb-true j k e)
-is_at_lem Nowhere k e = absurd (false≢true e)
+is_at_lem (Some j) k e = ap Some (eqb-true j k e)
+is_at_lem None k e = absurd (false≢true e)
 
 unfoldable named_test : Field → ℕ → Bool
 named_test f k = not (may_be f k) or (eqb k 16 or (eqb k 17 or is_at (kind_named f (kind_word k)) k))
@@ -288,7 +287,7 @@ list_pass Binder e = absurd (false≢true e)
 list_pass Target e = absurd (false≢true e)
 
 module _ (f : Field) (is_child_lem : is_child f ≡ true) (k : ℕ) (l : k < 30) (may : may_be f k ≡ true) where
-  pub word_named : eqb k 16 ≡ false → eqb k 17 ≡ false → kind_named f (kind_word k) ≡ At k
+  pub word_named : eqb k 16 ≡ false → eqb k 17 ≡ false → kind_named f (kind_word k) ≡ Some k
   unfolding named_test
   word_named e₁ e₂ =
       is_at_lem _ k (or_else (eqb k 17) _ (or_else (eqb k 16) _ (or_else (not (may_be f k)) _ (passes (named_test f) 30 (named_pass f is_child_lem) k l) (flip_not _ may)) e₁) e₂)

@@ -1,6 +1,7 @@
 -- What is needed of a table for its text to be read back: each node's record fits its kind, its children's sorts fit, its children's nodes
 -- stand before it one part after another (numbered children first, in field order), and each variable's binder is open above it.
 -- Assumes nothing: these are definitions.
+use Rattle.std.specs.Prelude.{Some}
 use mathlib.Core.Path.{◌≡◌}
 use mathlib.Core.Bool.{Bool, true, false}
 use mathlib.Core.List.{[]}
@@ -11,7 +12,6 @@ use Rattle.rules.specs.Values.{maybe_of, is_plain, is_type}
 use Rattle.rules.specs.Layout.{kind_at, type_at, a_at, b_at, c_at, word_at, most_nodes, no_next}
 use Rattle.rules.specs.Shape.{may_stop}
 use Rattle.rules.specs.Kinds.{fields_of}
-use Rattle.rules.specs.declared.Place.TheVariants.{At}
 use Rattle.rules.specs.declared.Field.{Field}
 use Rattle.rules.specs.declared.Field.TheVariants.{Unused, Channel, PresentByte, Signal, Expression, FirstBranch, NextBranch, FirstCase, NextCase, Binder, Target}
 use Rattle.rules.specs.declared.TypeField.{TypeField}
@@ -40,8 +40,8 @@ pub data Fits : ℕ → ℕ → ℕ → Type 0 where
 -- What stands between a kind's word and its children.
 pub data HeadFits : TypeField → ℕ → ℕ → ℕ → Type 0 where
   no_head : {b : ℕ} → HeadFits NoType 0 b 0
-  any_head : {t b : ℕ} → type_named is_type (type_word t) ≡ At t → is_plain_word (type_word t) ≡ true → HeadFits AnyType t b 0
-  plain_head : {t b : ℕ} → type_named is_plain (type_word t) ≡ At t → is_plain_word (type_word t) ≡ true → HeadFits PlainType t b 0
+  any_head : {t b : ℕ} → type_named is_type (type_word t) ≡ Some t → is_plain_word (type_word t) ≡ true → HeadFits AnyType t b 0
+  plain_head : {t b : ℕ} → type_named is_plain (type_word t) ≡ Some t → is_plain_word (type_word t) ≡ true → HeadFits PlainType t b 0
   value_head : {t b w : ℕ} → Fits t b w → HeadFits ValueType t b w
 
 -- The binders above a node.
@@ -116,7 +116,7 @@ mutual
     constant_laid : {opens : Opens} {n : ℕ} → kind_at q n ≡ 17 → Fits (type_at q n) (b_at q n) (word_at q n)
         → a_at q n ≡ 0 → c_at q n ≡ 0 → Laid q targets opens Expression n n
     form_laid : {opens : Opens} {f : Field} {i i₁ i₂ i₃ n : ℕ} (k : ℕ) → kind_at q n ≡ k
-        → eqb k 16 ≡ false → eqb k 17 ≡ false → kind_named f (kind_word k) ≡ At k → is_plain_word (kind_word k) ≡ true → ListsLast k
+        → eqb k 16 ≡ false → eqb k 17 ≡ false → kind_named f (kind_word k) ≡ Some k → is_plain_word (kind_word k) ≡ true → ListsLast k
         → (may_stop (fields_of k).b ≡ true → is_list f ≡ true)
         → HeadFits (fields_of k).ty (type_at q n) (b_at q n) (word_at q n)
         → Kid q targets (opened_by (fields_of k).ty n opens) (fields_of k).a n (a_at q n) (present_of (fields_of k).ty (b_at q n)) i i₁

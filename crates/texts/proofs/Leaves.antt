@@ -1,5 +1,6 @@
 -- Variables and constants are read from the words that are printed of them; and a kind with a word from its parenthesis on.
 -- Assumes nothing.
+use Rattle.std.specs.Prelude.{None}
 use mathlib.Core.Path.{◌≡◌, refl, sym, ap, ◌∙◌}
 use mathlib.Core.Bool.{Bool, true, false}
 use mathlib.Core.List.{List, [], ◌∷◌, ◌++◌}
@@ -9,7 +10,6 @@ use Rattle.rules.specs.Bytes.{Bytes, first, first_from, ◌or◌, ◌and◌}
 use Rattle.rules.specs.Layout.{kind_at, type_at, a_at, b_at, c_at, word_at}
 use Rattle.rules.specs.Kinds.{row, fields_of, is_expression}
 use Rattle.rules.specs.Shape.{may_be}
-use Rattle.rules.specs.declared.Place.TheVariants.{Nowhere}
 use Rattle.rules.specs.declared.Field.TheVariants.{Expression}
 use Rattle.texts.specs.Tokens.{Token}
 use Rattle.texts.specs.Spelled.{spelled, same, is_among}
@@ -75,7 +75,7 @@ module _ (q : Bytes) (names : List Bytes) (finish n d : ℕ) (so : Sofar) (W : L
       rw (ap is_plain_value here ∙ is_value f, bare) (after_plain _ f t finish rest (begun₁ so) here (ended rest t.at _ is left))
 
   -- A constant in parentheses.
-  in_parentheses : (G : ℕ) (ts : List Token) (w : Bytes) (W₁ : List Bytes) → words ts ≡ open₀ ∷ w ∷ W₁ → kind_named Expression w ≡ Nowhere
+  in_parentheses : (G : ℕ) (ts : List Token) (w : Bytes) (W₁ : List Bytes) → words ts ≡ open₀ ∷ w ∷ W₁ → kind_named Expression w ≡ None
       → ((at : ℕ) (u : Token) (rest : List Token) → u.word ≡ w → words rest ≡ W₁
       → Gives (Done q n d so W) (maybe_value u finish rest (begun₁ so) onward (λ v ts so. ends at (constant_row v) ts so)))
       → Gives (Done q n d so W) (node_f (suc G) names finish Expression ts so)

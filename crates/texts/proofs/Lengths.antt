@@ -1,5 +1,6 @@
 -- How long a printed text is: at most 107 bytes for each node (81 of white space before it, 26 of words), and 12 for the title and the line end.
 -- Assumes nothing.
+use Rattle.std.specs.Prelude.{Some}
 use mathlib.Core.Path.{◌≡◌, refl, ap, ◌∙◌}
 use mathlib.Core.Bool.{Bool, true, false, not}
 use mathlib.Core.List.{List, [], ◌∷◌, ◌++◌}
@@ -12,7 +13,6 @@ use Rattle.rules.specs.Bytes.{Bytes, ◌and◌, ◌or◌}
 use Rattle.rules.specs.Values.{maybe_of, is_plain}
 use Rattle.rules.specs.Kinds.{row, fields_of}
 use Rattle.rules.specs.Shape.{may_be}
-use Rattle.rules.specs.declared.Place.TheVariants.{At}
 use Rattle.rules.specs.declared.Field.{Field}
 use Rattle.rules.specs.declared.Field.TheVariants.{Unused, Channel, PresentByte, Signal, Expression, FirstBranch, NextBranch, FirstCase, NextCase, Binder, Target}
 use Rattle.rules.specs.declared.TypeField.{TypeField}
@@ -157,7 +157,7 @@ type_long t l =
     (leb-true _ 10 p.0, (λ e. leb-true _ 4 (or_else (not (is_plain t)) _ p.1 (ap not e))))
 
 -- What stands between a kind's word and its children.
-named_type : (allowed : ℕ → Bool) (w : Bytes) (t : ℕ) → type_named allowed w ≡ At t → (allowed t ≡ true) × (t < 8)
+named_type : (allowed : ℕ → Bool) (w : Bytes) (t : ℕ) → type_named allowed w ≡ Some t → (allowed t ≡ true) × (t < 8)
 unfolding type_named
 named_type allowed w t e =
     let r = first_passes (λ t. allowed t and same w (type_word t)) 8 t e in ((and_both (allowed t) (same w (type_word t)) r.0).0, r.1)

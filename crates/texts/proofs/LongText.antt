@@ -1,5 +1,6 @@
 -- No printed text is longer than 107,868 bytes.
 -- Assumes nothing.
+use Rattle.std.specs.Prelude.{Some}
 use mathlib.Core.Path.{◌≡◌, refl, ap, ◌∙◌}
 use mathlib.Core.Bool.{Bool, true, false}
 use mathlib.Core.List.{[], ◌∷◌, ◌++◌}
@@ -12,7 +13,6 @@ use Rattle.rules.specs.Bytes.{Bytes, ◌and◌}
 use Rattle.rules.specs.Layout.{nodes, edition, kind_at, type_at, a_at, b_at, c_at, word_at}
 use Rattle.rules.specs.Kinds.{fields_of}
 use Rattle.rules.specs.Shape.{may_be, may_stop}
-use Rattle.rules.specs.declared.Place.TheVariants.{At}
 use Rattle.rules.specs.declared.Field.{Field}
 use Rattle.texts.specs.Spelled.{spelled, same}
 use Rattle.texts.specs.Spelling.{close₀, edition_word, kind_word, kind_named}
@@ -55,7 +55,7 @@ form_sum kid sibling q k n =
     let e₅ = long_join L T in
     omega arith
 
-named_below_lem : (f : Field) (k : ℕ) → kind_named f (kind_word k) ≡ At k → k < 30
+named_below_lem : (f : Field) (k : ℕ) → kind_named f (kind_word k) ≡ Some k → k < 30
 unfolding kind_named
 named_below_lem f k e = (first_passes (λ j. may_be f j and same (kind_word k) (kind_word j)) 30 k e).1
 

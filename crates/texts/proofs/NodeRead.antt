@@ -1,5 +1,6 @@
 -- Every node that is read has rows that are a right tree of records, of the sort that its field asks for.
 -- Assumes nothing.
+use Rattle.std.specs.Prelude.{Option, Some, None, ℕ}
 use mathlib.Core.Path.{◌≡◌, refl, sym, ap, subst, ◌∙◌}
 use mathlib.Core.Bool.{Bool, true, false}
 use mathlib.Core.List.{List, [], ◌∷◌}
@@ -14,8 +15,6 @@ use Rattle.rules.specs.Values.{value_fits}
 use Rattle.rules.specs.Kinds.{row, is_kind, is_signal, is_branch, is_case, is_expression, fields_of}
 use Rattle.rules.specs.Shape.{is_child, may_be, may_stop}
 use Rattle.rules.specs.Format.{field_wrong, type_field_wrong}
-use Rattle.rules.specs.declared.Place.{Place}
-use Rattle.rules.specs.declared.Place.TheVariants.{At, Nowhere}
 use Rattle.rules.specs.declared.Field.{Field}
 use Rattle.rules.specs.declared.Field.TheVariants.{Unused, Channel, PresentByte, Signal, Expression, FirstBranch, NextBranch, FirstCase, NextCase, Binder, Target}
 use Rattle.rules.proofs.Static.{and_both}
@@ -293,7 +292,7 @@ is_a_kind NextCase k c m = or_left _ _ (or_right (is_signal k or is_branch k) _ 
 is_a_kind Binder k c m = absurd (false≢true c)
 is_a_kind Target k c m = absurd (false≢true c)
 
-named_may : (f : Field) (w : Bytes) (k : ℕ) → kind_named f w ≡ At k → may_be f k ≡ true
+named_may : (f : Field) (w : Bytes) (k : ℕ) → kind_named f w ≡ Some k → may_be f k ≡ true
 unfolding kind_named
 named_may f w k e = (and_both (may_be f k) (same w (kind_word k)) (first_passes (λ k. may_be f k and same w (kind_word k)) 30 k e).0).0
 
@@ -325,15 +324,15 @@ bare_yields f c m t finish ts so so₀ b =
     let d = begun_same b (h.1 ∙ g.1) in variable_yields₀ f m₁ m t.at so so₂ d.begun d.rows d.least t.word ts₂))))
 
 module _ (read : Nodes) (reads : NodeClaim read) (names : List Bytes) (finish : ℕ) (f : Field) (c : is_child f ≡ true) (at : ℕ) (u : Token) (so so₀ : Sofar) (b : Begun so so₀) where
-  by_word : (x : Place) → kind_named f u.word ≡ x → (ts : List Token) → Yields (λ y rest so₁. Noded f so y so₁)
+  by_word : (x : Option ℕ) → kind_named f u.word ≡ x → (ts : List Token) → Yields (λ y rest so₁. Noded f so y so₁)
       (elim x [
-        | Place.At k ↦ form read names finish at k ts so₀
-        | Place.Nowhere ↦ given (may_be f 17) (Word u.at) ts so₀ onward λ _ ts so. maybe_value u finish ts so onward λ v ts so. ends at (constant_row v) ts so
+        | Some k ↦ form read names finish at k ts so₀
+        | None ↦ given (may_be f 17) (Word u.at) ts so₀ onward λ _ ts so. maybe_value u finish ts so onward λ v ts so. ends at (constant_row v) ts so
       ])
-  by_word (At k) e ts =
+  by_word (Some k) e ts =
       let m = named_may f u.word k e in
       form_yields read reads names finish f k (is_a_kind f k c m) m at so so₀ b.begun b.rows b.least ts
-  by_word Nowhere e ts =
+  by_word None e ts =
       then_yields _ (given_yields _ _ ts so₀) (λ x ts₁ so₁ g.
       then_yields _ (maybe_yields u finish ts₁ so₁) (λ v ts₂ so₂ p.
       let d = begun_same b (p.1 ∙ g.1) in

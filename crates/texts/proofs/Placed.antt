@@ -1,5 +1,6 @@
 -- Each row has its place: the position of the word or parenthesis with which its form begins.
 -- Assumes nothing.
+use Rattle.std.specs.Prelude.{Option, Some, None, ℕ}
 use mathlib.Core.Path.{◌≡◌, refl, sym, ap, subst, ◌∙◌}
 use mathlib.Core.List.{List, [], ◌∷◌, ◌++◌, append_assoc, append-nil}
 use Prim.Native.Nat.{ℕ, zero, suc, ◌+◌, ◌-◌, ◌<◌}
@@ -11,8 +12,6 @@ use Rattle.rules.specs.Bytes.{Bytes}
 use Rattle.rules.specs.Layout.{most_nodes}
 use Rattle.rules.specs.Kinds.{fields_of}
 use Rattle.rules.specs.Shape.{may_be, may_stop}
-use Rattle.rules.specs.declared.Place.{Place}
-use Rattle.rules.specs.declared.Place.TheVariants.{At, Nowhere}
 use Rattle.rules.specs.declared.Field.{Field}
 use Rattle.rules.specs.declared.Field.TheVariants.{Unused, Channel, PresentByte, Signal, Expression, FirstBranch, NextBranch, FirstCase, NextCase, Binder, Target}
 use Rattle.texts.specs.Tokens.{Token, tokens}
@@ -177,16 +176,16 @@ module _ (text : Bytes) where
       (λ u. rw (u, bare) (then_yields _ (given_yields _ _ ts so₀) (λ x ts₁ so₁ a. then_yields _ (given_yields _ _ ts₁ so₁) (λ y ts₂ so₂ b.
       ends_placed (placed_on p (same_placed (b.1 ∙ a.1))) t.at _ ts₂))))
 
-  by_word : (g : ℕ) (reads : PlacesRead g) (f : Field) (at : ℕ) (u : Token) (so so₀ : Sofar) → Placed so so₀ → (x : Place) → kind_named f u.word ≡ x → (ts : List Token)
-      → ((k : ℕ) → x ≡ At k → (f₁ : Field) (ts₁ : List Token) (so₁ : Sofar) → Within text g k ts so₀ f₁ ts₁ so₁ → Comes text g f₁ ts₁ so₁)
+  by_word : (g : ℕ) (reads : PlacesRead g) (f : Field) (at : ℕ) (u : Token) (so so₀ : Sofar) → Placed so so₀ → (x : Option ℕ) → kind_named f u.word ≡ x → (ts : List Token)
+      → ((k : ℕ) → x ≡ Some k → (f₁ : Field) (ts₁ : List Token) (so₁ : Sofar) → Within text g k ts so₀ f₁ ts₁ so₁ → Comes text g f₁ ts₁ so₁)
       → Yields (λ y rest so₁. Ended so y at so₁)
       (elim x [
-        | Place.At k ↦ form (reader text g) (branch_names (tokens text)) (length text) at k ts so₀
-        | Place.Nowhere ↦
+        | Some k ↦ form (reader text g) (branch_names (tokens text)) (length text) at k ts so₀
+        | None ↦
             given (may_be f 17) (Word u.at) ts so₀ onward λ _ ts so. maybe_value u (length text) ts so onward λ v ts so. ends at (constant_row v) ts so
       ])
-  by_word g reads f at u so so₀ p (At k) e ts within = form_places g reads at k ts so so₀ p (within k refl)
-  by_word g reads f at u so so₀ p Nowhere e ts within =
+  by_word g reads f at u so so₀ p (Some k) e ts within = form_places g reads at k ts so so₀ p (within k refl)
+  by_word g reads f at u so so₀ p None e ts within =
       then_yields _ (given_yields _ _ ts so₀) (λ x ts₁ so₁ a.
       then_yields _ (maybe_yields u (length text) ts₁ so₁) (λ v ts₂ so₂ b. ends_placed (placed_on p (same_placed (b.1 ∙ a.1))) at _ ts₂))
 
@@ -254,10 +253,10 @@ module _ (text : Bytes) where
   unfolding title
   title_places finish ts so = then_yields _ (next_yields finish ts so) (λ t ts₁ so₁ e. by_edition t.at (edition_named t.word) ts₁ so₁ e)
     where
-      by_edition : (at : ℕ) (x : Place) (ts₁ : List Token) (so₁ : Sofar) → so₁ ≡ so
-          → Yields (λ (e : ℕ) rest so₂. so₂ ≡ so) (elim x [ Place.At e ↦ got e ts₁ so₁ | Place.Nowhere ↦ stopped (Word at) ])
-      by_edition at (At e) ts₁ so₁ z = yields z
-      by_edition at Nowhere ts₁ so₁ z = halts
+      by_edition : (at : ℕ) (x : Option ℕ) (ts₁ : List Token) (so₁ : Sofar) → so₁ ≡ so
+          → Yields (λ (e : ℕ) rest so₂. so₂ ≡ so) (elim x [ Some e ↦ got e ts₁ so₁ | None ↦ stopped (Word at) ])
+      by_edition at (Some e) ts₁ so₁ z = yields z
+      by_edition at None ts₁ so₁ z = halts
 
   record AllPlaced (so : Sofar) : Type 0 where
     long : length so.places ≡ length so.rows

@@ -1,5 +1,6 @@
 -- A text that is read gives the table of a right tree of records, in one of the two editions.
 -- Assumes nothing.
+use Rattle.std.specs.Prelude.{Option, Some, None, ℕ}
 use mathlib.Core.Path.{◌≡◌, refl, sym, ap, ◌∙◌}
 use mathlib.Core.Bool.{true}
 use mathlib.Core.List.{List, [], ◌∷◌, ◌++◌, map}
@@ -9,8 +10,6 @@ use lib.ListN.{length}
 use Rattle.rules.specs.Bytes.{Bytes}
 use Rattle.rules.specs.Kinds.{is_signal}
 use Rattle.rules.specs.Shape.{is_child, may_be}
-use Rattle.rules.specs.declared.Place.{Place}
-use Rattle.rules.specs.declared.Place.TheVariants.{At, Nowhere}
 use Rattle.rules.specs.declared.Field.{Field}
 use Rattle.written.specs.Parts.{Part, size_p, rows_p}
 use Rattle.written.specs.Table.{rows_bytes, blocks_from, blocks_for, table_of}
@@ -37,11 +36,11 @@ pub record Readable (e : ℕ) (rest : List Token) (so : Sofar) : Type 0 where
   pub rows : length so.rows ≡ size_p whole
   pub table : blocks_of e so.rows ≡ table_of e whole
 
-by_edition : (so : Sofar) (at : ℕ) (w : Bytes) (x : Place) → edition_named w ≡ x → (ts₁ : List Token) (so₁ : Sofar) → so₁ ≡ so
-    → Yields (λ (e : ℕ) rest so₂. (e ≤ 1) × (so₂ ≡ so)) (elim x [ Place.At e ↦ got e ts₁ so₁ | Place.Nowhere ↦ stopped (Word at) ])
+by_edition : (so : Sofar) (at : ℕ) (w : Bytes) (x : Option ℕ) → edition_named w ≡ x → (ts₁ : List Token) (so₁ : Sofar) → so₁ ≡ so
+    → Yields (λ (e : ℕ) rest so₂. (e ≤ 1) × (so₂ ≡ so)) (elim x [ Some e ↦ got e ts₁ so₁ | None ↦ stopped (Word at) ])
 unfolding edition_named
-by_edition so at w (At e) is ts₁ so₁ z = yields {x = e} (let l = (first_passes (λ e. same w (edition_word e)) 2 e is).1 in omega arith, z)
-by_edition so at w Nowhere is ts₁ so₁ z = halts
+by_edition so at w (Some e) is ts₁ so₁ z = yields {x = e} (let l = (first_passes (λ e. same w (edition_word e)) 2 e is).1 in omega arith, z)
+by_edition so at w None is ts₁ so₁ z = halts
 
 title_yields : (finish : ℕ) (ts : List Token) (so : Sofar) → Yields (λ (e : ℕ) rest so₁. (e ≤ 1) × (so₁ ≡ so)) (title finish ts so)
 unfolding title

@@ -1,5 +1,6 @@
 -- A value that is printed is read.
 -- Assumes nothing.
+use Rattle.std.specs.Prelude.{Some}
 use mathlib.Core.Path.{◌≡◌, refl, sym, ap, subst, ◌∙◌}
 use mathlib.Core.Bool.{true, false}
 use mathlib.Core.List.{List, [], ◌∷◌, ◌++◌}
@@ -8,7 +9,6 @@ use lib.Dec.{eqb}
 use borrow.Author.Tests.{eqb-true}
 use Rattle.rules.specs.Bytes.{Bytes, first, first_from, ◌and◌, ◌or◌}
 use Rattle.rules.specs.Values.{maybe_of, is_plain}
-use Rattle.rules.specs.declared.Place.TheVariants.{At}
 use Rattle.texts.specs.Tokens.{Token}
 use Rattle.texts.specs.Spelled.{spelled, same}
 use Rattle.texts.specs.Spelling.{open₀, close₀, some_word, none_word, type_word, type_named, is_digit}
@@ -58,7 +58,7 @@ none_spelled unit_type = refl
 none_spelled bool_type = refl
 none_spelled int_type = refl
 
-pub plain_type_lem : {t : ℕ} → PlainType₀ t → type_named is_plain (type_word t) ≡ At t
+pub plain_type_lem : {t : ℕ} → PlainType₀ t → type_named is_plain (type_word t) ≡ Some t
 unfolding type_named first first_from is_plain type_word spelled same ◌and◌
 plain_type_lem unit_type = refl
 plain_type_lem bool_type = refl
@@ -100,7 +100,7 @@ module _ {B : Type 0} {Q : Claim B} where
       (regroup _ _ k (after_expect _ close₀ W finish rest so left (λ rest₁ left₁. after_got k _ rest₁ so (h rest₁ left₁))))))))
 
   pub after_none : (k : Written → List Token → Sofar → Got B) (t : ℕ) (v : Bytes) (u : Token) (W : List Bytes) (finish : ℕ) (ts : List Token) (so : Sofar)
-      → type_named is_plain v ≡ At t → u.word ≡ none_word → words ts ≡ v ∷ close₀ ∷ W
+      → type_named is_plain v ≡ Some t → u.word ≡ none_word → words ts ≡ v ∷ close₀ ∷ W
       → ((rest : List Token) → words rest ≡ W → Gives Q (k (written (maybe_of t) 0 0) rest so)) → Gives Q (maybe_value u finish ts so onward k)
   unfolding maybe_value same spelled ◌and◌
   after_none k t v u W finish ts so is_a_type is e h =

@@ -1,5 +1,6 @@
 -- Every laid out node is read from the words that are printed of it: by its parts.
 -- Assumes nothing.
+use Rattle.std.specs.Prelude.{Some}
 use mathlib.Core.Path.{◌≡◌, refl, sym, ap, subst, ◌∙◌}
 use mathlib.Core.Bool.{Bool, true, false}
 use mathlib.Core.List.{List, [], ◌∷◌, ◌++◌, nil≢cons, head-eq_of_cons-eq}
@@ -10,7 +11,6 @@ use borrow.Author.Tests.{lt-ltb, eq-eqb, ne_eqb}
 use Rattle.rules.specs.Bytes.{Bytes, ◌and◌}
 use Rattle.rules.specs.Layout.{kind_at, no_next}
 use Rattle.rules.specs.Shape.{may_stop}
-use Rattle.rules.specs.declared.Place.TheVariants.{At}
 use Rattle.rules.specs.declared.Field.{Field}
 use Rattle.rules.specs.declared.Field.TheVariants.{Unused, Channel, PresentByte, Signal, Expression, FirstBranch, NextBranch, FirstCase, NextCase, Binder, Target}
 use Rattle.texts.specs.Tokens.{Token}
@@ -66,7 +66,7 @@ channel_reads finish x W ts so l e =
 
 -- A node with a word, from its opening parenthesis.
 module _ (q : Bytes) (names : List Bytes) (finish : ℕ) (opens : Opens) (f : Field) (i n k : ℕ) (h : i ≤ n)
-    (is : kind_at q n ≡ k) (e₁ : eqb k 16 ≡ false) (e₂ : eqb k 17 ≡ false) (named : kind_named f (kind_word k) ≡ At k) where
+    (is : kind_at q n ≡ k) (e₁ : eqb k 16 ≡ false) (e₂ : eqb k 17 ≡ false) (named : kind_named f (kind_word k) ≡ Some k) where
   opened_reads : ((g G depth d at : ℕ) (ts : List Token) (so so₀ : Sofar) (W : List Bytes) → n ≤ g → g ≤ G
       → words ts ≡ spellings (Rattle.texts.specs.Printer.form_pieces (pieces_f g q (suc depth)) (pieces_f g q depth false) q k n) ++ W → Closing f W
       → State q i (suc d) so → Known opens so → Above opens (suc n) → Free i (suc n) so → n + d < 1008 → Frame (suc n) so₀ so

@@ -1,5 +1,6 @@
 -- What a step of the reader gives, where it is not stopped: names, types, channels and values that fit; rows and how many nodes have begun stay.
 -- Assumes nothing.
+use Rattle.std.specs.Prelude.{Option, Some, None, ℕ}
 use mathlib.Core.Path.{◌≡◌, refl, sym, ap, subst, ◌∙◌}
 use mathlib.Core.Bool.{Bool, true, false}
 use mathlib.Core.List.{List, [], ◌∷◌}
@@ -9,8 +10,6 @@ use lib.Dec.{ltb, leb}
 use borrow.Author.Tests.{ltb-true, leb-true}
 use Rattle.rules.specs.Bytes.{Bytes, first, first_from, ◌and◌}
 use Rattle.rules.specs.Values.{is_plain}
-use Rattle.rules.specs.declared.Place.{Place}
-use Rattle.rules.specs.declared.Place.TheVariants.{At, Nowhere}
 use Rattle.rules.proofs.Static.{and_both, not_both}
 use Rattle.texts.specs.Tokens.{Token}
 use Rattle.texts.specs.Spelled.{same}
@@ -40,14 +39,14 @@ weaker (yields {x = x} {ts = ts} {so = so} p) h = yields (h x ts so p)
 weaker halts h = halts
 
 -- The first place of a test passes it.
-abbrev IsAt : Place → ℕ → Type 0
-IsAt (At i) j = i ≡ j
-IsAt Nowhere j = ⊥
+abbrev IsAt : Option ℕ → ℕ → Type 0
+IsAt (Some i) j = i ≡ j
+IsAt None j = ⊥
 
-is_at_lem : {x : Place} {j : ℕ} → x ≡ At j → IsAt x j
-is_at_lem {x} {j} e = subst (λ (y : Place). IsAt y j) (sym e) refl
+is_at_lem : {x : Option ℕ} {j : ℕ} → x ≡ Some j → IsAt x j
+is_at_lem {x} {j} e = subst (λ (y : Option ℕ). IsAt y j) (sym e) refl
 
-first_yes : (test : ℕ → Bool) (k left : ℕ) → test k ≡ true → first_from test k (suc left) ≡ At k
+first_yes : (test : ℕ → Bool) (k left : ℕ) → test k ≡ true → first_from test k (suc left) ≡ Some k
 unfolding first_from
 first_yes test k left t = rw (t, first_from) refl
 
@@ -55,7 +54,7 @@ first_no : (test : ℕ → Bool) (k left : ℕ) → test k ≡ false → first_f
 unfolding first_from
 first_no test k left t = rw (t, first_from) refl
 
-first_from_lem : (test : ℕ → Bool) (k left j : ℕ) → first_from test k left ≡ At j → (test j ≡ true) × (j < k + left)
+first_from_lem : (test : ℕ → Bool) (k left j : ℕ) → first_from test k left ≡ Some j → (test j ≡ true) × (j < k + left)
 unfolding first_from
 first_from_lem test k zero j e = absurd (is_at_lem e)
 first_from_lem test k (suc left) j e =
@@ -63,7 +62,7 @@ first_from_lem test k (suc left) j e =
     (λ t. let z = is_at_lem (sym (first_yes test k left t) ∙ e) in (ap test (sym z) ∙ t, omega (arith, z)))
     (λ t. let r = first_from_lem test (suc k) left j (sym (first_no test k left t) ∙ e) in (r.0, omega (arith, r.1)))
 
-pub first_passes : (test : ℕ → Bool) (n j : ℕ) → first test n ≡ At j → (test j ≡ true) × (j < n)
+pub first_passes : (test : ℕ → Bool) (n j : ℕ) → first test n ≡ Some j → (test j ≡ true) × (j < n)
 unfolding first
 first_passes test n j e = let r = first_from_lem test 0 n j e in (r.0, omega (arith, r.1))
 
@@ -121,14 +120,14 @@ unfolding target
 target_yields names finish ts so =
     then_yields _ (name_yields finish ts so) (λ t ts₁ so₁ e. then_yields _ (given_yields _ _ ts₁ so₁) (λ u ts₂ so₂ g. yields (g.1 ∙ e)))
 
-type_passes : (allowed : ℕ → Bool) (w : Bytes) (k : ℕ) → type_named allowed w ≡ At k → allowed k ≡ true
+type_passes : (allowed : ℕ → Bool) (w : Bytes) (k : ℕ) → type_named allowed w ≡ Some k → allowed k ≡ true
 unfolding type_named
 type_passes allowed w k is = (and_both (allowed k) (same w (type_word k)) (first_passes (λ t. allowed t and same w (type_word t)) 8 k is).0).0
 
-by_type : (allowed : ℕ → Bool) (so : Sofar) (at : ℕ) (w : Bytes) (x : Place) → type_named allowed w ≡ x → (ts₁ : List Token) (so₁ : Sofar) → so₁ ≡ so
-    → Yields (λ (k : ℕ) rest so₂. (allowed k ≡ true) × (so₂ ≡ so)) (elim x [ Place.At k ↦ got k ts₁ so₁ | Place.Nowhere ↦ stopped (Word at) ])
-by_type allowed so at w (At k) is ts₁ so₁ e = yields (type_passes allowed w k is, e)
-by_type allowed so at w Nowhere is ts₁ so₁ e = halts
+by_type : (allowed : ℕ → Bool) (so : Sofar) (at : ℕ) (w : Bytes) (x : Option ℕ) → type_named allowed w ≡ x → (ts₁ : List Token) (so₁ : Sofar) → so₁ ≡ so
+    → Yields (λ (k : ℕ) rest so₂. (allowed k ≡ true) × (so₂ ≡ so)) (elim x [ Some k ↦ got k ts₁ so₁ | None ↦ stopped (Word at) ])
+by_type allowed so at w (Some k) is ts₁ so₁ e = yields (type_passes allowed w k is, e)
+by_type allowed so at w None is ts₁ so₁ e = halts
 
 pub type_yields : (allowed : ℕ → Bool) (finish : ℕ) (ts : List Token) (so : Sofar) → Yields (λ (k : ℕ) rest so₁. (allowed k ≡ true) × (so₁ ≡ so)) (type allowed finish ts so)
 unfolding type

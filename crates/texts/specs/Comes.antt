@@ -1,11 +1,10 @@
 -- Where the reader comes to a node: with which words before it, and with what so far. So "the word or parenthesis with which the form of a number
 -- begins" has a meaning: the first of the words that the reader had when it came to the node that got that number.
 -- Assumes nothing: these are definitions.
-use Rattle.std.specs.Prelude.{ℕ, suc, ◌≡◌, true, List, ◌∷◌, length}
+use Rattle.std.specs.Prelude.{ℕ, suc, ◌≡◌, true, List, ◌∷◌, length, Some}
 use Rattle.rules.specs.Bytes.{Bytes}
 use Rattle.rules.specs.Layout.{most_nodes}
 use Rattle.rules.specs.Kinds.{fields_of}
-use Rattle.rules.specs.declared.Place.TheVariants.{At}
 use Rattle.rules.specs.declared.Field.{Field}
 use Rattle.rules.specs.declared.Field.TheVariants.{Signal}
 use Rattle.texts.specs.Tokens.{Token, tokens}
@@ -31,7 +30,7 @@ pub record Formed (text : Bytes) (f : Field) (ts : List Token) (so : Sofar) (k :
   pub opens : same mark.word open₀ ≡ true
   pub word : Token
   pub worded : next (length text) ts₂ so₂ ≡ got word ts₁ so₁
-  pub named : kind_named f word.word ≡ At k
+  pub named : kind_named f word.word ≡ Some k
 
 -- What a field gives in a form whose children are read by g levels.
 abbrev pub field_read : Bytes → ℕ → Field → Heading → List Token → Sofar → Got Held

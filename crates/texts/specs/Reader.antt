@@ -2,13 +2,12 @@
 -- order, the closing parenthesis; behind it, where the kind has a next, the next of the list. A node ends, and gets its number, when all of
 -- its children have: children first, in field order.
 -- Assumes nothing: these are definitions.
-use Rattle.std.specs.Prelude.{ℕ, zero, suc, List, [], ◌∷◌, ◌++◌, Bool, true, false, length, get_or, eqb, ltb}
+use Rattle.std.specs.Prelude.{ℕ, zero, suc, List, [], ◌∷◌, ◌++◌, Bool, true, false, length, get_or, eqb, ltb, Some, None}
 use Rattle.rules.specs.Bytes.{Bytes}
 use Rattle.rules.specs.Values.{is_plain, is_type}
 use Rattle.rules.specs.Layout.{no_next, most_nodes}
 use Rattle.rules.specs.Kinds.{fields_of}
 use Rattle.rules.specs.Shape.{may_be}
-use Rattle.rules.specs.declared.Place.{Place}
 use Rattle.rules.specs.declared.Field.{Field}
 use Rattle.rules.specs.declared.Field.TheVariants.{Unused, Channel, PresentByte, Signal, Expression, FirstBranch, NextBranch, FirstCase, NextCase, Binder, Target}
 use Rattle.rules.specs.declared.TypeField.{TypeField}
@@ -158,8 +157,8 @@ bare t finish ts so =
 unfoldable pub wordly : Nodes → List Bytes → ℕ → Field → ℕ → Token → List Token → Sofar → Got ℕ
 wordly node names finish f at u ts so =
     elim (kind_named f u.word) [
-      | Place.At k ↦ form node names finish at k ts so
-      | Place.Nowhere ↦
+      | Some k ↦ form node names finish at k ts so
+      | None ↦
           given (may_be f 17) (Word u.at) ts so onward λ _ ts so.
           maybe_value u finish ts so onward λ v ts so. ends at (constant_row v) ts so
     ]
@@ -178,7 +177,7 @@ node_f (suc g) names finish f ts so =
 unfoldable pub title : ℕ → List Token → Sofar → Got ℕ
 title finish ts so =
     next finish ts so onward λ t ts so.
-    elim (edition_named t.word) [ Place.At e ↦ got e ts so | Place.Nowhere ↦ stopped (Word t.at) ]
+    elim (edition_named t.word) [ Some e ↦ got e ts so | None ↦ stopped (Word t.at) ]
 
 -- Nothing stands behind the last parenthesis.
 unfoldable pub ended : ℕ → List Token → Sofar → Got ℕ

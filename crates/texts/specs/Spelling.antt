@@ -1,9 +1,8 @@
 -- The words of the text form: one for each kind, for types and for constants; and what may be a name.
 -- Assumes nothing: these are definitions.
-use Rattle.std.specs.Prelude.{ℕ, [], ◌∷◌, Bool, true, false, not, length, eqb, leb, if◌then◌else◌}
+use Rattle.std.specs.Prelude.{ℕ, [], ◌∷◌, Bool, true, false, not, length, eqb, leb, if◌then◌else◌, Option, Some, None}
 use Rattle.rules.specs.Bytes.{Bytes, first, ◌and◌, ◌or◌}
 use Rattle.rules.specs.Shape.{may_be}
-use Rattle.rules.specs.declared.Place.{Place}
 use Rattle.rules.specs.declared.Field.{Field}
 use Rattle.texts.specs.Spelled.{spelled, same}
 
@@ -18,7 +17,7 @@ unfoldable pub edition_word : ℕ → Bytes
 edition_word e = if eqb e 0 then spelled "edition-one" else if eqb e 1 then spelled "edition-two" else []
 
 -- The edition that a word stands for.
-unfoldable pub edition_named : Bytes → Place
+unfoldable pub edition_named : Bytes → Option ℕ
 edition_named w = first (λ e. same w (edition_word e)) 2
 
 -- One word per kind. (A variable, 16, is written as its name and a constant, 17, as its value; kinds that the paper does not have, too, have
@@ -50,7 +49,7 @@ kind_word k =
     else []
 
 -- The kind that a word stands for, where a field asks for a signal, an expression, a branch or a case.
-unfoldable pub kind_named : Field → Bytes → Place
+unfoldable pub kind_named : Field → Bytes → Option ℕ
 kind_named f w = first (λ k. may_be f k and same w (kind_word k)) 30
 
 -- Types.
@@ -65,7 +64,7 @@ type_word t =
     else []
 
 -- The type, plain where so named, that a word stands for.
-unfoldable pub type_named : (ℕ → Bool) → Bytes → Place
+unfoldable pub type_named : (ℕ → Bool) → Bytes → Option ℕ
 type_named allowed w = first (λ t. allowed t and same w (type_word t)) 8
 
 -- Constants that are words; and what is put before a maybe value.
@@ -88,11 +87,11 @@ none_word = spelled "none"
 unfoldable pub is_kept : Bytes → Bool
 is_kept w =
     elim (first (λ k. same w (kind_word k)) 30) [
-      | Place.At k ↦ true
-      | Place.Nowhere ↦
+      | Some k ↦ true
+      | None ↦
           elim (first (λ t. same w (type_word t)) 8) [
-            | Place.At t ↦ true
-            | Place.Nowhere ↦ same w true_word or same w false_word or same w some_word or same w none_word or same w (edition_word 0) or same w (edition_word 1)
+            | Some t ↦ true
+            | None ↦ same w true_word or same w false_word or same w some_word or same w none_word or same w (edition_word 0) or same w (edition_word 1)
           ]
     ]
 

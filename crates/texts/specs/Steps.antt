@@ -1,10 +1,9 @@
 -- The reader's steps: a word that must stand there, a name bound or used, a type, a number, a value. Each stops at the first word that does not
 -- fit, with its position; where the text has ended, with the text's length.
 -- Assumes nothing: these are definitions.
-use Rattle.std.specs.Prelude.{ℕ, List, [], ◌∷◌, Bool, true, false, ltb}
+use Rattle.std.specs.Prelude.{ℕ, List, [], ◌∷◌, Bool, true, false, ltb, Some, None}
 use Rattle.rules.specs.Bytes.{Bytes, ◌and◌, ◌or◌}
 use Rattle.rules.specs.Values.{unit_t, bool_t, int_t, maybe_of, is_plain}
-use Rattle.rules.specs.declared.Place.{Place}
 use Rattle.texts.specs.Tokens.{Token}
 use Rattle.texts.specs.Spelled.{same, is_among}
 use Rattle.texts.specs.Spelling.{open₀, close₀, type_named, true_word, false_word, unit_word, some_word, none_word, is_name}
@@ -65,7 +64,7 @@ target names finish ts so =
 unfoldable pub type : (ℕ → Bool) → ℕ → List Token → Sofar → Got ℕ
 type allowed finish ts so =
     next finish ts so onward λ t ts so.
-    elim (type_named allowed t.word) [ Place.At k ↦ got k ts so | Place.Nowhere ↦ stopped (Word t.at) ]
+    elim (type_named allowed t.word) [ Some k ↦ got k ts so | None ↦ stopped (Word t.at) ]
 
 -- A channel, 0-7.
 unfoldable pub channel : ℕ → List Token → Sofar → Got ℕ

@@ -1,6 +1,7 @@
 -- The functions of the call: what they ask and give, of an accepted program.
 -- Assumes nothing.
-use Rattle.std.specs.Prelude.{if◌then◌else◌}
+use Rattle.rules.specs.Verdicts.{Verdict}
+use Rattle.std.specs.Prelude.{if◌then◌else◌, Result, Ok, Err}
 use mathlib.Core.Path.{◌≡◌, refl, sym, ap, ◌∙◌}
 use mathlib.Core.List.{List, [], ◌∷◌}
 use mathlib.Core.Bool.{Bool, true, false}
@@ -16,8 +17,6 @@ use Rattle.rules.specs.Accepted.{Accepted}
 use Rattle.rules.specs.Tree.{Signal, root}
 use Rattle.rules.specs.Calls.{program_verdict}
 use Rattle.rules.specs.declared.Refusal.{Refusal}
-use Rattle.rules.specs.declared.Verdict.{Verdict}
-use Rattle.rules.specs.declared.Verdict.TheVariants.{Fine, Refuse}
 use Rattle.rules.proofs.Rooted.{root_of}
 use Rattle.promises.specs.Small.{Small}
 use Rattle.dropped.specs.Tidy.{tidy_s}
@@ -30,8 +29,9 @@ use Rattle.written.specs.Table.{rows_bytes, blocks_from, blocks_for, table_of}
 use Rattle.written.specs.Written.{written, part_s, new_number}
 use Rattle.rewritten.specs.Rewritten.{tidied, tidying}
 use Rattle.rewritten.specs.TidyCall.{TidyOutcome, lent_for, after_verdict, tidy_call, tidying_call}
-use Rattle.rewritten.specs.declared.Tidied.{Tidied}
-use Rattle.rewritten.specs.declared.Tidied.TheVariants.{Table, RoomShort}
+use Rattle.written.specs.declared.TableSize.{TableSize}
+use Rattle.rewritten.specs.declared.Untidied.{Untidied}
+use Rattle.rewritten.specs.declared.Untidied.TheVariants.{RoomShort}
 use Rattle.rewritten.proofs.AsTidied.{tidied_entries, tidied_no_larger}
 use Rattle.tidy.specs.Sweep.{sweep, Roomy, Stored}
 use Rattle.tidy.specs.Settle.{staying, renumber}
@@ -98,14 +98,14 @@ pub count_some : (p : Bytes) (count : ℕ) → Accepted p → count ≡ nodes p 
 count_some p count a e = omega (arith, (root_of p a).inside)
 
 -- A room that is too short.
-pub short : (p : Bytes) (least : ℕ) (room result : List ℕ) → length room < least → (RoomShort ≡ (lent_for p least room result).answer) × (room ≡ (lent_for p least room result).room)
+pub short : (p : Bytes) (least : ℕ) (room result : List ℕ) → length room < least → (Err RoomShort ≡ (lent_for p least room result).answer) × (room ≡ (lent_for p least room result).room)
 unfolding lent_for
 short p least room result h = simp (lt-ltb (length room) least h) (refl, refl)
 
 pub long : (p : Bytes) (least : ℕ) (room result room' : List ℕ) (x y : ℕ) → least ≤ length room → x ≡ nodes (tidied p) → y ≡ length (tidied p) → room' ≡ write_at room 0 result
-    → (Table x y ≡ (lent_for p least room result).answer) × (room' ≡ (lent_for p least room result).room)
+    → (Ok (record { nodes = x; bytes = y }) ≡ (lent_for p least room result).answer) × (room' ≡ (lent_for p least room result).room)
 unfolding lent_for
-long p least room result room' x y h e f g = simp (le-ltb (length room) least h) ((λ i. Table (e i) (f i)), g)
+long p least room result room' x y h e f g = simp (le-ltb (length room) least h) ((λ i. Ok (record { nodes = (e i); bytes = (f i) })), g)
 
 -- The entries of a list's first part.
 get_take : (l : List ℕ) (n k : ℕ) → k < n → get_or (take n l) k 0 ≡ get_or l k 0
@@ -182,30 +182,30 @@ count_few p count a e = let w = root_of p a in omega (arith, w.shaped.small)
 
 -- The calls, by the verdict.
 module _ (p : Bytes) (room : List ℕ) (made : TidyOutcome) where
-  pub call_refused : (v : Verdict) (r : Refusal) → v ≡ Refuse r → (Tidied.Refused r ≡ (after_verdict v room made).answer) × (room ≡ (after_verdict v room made).room)
+  pub call_refused : (v : Verdict) (r : Refusal) → v ≡ Err r → (Err (Untidied.Refused r) ≡ (after_verdict v room made).answer) × (room ≡ (after_verdict v room made).room)
   unfolding after_verdict
   call_refused v r e = rw e (refl, refl)
 
-  pub call_fine : (v : Verdict) (x : Tidied) (room' : List ℕ) → v ≡ Fine → (x ≡ made.answer) × (room' ≡ made.room)
+  pub call_fine : (v : Verdict) (x : Result TableSize Untidied) (room' : List ℕ) → v ≡ Ok tt → (x ≡ made.answer) × (room' ≡ made.room)
       → (x ≡ (after_verdict v room made).answer) × (room' ≡ (after_verdict v room made).room)
   unfolding after_verdict
   call_fine v x room' e f = rw e f
 
-pub tidy_refused : (p room : Bytes) (r : Refusal) → program_verdict p ≡ Refuse r → (Tidied.Refused r ≡ (tidy_call p room).answer) × (room ≡ (tidy_call p room).room)
+pub tidy_refused : (p room : Bytes) (r : Refusal) → program_verdict p ≡ Err r → (Err (Untidied.Refused r) ≡ (tidy_call p room).answer) × (room ≡ (tidy_call p room).room)
 unfolding tidy_call
 tidy_refused p room r e = call_refused p room (lent_for p (length p) room (tidied p)) (program_verdict p) r e
 
-pub tidy_fine : (p room room' : Bytes) (x : Tidied) → program_verdict p ≡ Fine
+pub tidy_fine : (p room room' : Bytes) (x : Result TableSize Untidied) → program_verdict p ≡ Ok tt
     → (x ≡ (lent_for p (length p) room (tidied p)).answer) × (room' ≡ (lent_for p (length p) room (tidied p)).room)
     → (x ≡ (tidy_call p room).answer) × (room' ≡ (tidy_call p room).room)
 unfolding tidy_call
 tidy_fine p room room' x e f = call_fine p room (lent_for p (length p) room (tidied p)) (program_verdict p) x room' e f
 
-pub pairing_refused : (p : Bytes) (room : List ℕ) (r : Refusal) → program_verdict p ≡ Refuse r → (Tidied.Refused r ≡ (tidying_call p room).answer) × (room ≡ (tidying_call p room).room)
+pub pairing_refused : (p : Bytes) (room : List ℕ) (r : Refusal) → program_verdict p ≡ Err r → (Err (Untidied.Refused r) ≡ (tidying_call p room).answer) × (room ≡ (tidying_call p room).room)
 unfolding tidying_call
 pairing_refused p room r e = call_refused p room (lent_for p (nodes p) room (tidying p)) (program_verdict p) r e
 
-pub pairing_fine : (p : Bytes) (room room' : List ℕ) (x : Tidied) → program_verdict p ≡ Fine
+pub pairing_fine : (p : Bytes) (room room' : List ℕ) (x : Result TableSize Untidied) → program_verdict p ≡ Ok tt
     → (x ≡ (lent_for p (nodes p) room (tidying p)).answer) × (room' ≡ (lent_for p (nodes p) room (tidying p)).room)
     → (x ≡ (tidying_call p room).answer) × (room' ≡ (tidying_call p room).room)
 unfolding tidying_call

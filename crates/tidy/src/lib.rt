@@ -20,10 +20,11 @@ use cells::{put, put32};
 use fields::{child_a, child_b, child_c};
 use format::check_sum;
 use kinds::either;
-use rewritten::Tidied;
-use rules::{Node, Verdict};
+use rewritten::Untidied;
+use rules::Node;
 use table::node;
 use verdict::judge;
+use written::TableSize;
 
 // A variable names its binder.
 fn mark(used: &mut [u8], binder: usize)
@@ -104,10 +105,9 @@ fn settle(names: &[u16], from: usize, order: &mut [u16], new: &mut [u16; 1024]) 
 {
     let mut m: usize = 0;
     let mut last: usize = 0;
-    let mut k = from;
-    while k < names.len() {
+    for k in from..names.len() {
         let e = names[k];
-        let n = (e % 1024) as usize;
+        let n = usize::from(e % 1024);
         if e < 1024 {
             order[m] = e;
             new[n] = m as u16;
@@ -116,16 +116,8 @@ fn settle(names: &[u16], from: usize, order: &mut [u16], new: &mut [u16; 1024]) 
         } else {
             new[n] = last as u16;
         }
-        k += 1;
     }
     m
-}
-
-// An entry as a number.
-fn wide(x: u16) -> usize
-    ensures { (result ≡ x) × (result < 65536) }
-{
-    x as usize
 }
 
 // A field: the new number of what it names.
@@ -134,7 +126,7 @@ fn moved(new: &[u16; 1024], yes: bool, x: usize) -> usize
 {
     if yes {
         if x < 1024 {
-            return wide(new[x]);
+            return usize::from(new[x]);
         }
     }
     x
@@ -176,7 +168,7 @@ fn row_at(p: &[u8], new: &[u16; 1024], order: &[u16], count: usize, k: usize) ->
     ensures { result ≡ row_from (new_rows p.now new.now (take count order.now)) k }
 {
     if k < count {
-        return moved_row(p, new, wide(order[k]));
+        return moved_row(p, new, usize::from(order[k]));
     }
     Node {
         kind: 0,
@@ -201,11 +193,9 @@ fn put_rows(
     requires { Shaped p.now × (count ≤ length order.now) × Inside (nodes p.now) count order.now × (at + 504 ≤ length room.old) × (first ≤ 1008) }
     ensures { room.new ≡ write_at room.old at (rows_from 42 (new_rows p.now new.now (take count order.now)) first) }
 {
-    let mut r: usize = 0;
-    while r < 42 {
+    for r in 0..42 {
         let n = row_at(p, new, order, count, first + r);
         put_row(room, at + 12 * r, n);
-        r += 1;
     }
 }
 
@@ -237,14 +227,13 @@ pub fn put_blocks(p: &[u8], new: &[u16; 1024], order: &[u16], count: usize, room
     ensures { room.new ≡ write_at room.old 0 (blocks_from (blocks_for count) (edition p.now) (blocks_for count) 0 (rows_bytes (new_rows p.now new.now (take count order.now)))) }
 {
     let blocks = (count + 41) / 42;
-    let mut j: usize = 0;
-    while j < blocks {
+    for j in 0..blocks {
         put_block(p, new, order, count, room, blocks, j);
-        j += 1;
     }
 }
 
-// An accepted program numbered anew: for each new node its old one, and by old node the new number; how many there are.
+// An accepted program numbered anew: for each new node its old one, and by old node the new number; how many there are. (Arrays of the largest size:
+// no call has a heap.)
 fn number(p: &[u8], order: &mut [u16], new: &mut [u16; 1024], count: usize) -> usize
     requires { Accepted p.now × (count ≡ nodes p.now) × (count ≤ length order.old) × (length new.old ≡ 1024) }
     ensures { Numbering p.now order.old order.new new.new result }
@@ -256,54 +245,52 @@ fn number(p: &[u8], order: &mut [u16], new: &mut [u16; 1024], count: usize) -> u
 }
 
 // The tidied program in the room's first blocks, if the room is as long as the old program.
-fn tidy_accepted(p: &[u8], room: &mut [u8], count: usize) -> Tidied
+fn tidy_accepted(p: &[u8], room: &mut [u8], count: usize) -> Result<TableSize, Untidied>
     requires { Accepted p.now × (count ≡ nodes p.now) }
     ensures { (result ≡ (lent_for p.now (length p.now) room.old (tidied p.now)).answer) × (room.new ≡ (lent_for p.now (length p.now) room.old (tidied p.now)).room) }
 {
     if room.len() < p.len() {
-        return Tidied::RoomShort;
+        return Err(Untidied::RoomShort);
     }
     let mut order: [u16; 1008] = [0; 1008];
     let mut new: [u16; 1024] = [0; 1024];
     let left = number(p, &mut order, &mut new, count);
     put_blocks(p, &new, &order, left, room);
-    Tidied::Table(left as u32, (512 * ((left + 41) / 42)) as u32)
+    Ok(TableSize {
+        nodes: left as u32,
+        bytes: (512 * ((left + 41) / 42)) as u32,
+    })
 }
 
 // Tidy a program: the room's first blocks become the tidied program, and the rest is left. A refusal leaves the room as before.
-pub fn tidy(program: &[u8], room: &mut [u8]) -> Tidied
+pub fn tidy(program: &[u8], room: &mut [u8]) -> Result<TableSize, Untidied>
     ensures { (result ≡ (tidy_call program.now room.old).answer) × (room.new ≡ (tidy_call program.now room.old).room) }
 {
-    let found = judge(program);
-    let fault = found.verdict;
-    match fault {
-        Verdict::Refuse(r) => Tidied::Refused(r),
-        Verdict::Fine => tidy_accepted(program, room, found.count),
-    }
+    let found = judge(program)?;
+    tidy_accepted(program, room, found.count)
 }
 
 // The pairing of an accepted program, if the room has an entry for each old node.
-fn pair_accepted(p: &[u8], entries: &mut [u16], count: usize) -> Tidied
+fn pair_accepted(p: &[u8], entries: &mut [u16], count: usize) -> Result<TableSize, Untidied>
     requires { Accepted p.now × (count ≡ nodes p.now) }
     ensures { (result ≡ (lent_for p.now (nodes p.now) entries.old (tidying p.now)).answer) × (entries.new ≡ (lent_for p.now (nodes p.now) entries.old (tidying p.now)).room) }
 {
     if entries.len() < count {
-        return Tidied::RoomShort;
+        return Err(Untidied::RoomShort);
     }
     let mut new: [u16; 1024] = [0; 1024];
     let left = number(p, entries, &mut new, count);
-    Tidied::Table(left as u32, (512 * ((left + 41) / 42)) as u32)
+    Ok(TableSize {
+        nodes: left as u32,
+        bytes: (512 * ((left + 41) / 42)) as u32,
+    })
 }
 
 // The pairing in which a program is tidied: for each new node its old one, in the first entries of a room that has one for each old node or more.
 // The answer is tidy's; a refusal leaves the room as before.
-pub fn pairing_of(program: &[u8], entries: &mut [u16]) -> Tidied
+pub fn pairing_of(program: &[u8], entries: &mut [u16]) -> Result<TableSize, Untidied>
     ensures { (result ≡ (tidying_call program.now entries.old).answer) × (entries.new ≡ (tidying_call program.now entries.old).room) }
 {
-    let found = judge(program);
-    let fault = found.verdict;
-    match fault {
-        Verdict::Refuse(r) => Tidied::Refused(r),
-        Verdict::Fine => pair_accepted(program, entries, found.count),
-    }
+    let found = judge(program)?;
+    pair_accepted(program, entries, found.count)
 }

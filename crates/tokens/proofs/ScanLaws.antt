@@ -1,7 +1,7 @@
 -- The words ahead, byte by byte.
 -- Assumes nothing.
 use mathlib.Core.Path.{◌≡◌, refl, sym, ap, ◌∙◌}
-use mathlib.Core.Bool.{Bool, true, false}
+use mathlib.Core.Bool.{Bool, true, false, not}
 use mathlib.Core.List.{[], ◌∷◌, ◌++◌, append_assoc, append-nil}
 use Prim.Native.Nat.{ℕ, suc, ◌+◌, ◌-◌, ◌≤◌, ◌<◌}
 use native.Mathlib.Omega.{arith}
@@ -12,8 +12,9 @@ use Rattle.tokens.specs.Ahead.{RestOfWord, Shown, Still, Blank}
 use lib.ListN.{length, get_or, take, drop, drop_of_length-le}
 use lib.Seq.{drop-cons, drop-drop, take-add}
 use Rattle.rules.specs.Bytes.{Bytes, ◌or◌}
-use Rattle.texts.specs.Tokens.{Token, token, ends_line, is_white, is_comment, is_mark, between, from, part}
+use Rattle.texts.specs.Tokens.{Token, token, ends_line, is_white, is_comment, is_mark, is_part, between, from, part}
 use Rattle.texts.specs.Tokens as Tokens
+use Rattle.texts.proofs.Gives.{false≢true}
 
 -- A line end is white.
 ends_white : (b : ℕ) → ends_line b ≡ true → is_white b ≡ true
@@ -47,25 +48,48 @@ module _ (s : Bytes) (i : ℕ) where
 
 -- A word goes on, or ends.
 module _ (s : Bytes) (i start : ℕ) (w : Bytes) (h : i < length s) where
-  pub inside_on : is_white (get_or s i 0) ≡ false → is_comment (get_or s i 0) ≡ false → is_mark (get_or s i 0) ≡ false
+  inside_on : is_white (get_or s i 0) ≡ false → is_comment (get_or s i 0) ≡ false → is_mark (get_or s i 0) ≡ false
       → Tokens.inside start w i (drop i s) ≡ Tokens.inside start (w ++ get_or s i 0 ∷ []) (suc i) (drop (suc i) s)
   unfolding Tokens.inside
   inside_on e₁ e₂ e₃ = ap (Tokens.inside start w i) (ahead s i h) ∙ rw (e₁, e₂, e₃, Tokens.inside) refl
 
-  pub ends_white_word : is_white (get_or s i 0) ≡ true → Tokens.inside start w i (drop i s) ≡ token start w ∷ from s i
+  ends_white_word : is_white (get_or s i 0) ≡ true → Tokens.inside start w i (drop i s) ≡ token start w ∷ from s i
   unfolding Tokens.inside from between
   ends_white_word e₁ =
       ap (Tokens.inside start w i) (ahead s i h) ∙ rw (e₁, Tokens.inside) (sym (ap (λ (r : Bytes). token start w ∷ between i r) (ahead s i h) ∙ rw (e₁, between) refl))
 
-  pub ends_comment_word : is_white (get_or s i 0) ≡ false → is_comment (get_or s i 0) ≡ true → Tokens.inside start w i (drop i s) ≡ token start w ∷ from s i
+  ends_comment_word : is_white (get_or s i 0) ≡ false → is_comment (get_or s i 0) ≡ true → Tokens.inside start w i (drop i s) ≡ token start w ∷ from s i
   unfolding Tokens.inside from between
   ends_comment_word e₁ e₂ =
       ap (Tokens.inside start w i) (ahead s i h) ∙ rw (e₁, e₂, Tokens.inside) (sym (ap (λ (r : Bytes). token start w ∷ between i r) (ahead s i h) ∙ rw (e₁, e₂, between) refl))
 
-  pub ends_mark_word : is_white (get_or s i 0) ≡ false → is_comment (get_or s i 0) ≡ false → is_mark (get_or s i 0) ≡ true → Tokens.inside start w i (drop i s) ≡ token start w ∷ from s i
+  ends_mark_word : is_white (get_or s i 0) ≡ false → is_comment (get_or s i 0) ≡ false → is_mark (get_or s i 0) ≡ true → Tokens.inside start w i (drop i s) ≡ token start w ∷ from s i
   unfolding Tokens.inside from between
   ends_mark_word e₁ e₂ e₃ =
       ap (Tokens.inside start w i) (ahead s i h) ∙ rw (e₁, e₂, e₃, Tokens.inside) (sym (ap (λ (r : Bytes). token start w ∷ between i r) (ahead s i h) ∙ rw (e₁, e₂, e₃, between) refl))
+
+  -- Any byte that is no part of a word ends it, and one that is goes on.
+  pub ends_word : is_part (get_or s i 0) ≡ false → Tokens.inside start w i (drop i s) ≡ token start w ∷ from s i
+  unfolding is_part ◌or◌
+  ends_word e = go (is_white (get_or s i 0)) (is_comment (get_or s i 0)) (is_mark (get_or s i 0)) refl refl refl e
+    where
+      go : (x y z : Bool) → is_white (get_or s i 0) ≡ x → is_comment (get_or s i 0) ≡ y → is_mark (get_or s i 0) ≡ z → not (x or y or z) ≡ false
+          → Tokens.inside start w i (drop i s) ≡ token start w ∷ from s i
+      go true y z a b c d = ends_white_word a
+      go false true z a b c d = ends_comment_word a b
+      go false false true a b c d = ends_mark_word a b c
+      go false false false a b c d = absurd (false≢true (sym d))
+
+  pub goes_on : is_part (get_or s i 0) ≡ true → Tokens.inside start w i (drop i s) ≡ Tokens.inside start (w ++ get_or s i 0 ∷ []) (suc i) (drop (suc i) s)
+  unfolding is_part ◌or◌
+  goes_on e = go (is_white (get_or s i 0)) (is_comment (get_or s i 0)) (is_mark (get_or s i 0)) refl refl refl e
+    where
+      go : (x y z : Bool) → is_white (get_or s i 0) ≡ x → is_comment (get_or s i 0) ≡ y → is_mark (get_or s i 0) ≡ z → not (x or y or z) ≡ true
+          → Tokens.inside start w i (drop i s) ≡ Tokens.inside start (w ++ get_or s i 0 ∷ []) (suc i) (drop (suc i) s)
+      go true y z a b c d = absurd (false≢true d)
+      go false true z a b c d = absurd (false≢true d)
+      go false false true a b c d = absurd (false≢true d)
+      go false false false a b c d = inside_on a b c
 
 pub ends_text_word : (s : Bytes) (i start : ℕ) (w : Bytes) → length s ≤ i → Tokens.inside start w i (drop i s) ≡ token start w ∷ from s i
 unfolding Tokens.inside from between
@@ -108,14 +132,13 @@ module _ (s : Bytes) (at i : ℕ) where
       → Within s at i × RestOfWord s at i
   word_returns h l gone e = ((h, l), record { rest = λ start w. gone start w ∙ e start (w ++ part s at i) })
 
-  pub word_again : (x z : Bool) → at ≤ i → i < length s → Gone → x ≡ is_white (get_or s i 0) → x ≡ false → (get_or s i 0 ≡ 59 → ⊥) → z ≡ is_mark (get_or s i 0) → z ≡ false
+  pub word_again : at ≤ i → i < length s → Gone → is_part (get_or s i 0) ≡ true
       → (at ≤ i + 1) × (i + 1 ≤ length s)
       × ((start : ℕ) (w : Bytes) → Tokens.inside start w at (drop at s) ≡ Tokens.inside start (w ++ part s at (i + 1)) (i + 1) (drop (i + 1) s))
-  unfolding is_comment
-  word_again x z h l gone t u d t₁ u₁ = (
+  word_again h l gone e = (
     omega arith,
     omega arith,
-    λ start w. rw add-one (gone start w ∙ inside_on s i start (w ++ part s at i) l (sym t ∙ u) (ne_eqb _ 59 d) (sym t₁ ∙ u₁)
+    λ start w. rw add-one (gone start w ∙ goes_on s i start (w ++ part s at i) l e
         ∙ ap (λ (v : Bytes). Tokens.inside start v (suc i) (drop (suc i) s)) (append_assoc w (part s at i) (get_or s i 0 ∷ []) ∙ ap (λ (r : Bytes). w ++ r) (sym (part_more s at i h l)))),
   )
 

@@ -1,10 +1,9 @@
 -- What the scanner says of the words ahead.
 -- Assumes nothing: these are definitions.
-use Rattle.std.specs.Prelude.{◌≡◌, [], ◌∷◌, ◌++◌, ℕ, ◌≤◌, ◌<◌, false, length, drop, get_or}
+use Rattle.std.specs.Prelude.{◌≡◌, [], ◌∷◌, ◌++◌, ℕ, ◌≤◌, ◌<◌, false, length, drop, get_or, Option, Some, None}
 use Rattle.rules.specs.Bytes.{Bytes}
 use Rattle.texts.specs.Tokens.{token, is_white, is_comment, inside, from, part}
-use Rattle.tokens.specs.declared.Next.{Next}
-use Rattle.tokens.specs.declared.Next.TheVariants.{Word, End}
+use Rattle.tokens.specs.declared.Span.{Span}
 
 -- A word that began at start, of which w has been seen, goes on from at up to r.
 pub record RestOfWord (text : Bytes) (at r : ℕ) : Type 0 where
@@ -25,6 +24,6 @@ pub record Blank (text : Bytes) (at r : ℕ) : Type 0 where
   pub shown : r < length text → Shown text r
 
 -- The next word from a position on begins there or later, and ends later than it begins; behind it are the other words.
-abbrev pub Ahead : Bytes → ℕ → Next → Type 0
-Ahead text at (Word start end) = (at ≤ start) × (start < end) × (end ≤ length text) × (from text at ≡ token start (part text start end) ∷ from text end)
-Ahead text at End = from text at ≡ []
+abbrev pub Ahead : Bytes → ℕ → Option Span → Type 0
+Ahead text at (Some w) = (at ≤ w.first) × (w.first < w.end) × (w.end ≤ length text) × (from text at ≡ token w.first (part text w.first w.end) ∷ from text w.end)
+Ahead text at None = from text at ≡ []

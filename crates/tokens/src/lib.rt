@@ -5,35 +5,36 @@ ghost use Rattle.std.specs.Prelude.{◌≡◌, true, ◌∷◌, ◌≤◌, ◌<�
 ghost use Rattle.texts.specs.Tokens.{ends_line, is_white, is_mark, is_part, between, comment, from, part};
 ghost use Rattle.tokens.specs.Ahead.{Ahead, RestOfWord, Still, Blank};
 
-// The next word: where it begins and ends. Or there is none.
+// A word of a text: where it begins, and where it ends.
 #[derive(Clone, Copy)]
-pub enum Next {
-    Word(usize, usize),
-    End,
+pub struct Span {
+    pub first: usize,
+    pub end: usize,
 }
 
 pub fn ends_line(b: u8) -> bool
     ensures { result ≡ ends_line b }
 {
-    if b == 10 { true } else { b == 13 }
+    b == 10 || b == 13
 }
 
 pub fn is_white(b: u8) -> bool
     ensures { result ≡ is_white b }
 {
-    if b == 32 {
-        true
-    } else if b == 9 {
-        true
-    } else {
-        ends_line(b)
-    }
+    b == 32 || b == 9 || ends_line(b)
 }
 
 pub fn is_mark(b: u8) -> bool
     ensures { result ≡ is_mark b }
 {
-    if b == 40 { true } else { b == 41 }
+    b == 40 || b == 41
+}
+
+// A byte that goes on with a word.
+fn is_part(b: u8) -> bool
+    ensures { result ≡ is_part b }
+{
+    !(is_white(b) || b == 59 || is_mark(b))
 }
 
 // The end of a comment: of its line, or of the text.
@@ -42,15 +43,12 @@ pub fn line_end(s: &[u8], at: usize) -> usize
     ensures forward { (at ≤ result) × (result ≤ length s.now) }
     ensures s_value { comment at (drop at s.now) ≡ from s.now result }
 {
-    let mut i = at;
-    while i < s.len() {
-        let b = s[i];
-        if ends_line(b) {
+    for i in at..s.len() {
+        if ends_line(s[i]) {
             return i;
         }
-        i += 1;
     }
-    i
+    s.len()
 }
 
 // The end of a word that has begun: its first byte that is no part of it, or the text's end.
@@ -59,21 +57,12 @@ pub fn word_end(s: &[u8], at: usize) -> usize
     ensures forward { (at ≤ result) × (result ≤ length s.now) }
     ensures rest_of_word { RestOfWord s.now at result }
 {
-    let mut i = at;
-    while i < s.len() {
-        let b = s[i];
-        if is_white(b) {
+    for i in at..s.len() {
+        if !is_part(s[i]) {
             return i;
         }
-        if b == 59 {
-            return i;
-        }
-        if is_mark(b) {
-            return i;
-        }
-        i += 1;
     }
-    i
+    s.len()
 }
 
 // Behind a white byte or a comment; where neither stands at a position, that position.
@@ -92,7 +81,7 @@ pub fn past_blank(s: &[u8], i: usize) -> usize
     i
 }
 
-// The end of the white space and the comments from a position on.
+// The end of the white space and the comments from a position on. (The position jumps behind each, so no index is counted.)
 pub fn blank_end(s: &[u8], at: usize) -> usize
     requires { at ≤ length s.now }
     ensures forward { (at ≤ result) × (result ≤ length s.now) }
@@ -110,28 +99,30 @@ pub fn blank_end(s: &[u8], at: usize) -> usize
 }
 
 // The next word from a position on.
-pub fn next_word(s: &[u8], at: usize) -> Next
+pub fn next_word(s: &[u8], at: usize) -> Option<Span>
     requires { at ≤ length s.now }
     ensures { Ahead s.now at result }
 {
-    let start = blank_end(s, at);
-    if s.len() <= start {
-        return Next::End;
+    let first = blank_end(s, at);
+    if s.len() <= first {
+        return None;
     }
-    let b = s[start];
-    if is_mark(b) {
-        return Next::Word(start, start + 1);
+    if is_mark(s[first]) {
+        return Some(Span {
+            first,
+            end: first + 1,
+        });
     }
-    let end = word_end(s, start + 1);
-    Next::Word(start, end)
+    let end = word_end(s, first + 1);
+    Some(Span { first, end })
 }
 
 // The same from any position: behind the text there is no word.
-pub fn word_from(s: &[u8], at: usize) -> Next
+pub fn word_from(s: &[u8], at: usize) -> Option<Span>
     ensures { Ahead s.now at result }
 {
     if s.len() < at {
-        return Next::End;
+        return None;
     }
     next_word(s, at)
 }
@@ -143,29 +134,31 @@ pub struct Reader<'a> {
     pub at: usize,
 }
 
-pub fn open<'a>(src: &'a [u8]) -> Reader<'a>
-    ensures { (result.src ≡ src.entry) × (result.at ≡ 0) }
-{
-    Reader { src, at: 0 }
-}
+impl<'a> Reader<'a> {
+    pub fn open(src: &'a [u8]) -> Reader<'a>
+        ensures { (result.src ≡ src.entry) × (result.at ≡ 0) }
+    {
+        Reader { src, at: 0 }
+    }
 
-// The next word from where the reader is.
-pub fn look<'a>(r: Reader<'a>) -> Next
-    ensures { Ahead r.entry.src.now r.entry.at result }
-{
-    word_from(r.src, r.at)
-}
+    // The next word from where the reader is.
+    pub fn look(self) -> Option<Span>
+        ensures { Ahead self.entry.src.now self.entry.at result }
+    {
+        word_from(self.src, self.at)
+    }
 
-// The same text from another place.
-pub fn moved<'a>(r: Reader<'a>, at: usize) -> Reader<'a>
-    ensures { (result.src ≡ r.entry.src) × (result.at ≡ at) }
-{
-    Reader { src: r.src, at }
+    // The same text from another place.
+    pub fn moved(self, at: usize) -> Reader<'a>
+        ensures { (result.src ≡ self.entry.src) × (result.at ≡ at) }
+    {
+        Reader { src: self.src, at }
+    }
 }
 
 // The first word of a text.
-pub fn first_word(s: &[u8]) -> Next
+pub fn first_word(s: &[u8]) -> Option<Span>
     ensures { Ahead s.now 0 result }
 {
-    look(open(s))
+    Reader::open(s).look()
 }

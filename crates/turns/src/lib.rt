@@ -56,24 +56,18 @@ pub fn wanted(steps: u32) -> usize
 pub fn placed(steps: u32, r: Refusal) -> Refusal
     ensures { result ≡ placed_at steps r }
 {
-    let code = rules::code_of(r);
-    if code == 12 {
-        return Refusal::InputFault(steps);
+    match r {
+        Refusal::InputFault(_) => Refusal::InputFault(steps),
+        Refusal::TimeBack(_) => Refusal::TimeBack(steps),
+        _ => r,
     }
-    if code == 13 {
-        return Refusal::TimeBack(steps);
-    }
-    r
 }
 
 // Whether so many bytes after so many steps are a record to take: it is whole, and no 4,097th.
 pub fn is_record(got: usize, steps: u32) -> bool
     ensures { result ≡ is_record got steps }
 {
-    if steps < MOST_RECORDS {
-        return got >= RECORD;
-    }
-    false
+    steps < MOST_RECORDS && got >= RECORD
 }
 
 // The work of all steps, after a step of so much.

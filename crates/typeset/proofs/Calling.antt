@@ -1,5 +1,7 @@
 -- The text of an accepted program, by the table that it is renumbered to; and the call, by the verdict.
 -- Assumes nothing.
+use Rattle.rules.specs.Verdicts.{Verdict}
+use Rattle.std.specs.Prelude.{Result, Ok, Err}
 use mathlib.Core.Path.{◌≡◌, sym, ap, ◌∙◌}
 use mathlib.Core.Bool.{Bool, true, false}
 use Prim.Native.Nat.{ℕ, ◌+◌, ◌-◌, ◌*◌, ◌/◌, ◌≤◌, ◌<◌}
@@ -13,8 +15,6 @@ use Rattle.rules.specs.Accepted.{Accepted}
 use Rattle.rules.specs.Calls.{program_verdict}
 use Rattle.rules.specs.Tree.{root}
 use Rattle.rules.specs.declared.Refusal.{Refusal}
-use Rattle.rules.specs.declared.Verdict.{Verdict}
-use Rattle.rules.specs.declared.Verdict.TheVariants.{Fine, Refuse}
 use Rattle.rules.specs.Layout.{edition, type_at}
 use Rattle.rules.proofs.Once.{tree_size}
 use Rattle.rules.proofs.Rooted.{root_of, some_node}
@@ -25,8 +25,8 @@ use Rattle.written.proofs.Sounded.{accepted_sound, sound_nodes}
 use Rattle.texts.specs.Numbering.{renumbered}
 use Rattle.texts.specs.Printer.{printed, print_text}
 use Rattle.texts.specs.Calls.{PrintOutcome, print_fitted, print_outcome, print_call}
-use Rattle.texts.specs.declared.TextPrinted.{TextPrinted}
-use Rattle.texts.specs.declared.TextPrinted.TheVariants.{Text, RoomShort}
+use Rattle.texts.specs.declared.NoText.{NoText}
+use Rattle.texts.specs.declared.NoText.TheVariants.{RoomShort}
 use Rattle.retold.proofs.Fronts.{written_front}
 use Rattle.retold.proofs.There.{text_most}
 use Rattle.letters.specs.Wrote.{Wrote}
@@ -92,28 +92,28 @@ module _ (p : Bytes) (small : Small p) (a : Accepted p) where
 -- A room that is too short, and one that is not.
 module _ (text room : Bytes) where
   abbrev fitted : Bool → PrintOutcome
-  fitted b = elim b [ true ↦ record { answer = RoomShort; room = room } | false ↦ record { answer = Text (length text); room = write_at room 0 text } ]
+  fitted b = elim b [ true ↦ record { answer = Err RoomShort; room = room } | false ↦ record { answer = Ok (length text); room = write_at room 0 text } ]
 
-  pub short : (r : ℕ) → r ≡ length text → length room < r → (RoomShort ≡ (print_fitted text room).answer) × (room ≡ (print_fitted text room).room)
+  pub short : (r : ℕ) → r ≡ length text → length room < r → (Err RoomShort ≡ (print_fitted text room).answer) × (room ≡ (print_fitted text room).room)
   unfolding print_fitted
   short r e h =
       let z : ltb (length room) (length text) ≡ true = lt-ltb (length room) (length text) (omega arith) in
       (sym (ap (λ (b : Bool). (fitted b).answer) z), sym (ap (λ (b : Bool). (fitted b).room) z))
 
   pub long : (r : ℕ) (room' : Bytes) → r ≡ length text → r ≤ length room → room' ≡ write_at room 0 text
-      → (Text r ≡ (print_fitted text room).answer) × (room' ≡ (print_fitted text room).room)
+      → (Ok r ≡ (print_fitted text room).answer) × (room' ≡ (print_fitted text room).room)
   unfolding print_fitted
   long r room' e h f =
       let z : ltb (length room) (length text) ≡ false = le-ltb (length room) (length text) (omega arith) in
-      (ap Text e ∙ sym (ap (λ (b : Bool). (fitted b).answer) z), f ∙ sym (ap (λ (b : Bool). (fitted b).room) z))
+      (ap Ok e ∙ sym (ap (λ (b : Bool). (fitted b).answer) z), f ∙ sym (ap (λ (b : Bool). (fitted b).room) z))
 
 -- The call.
 module _ (p room : Bytes) where
-  pub call_refused : (r : Refusal) → program_verdict p ≡ Refuse r → (TextPrinted.Refused r ≡ (print_call p room).answer) × (room ≡ (print_call p room).room)
+  pub call_refused : (r : Refusal) → program_verdict p ≡ Err r → (Err (NoText.Refused r) ≡ (print_call p room).answer) × (room ≡ (print_call p room).room)
   unfolding print_call print_outcome
   call_refused r e = (sym (ap (λ (v : Verdict). (print_outcome v p room).answer) e), sym (ap (λ (v : Verdict). (print_outcome v p room).room) e))
 
-  pub call_fine : (x : TextPrinted) (room' : Bytes) → program_verdict p ≡ Fine → (x ≡ (print_fitted (print_text p) room).answer) × (room' ≡ (print_fitted (print_text p) room).room)
+  pub call_fine : (x : Result ℕ NoText) (room' : Bytes) → program_verdict p ≡ Ok tt → (x ≡ (print_fitted (print_text p) room).answer) × (room' ≡ (print_fitted (print_text p) room).room)
       → (x ≡ (print_call p room).answer) × (room' ≡ (print_call p room).room)
   unfolding print_call print_outcome
   call_fine x room' e f = (f.0 ∙ sym (ap (λ (v : Verdict). (print_outcome v p room).answer) e), f.1 ∙ sym (ap (λ (v : Verdict). (print_outcome v p room).room) e))

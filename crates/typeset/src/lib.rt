@@ -9,12 +9,11 @@ ghost use Rattle.texts.specs.Calls.{print_fitted, print_call};
 
 use forms::put_text;
 use inorder::renumber;
-use rules::Verdict;
-use texts::TextPrinted;
+use texts::NoText;
 use verdict::judge;
 
 // The text of an accepted program, if it is no longer than the room. It is put twice: first into a room of one byte, which tells its length.
-fn print_accepted(p: &[u8], room: &mut [u8], count: usize) -> TextPrinted
+fn print_accepted(p: &[u8], room: &mut [u8], count: usize) -> Result<u32, NoText>
     requires { Accepted p.now × (count ≡ nodes p.now) }
     ensures { (result ≡ (print_fitted (print_text p.now) room.old).answer) × (room.new ≡ (print_fitted (print_text p.now) room.old).room) }
 {
@@ -25,20 +24,16 @@ fn print_accepted(p: &[u8], room: &mut [u8], count: usize) -> TextPrinted
     let mut none: [u8; 1] = [0; 1];
     let long = put_text(q, &mut none, count);
     if room.len() < long {
-        return TextPrinted::RoomShort;
+        return Err(NoText::RoomShort);
     }
     put_text(q, room, count);
-    TextPrinted::Text(long as u32)
+    Ok(long as u32)
 }
 
 // Print a program: the room's front gets its text, and the rest is left. A refusal leaves the room as before.
-pub fn print(program: &[u8], room: &mut [u8]) -> TextPrinted
+pub fn print(program: &[u8], room: &mut [u8]) -> Result<u32, NoText>
     ensures { (result ≡ (print_call program.now room.old).answer) × (room.new ≡ (print_call program.now room.old).room) }
 {
-    let found = judge(program);
-    let fault = found.verdict;
-    match fault {
-        Verdict::Refuse(r) => TextPrinted::Refused(r),
-        Verdict::Fine => print_accepted(program, room, found.count),
-    }
+    let found = judge(program)?;
+    print_accepted(program, room, found.count)
 }

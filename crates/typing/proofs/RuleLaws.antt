@@ -1,5 +1,6 @@
 -- A node's own rule over the places below it: what a combinator answers is what its callees answer, put together.
 -- Assumes nothing.
+use Rattle.std.specs.Prelude.{Option, ℕ}
 use mathlib.Core.Path.{◌≡◌}
 use mathlib.Core.Bool.{Bool}
 use Prim.Native.Nat.{ℕ}
@@ -7,7 +8,6 @@ use lib.Dec.{eqb}
 use Rattle.rules.specs.Bytes.{◌and◌}
 use Rattle.rules.specs.Values.{maybe_of}
 use Rattle.rules.specs.Places.{sooner, wrong_unless}
-use Rattle.rules.specs.declared.Place.{Place}
 
 -- The rule: one test of types or two, the first perhaps of a maybe.
 pub test_right : (v : ℕ) {u x : ℕ} → u ≡ x → eqb u v ≡ eqb x v
@@ -21,17 +21,17 @@ pub maybe_right : (t : ℕ) {u w z a c d : ℕ} {m r : Bool} → m ≡ eqb u (ma
 maybe_right t em eu ew ez e = cc
 
 -- The type, and the smallest place: of the node over one place, over two, and over three.
-pub over_one : (i : ℕ) {r right : Bool} {s t type : ℕ} {x at here least q : Place} → here ≡ wrong_unless r i → r ≡ right → at ≡ x → least ≡ sooner here at → s ≡ type
+pub over_one : (i : ℕ) {r right : Bool} {s t type : ℕ} {x at here least q : Option ℕ} → here ≡ wrong_unless r i → r ≡ right → at ≡ x → least ≡ sooner here at → s ≡ type
     → (t ≡ s) × (q ≡ least)
     → (t ≡ type) × (q ≡ sooner (wrong_unless right i) x)
 over_one i eh er ex el et e = (cc (e.0, et), cc (e.1, el, eh, er, ex))
 
-pub over_two : (i : ℕ) {r right : Bool} {s t type : ℕ} {x at y after least q : Place} → r ≡ right → at ≡ x → after ≡ y → s ≡ type
+pub over_two : (i : ℕ) {r right : Bool} {s t type : ℕ} {x at y after least q : Option ℕ} → r ≡ right → at ≡ x → after ≡ y → s ≡ type
     → least ≡ sooner (wrong_unless r i) (sooner at after) → (t ≡ s) × (q ≡ least)
     → (t ≡ type) × (q ≡ sooner (wrong_unless right i) (sooner x y))
 over_two i er ex ey et el e = (cc (e.0, et), cc (e.1, el, er, ex, ey))
 
-pub over_three : (i : ℕ) {r right : Bool} {s t type : ℕ} {x at y after z last below least q : Place} → r ≡ right → at ≡ x → after ≡ y → last ≡ z → below ≡ sooner after last → s ≡ type
+pub over_three : (i : ℕ) {r right : Bool} {s t type : ℕ} {x at y after z last below least q : Option ℕ} → r ≡ right → at ≡ x → after ≡ y → last ≡ z → below ≡ sooner after last → s ≡ type
     → least ≡ sooner (wrong_unless r i) (sooner at below) → (t ≡ s) × (q ≡ least)
     → (t ≡ type) × (q ≡ sooner (wrong_unless right i) (sooner x (sooner y z)))
 over_three i er ex ey ez eb et el e = (cc (e.0, et), cc (e.1, el, eb, er, ex, ey, ez))

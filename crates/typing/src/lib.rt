@@ -16,7 +16,7 @@ ghost use Rattle.typing.specs.Numbers.{place_below, same_in};
 
 use kinds::both;
 use places::{NOWHERE, place, sooner, wrong_unless};
-use rules::{BOOL, INT, MAYBE, Place};
+use rules::{BOOL, INT, MAYBE};
 use table::{LAST, declared, node};
 use values::{MAYBE_INT, is_plain, type_in};
 
@@ -24,7 +24,7 @@ use values::{MAYBE_INT, is_plain, type_in};
 #[derive(Clone, Copy)]
 pub struct Typed {
     pub ty: u8,
-    pub place: Place,
+    pub place: Option<u32>,
 }
 
 // A type and the number of a place, as one number, so that a recursion answers both in a register.

@@ -15,7 +15,7 @@ use Rattle.rules.specs.Update.{occurs, first_present, on_occurrence, caught, on_
 use Rattle.rules.specs.declared.Tally.{Tally}
 use Rattle.rules.specs.declared.Value.{Value}
 use Rattle.rules.specs.declared.Value.TheVariants.{Plain}
-use Rattle.rules.specs.declared.Occurrence.{Occurrence}
+use Rattle.rules.specs.Occurrence.{Occurrence}
 
 -- Each channel that an input in the signal names has a property.
 abbrev mutual

@@ -1,7 +1,8 @@
 -- Channels that no input node names do not matter: two runs of one program, from one state, with equal output lengths, over equally many
 -- well-formed records with equal times, which agree on every channel that some input node names, cannot be told apart.
 -- Assumes nothing.
-use Rattle.std.specs.Prelude.{if◌then◌else◌}
+use Rattle.std.specs.Prelude.{if◌then◌else◌, Ok, Err}
+use Rattle.rules.specs.Verdicts.{Verdict, finished_with, refused_after}
 use mathlib.Core.Path.{◌≡◌, refl, sym, ap, ◌∙◌}
 use mathlib.Core.Bool.{Bool, true, false, not}
 use Prim.Native.Nat.{ℕ, zero, suc, ◌+◌, ◌*◌, ◌/◌, ◌%◌, ◌<◌, ◌≤◌}
@@ -16,10 +17,6 @@ use Rattle.rules.specs.Tree.{root}
 use Rattle.rules.specs.Update.{step_of}
 use Rattle.rules.specs.Calls.{◌otherwise◌, refuse_if, program_verdict, lent_verdict, input_wrong, time_wrong, record_verdict, RunOutcome, no_step, run_from, run_outcome, run_call}
 use Rattle.rules.specs.declared.Refusal.TheVariants.{OutputLength}
-use Rattle.rules.specs.declared.Verdict.{Verdict}
-use Rattle.rules.specs.declared.Verdict.TheVariants.{Fine, Refuse}
-use Rattle.rules.specs.declared.Ran.{Ran}
-use Rattle.rules.specs.declared.Ran.TheVariants.{Finished}
 use Rattle.rules.proofs.Kids.{not_not}
 use Rattle.rules.proofs.Verdicts.{both_fine, if_fine, accepted}
 use Rattle.rules.proofs.Rooted.{some_node}
@@ -66,7 +63,7 @@ record Lent (p recs out : Bytes) : Type 0 where
   some : 0 < nodes p
   room : length out ≡ 8 * (length recs / input_length)
 
-lent_fine : (p st recs out : Bytes) → lent_verdict p st recs out (fits recs) ≡ Fine → Lent p recs out
+lent_fine : (p st recs out : Bytes) → lent_verdict p st recs out (fits recs) ≡ Ok tt → Lent p recs out
 unfolding lent_verdict
 lent_fine p st recs out e =
     let a = both_fine _ _ e in
@@ -79,7 +76,7 @@ lent_fine p st recs out e =
 
 -- Two runs in their rooms, of one walk.
 walked : (out₁ out₂ : Bytes) (o₁ o₂ : RunOutcome) (r : Walk) → o₁ ≡ in_room 0 out₁ r → o₂ ≡ in_room 0 out₂ r
-    → ((steps work mark : ℕ) → r.answer ≡ Finished steps work mark → (length out₁ ≡ length r.written) × (length out₂ ≡ length r.written))
+    → ((steps work mark : ℕ) → r.answer ≡ finished_with steps work mark → (length out₁ ≡ length r.written) × (length out₂ ≡ length r.written))
     → SameRuns out₁ out₂ o₁ o₂
 unfolding in_room
 walked out₁ out₂ o₁ o₂ r e f full = record {
@@ -112,14 +109,14 @@ unplugged p st recs₁ recs₂ out₁ out₂ lo a = go (lent_verdict p st recs�
     as_lent₂ v e = ap (run_outcome p st recs₂ out₂) (sym (lent_same p st recs₁ recs₂ out₁ out₂ lr lo) ∙ e)
 
     go : (v : Verdict) → lent_verdict p st recs₁ out₁ (fits recs₁) ≡ v → SameRuns out₁ out₂ (run_call p st recs₁ out₁) (run_call p st recs₂ out₂)
-    go (Refuse r) e =
-        walked out₁ out₂ _ _ (record { answer = Ran.Refused r 0 no_step; state = st; written = [] })
-        (as_lent (Refuse r) e) (as_lent₂ (Refuse r) e) (λ steps work mark f. absurd (not_finished f))
-    go Fine e =
+    go (Err r) e =
+        walked out₁ out₂ _ _ (record { answer = refused_after r 0 no_step; state = st; written = [] })
+        (as_lent (Err r) e) (as_lent₂ (Err r) e) (λ steps work mark f. absurd (not_finished f))
+    go (Ok _) e =
         let l = lent_fine p st recs₁ out₁ e in
         let n : ℕ = length recs₁ / input_length in
         walked out₁ out₂ _ _ (walk p recs₁ n 0 0 no_step st)
-        (as_lent Fine e ∙ run_walk n p recs₁ 0 0 no_step st out₁)
-        (as_lent₂ Fine e ∙ ap (λ (m : ℕ). run_from p recs₂ (m / input_length) 0 0 no_step st out₂) (sym lr) ∙ run_walk n p recs₂ 0 0 no_step st out₂
+        (as_lent (Ok tt) e ∙ run_walk n p recs₁ 0 0 no_step st out₁)
+        (as_lent₂ (Ok tt) e ∙ ap (λ (m : ℕ). run_from p recs₂ (m / input_length) 0 0 no_step st out₂) (sym lr) ∙ run_walk n p recs₂ 0 0 no_step st out₂
         ∙ sym (ap (in_room 0 out₂) (walk_agree n p recs₁ recs₂ 0 0 no_step st λ k g h. alike p _ _ k l.some (a.each k (omega arith)))))
         (λ steps work mark f. let w = whole n p recs₁ 0 0 no_step st steps work mark f in (omega (arith, l.room, w.long), omega (arith, l.room, w.long, lo)))

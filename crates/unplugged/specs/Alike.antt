@@ -1,10 +1,10 @@
 -- Records that agree where a program looks, and runs that cannot be told apart.
 -- Assumes nothing: these are definitions.
 use Rattle.std.specs.Prelude.{◌≡◌, false, ℕ, suc, ◌/◌, ◌<◌, length}
+use Rattle.rules.specs.Verdicts.{finished_with}
 use Rattle.rules.specs.Bytes.{Bytes, write_at}
 use Rattle.rules.specs.Layout.{nodes, kind_at, a_at, input_length, input_at, time_in, channel_value}
 use Rattle.rules.specs.Calls.{input_wrong, RunOutcome}
-use Rattle.rules.specs.declared.Ran.TheVariants.{Finished}
 
 -- Some input node (kind 1) names channel k.
 pub record Names (p : Bytes) (k : ℕ) : Type 0 where
@@ -34,5 +34,5 @@ pub record SameRuns (out₁ out₂ : Bytes) (o₁ o₂ : RunOutcome) : Type 0 wh
   pub written : Bytes
   pub into₁ : o₁.output ≡ write_at out₁ 0 written
   pub into₂ : o₂.output ≡ write_at out₂ 0 written
-  pub whole : (steps work mark : ℕ) → o₁.answer ≡ Finished steps work mark → o₁.output ≡ o₂.output
+  pub whole : (steps work mark : ℕ) → o₁.answer ≡ finished_with steps work mark → o₁.output ≡ o₂.output
   pub equal_rooms : out₁ ≡ out₂ → o₁.output ≡ o₂.output

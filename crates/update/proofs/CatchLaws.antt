@@ -14,7 +14,7 @@ use Rattle.rules.specs.Tree.{Signal, Branches}
 use Rattle.rules.specs.Reset.{reset_s}
 use Rattle.rules.specs.Work.{Updated, moved, one_rule, afterᵘ, ruleᵘ, ◌plus◌}
 use Rattle.current.specs.Current.{leaves}
-use Rattle.rules.specs.declared.Moved.TheVariants.{Stay}
+use Rattle.rules.specs.Moved.{Stay}
 use Rattle.moves.specs.Outcomes.{tally_in, target_in, jump_value, moved_in}
 use Rattle.moves.proofs.SmallLaws.{leaves_stay, leaves_stuck, leaves_other, leaves_here}
 use Rattle.moves.proofs.NumberLaws.{moved_stuck, moved_stays, moved_jumps}

@@ -1,5 +1,6 @@
 -- The cases that a loop passes: from case to case, with what was counted on the way.
 -- Assumes nothing.
+use Rattle.std.specs.Prelude.{None}
 use mathlib.Core.Path.{◌≡◌, refl, sym, ap, ◌∙◌, subst}
 use mathlib.Core.Bool.{Bool, true, false}
 use mathlib.Core.List.{List}
@@ -19,11 +20,8 @@ use Rattle.rules.specs.Work.{◌plus◌, Updated, Next, Jump, Halted, moved, sta
 use Rattle.rules.specs.Evaluate.{Env, eval_s}
 use Rattle.rules.specs.declared.Node.{Node}
 use Rattle.rules.specs.declared.Tally.{Tally}
-use Rattle.rules.specs.declared.Moved.{Moved}
-use Rattle.rules.specs.declared.Moved.TheVariants.{Stay}
-use Rattle.outcomes.specs.Combine.{parts_of}
-use Rattle.outcomes.specs.declared.Event.{Event}
-use Rattle.outcomes.specs.declared.Parts.TheVariants.{Maybe}
+use Rattle.rules.specs.Moved.{Moved, Stay}
+use Rattle.outcomes.specs.Combine.{parts, parts_of}
 use Rattle.outcomes.proofs.Tallies.{counted, same_tally, or_no, yes_or, no_or, plus_assoc, one_first, four_parts}
 use Rattle.recalled.specs.Recall.{Memory, Recalled, fill_s, leaving, on_outcome, recall_s}
 use Rattle.noted.specs.Noted.{memory_in, Noted}
@@ -75,7 +73,7 @@ module _ {p : Bytes} {index : List ℕ} (rec st : Bytes) {env : Env} {j : ℕ} {
   on : n.b ≡ 65535 → ⊥
   on h = q.follows o (sym r.fields.b_is ∙ h)
 
-  gone : parts_of (eval_s rec st env (signal_at p n.a)) ≡ Maybe Event.Quiet (seen_in u)
+  gone : parts_of (eval_s rec st env (signal_at p n.a)) ≡ parts None (seen_in u)
   gone = rw r.fields.a_is (q.absent o)
 
   idle : (mem : Memory) → mem ≡ fill_s rec st env (signal_at p n.a) mem
@@ -285,17 +283,6 @@ passes_from {p} {index} rec st {env} {j} r {s} e =
     pass_end s r.node
     (recounted p index rec st env j r.node s.at (let z : 0 + s.seen ≡ s.seen = omega arith in z) (let z : 0 + s.kept ≡ s.kept = omega arith in z)
     (subst (Through p index rec st env j r.node 0 0) (sym e) (through p index rec st env j r.node most_nodes j 0 0 (pass_start rec st r))))
-
--- What is still to go: the cases down to 0, or nothing where the loop is to end.
-abbrev pub still : Bool → ℕ → ℕ
-still true i = i + 1
-still false i = 0
-
-pub still_less : {a b : Bool} {i k : ℕ} → a ≡ true → b ≡ true → k < i → still b k < still a i
-still_less {i = i} {k = k} e g h = rw (e, g) (let z : k + 1 < i + 1 = omega (arith, h) in z)
-
-pub still_end : (i k : ℕ) {a b : Bool} → a ≡ true → b ≡ false → still b k < still a i
-still_end i k e g = rw (e, g) (let z : 0 < i + 1 = omega arith in z)
 
 -- What was passed may be added to the walk's outcome: both together are the walk from case j, whose count is within its bound.
 pub passes_fit : {p : Bytes} {index : List ℕ} {rec st : Bytes} {env : Env} {j : ℕ} {s : Passed} → ReadyC p index (length st) env j

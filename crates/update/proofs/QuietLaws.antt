@@ -1,6 +1,7 @@
 -- What the event of a case counted, where the case is quiet: the count by the case's fields, and what a count above 0 tells.
 -- Assumes nothing.
-use Rattle.std.specs.Prelude.{if◌then◌else◌}
+use Rattle.std.specs.Prelude.{if◌then◌else◌, Option, Some, None}
+use Rattle.std.proofs.lemmas.Option.{same_Some, none-some}
 use mathlib.Core.Path.{◌≡◌, refl, sym, ap, ◌∙◌, subst}
 use mathlib.Core.Bool.{Bool, true, false}
 use mathlib.Core.List.{List}
@@ -13,21 +14,23 @@ use Rattle.rules.specs.Bytes.{Bytes}
 use Rattle.rules.specs.Layout.{kind_at, a_at, b_at, no_next}
 use Rattle.rules.specs.Tree.{signal_at}
 use Rattle.rules.specs.Evaluate.{Env, eval_s}
+use Rattle.rules.specs.Kinds.{is_signal}
+use Rattle.rules.specs.Shaped.{NodeOf}
+use Rattle.rules.specs.Work.{one_rule, ◌plus◌, after, rule}
+use Rattle.rules.specs.Evaluated.{Done, Stuck}
+use Rattle.evaluate.proofs.SignalLaws.{input_eval, time_eval, ext_eval, time_alone}
 use Rattle.rules.specs.declared.Node.{Node}
 use Rattle.rules.specs.declared.Tally.{Tally}
-use Rattle.rules.specs.declared.Evaluated.{Evaluated}
+use Rattle.rules.specs.Evaluated.{Evaluated}
 use Rattle.rules.proofs.Within.{eval_s_within}
-use Rattle.outcomes.specs.Combine.{work_of, parts_of}
+use Rattle.outcomes.specs.Combine.{work_of, parts, parts_of}
 use Rattle.outcomes.specs.Outcome.{outcome_in, IsOutcome}
-use Rattle.outcomes.specs.declared.Event.{Event}
-use Rattle.outcomes.specs.declared.Event.TheVariants.{Occurs}
 use Rattle.outcomes.specs.declared.Parts.{Parts}
-use Rattle.outcomes.specs.declared.Parts.TheVariants.{Maybe, Wrong}
-use Rattle.outcomes.proofs.Outcomes.{work_within, take_work}
+use Rattle.outcomes.proofs.Outcomes.{work_within, take_work, parts_with}
 use Rattle.outcomes.proofs.Tallies.{same_tally}
 use Rattle.moves.specs.Lent.{CaseAs}
 use Rattle.moves.proofs.ReadyLaws.{case_part, seen_small}
-use Rattle.update.specs.Passes.{seen_of, seen_in, absent_work, quiet_work, Known}
+use Rattle.update.specs.Passes.{seen_of, seen_in, absent_count, absent_work, quiet_work, Known, IsKnown}
 
 -- The count by tests: of the last case, of an event of another kind, and of an event that is looked at.
 module _ (p rec st : Bytes) (env : Env) (j : ℕ) where
@@ -52,37 +55,51 @@ module _ {p : Bytes} {index : List ℕ} (rec st : Bytes) {env : Env} {j : ℕ} {
     pub high_quiet : 3 < k → 0 ≡ quiet_work p rec st env j
     high_quiet h = sym (work_high p rec st env j (λ z. d (r.fields.b_is ∙ z)) (rw (← r.fields.a_is) (rw (← e) h)))
 
-    pub low_quiet : k ≤ 3 → {x : Evaluated} → x ≡ eval_s rec st env (signal_at p n.a) → {a : Parts} → parts_of x ≡ a
+    pub low_quiet : k ≤ 3 → {x : Evaluated} → x ≡ eval_s rec st env (signal_at p n.a) → {a : Option Parts} → parts_of x ≡ a
         → absent_work a ≡ quiet_work p rec st env j
     low_quiet h q a =
         ap absent_work (sym a ∙ ap parts_of q) ∙ ap (λ (i : ℕ). absent_work (parts_of (eval_s rec st env (signal_at p i)))) r.fields.a_is
         ∙ sym (work_low p rec st env j (λ z. d (r.fields.b_is ∙ z)) (rw (← r.fields.a_is) (rw (← e) h)))
 
 -- What is known of an event, by its number and by slots that are the same; where nothing is; and of one that was evaluated.
-pub known_by : {p rec st : Bytes} {env : Env} {i k e : ℕ} → i ≡ k → Known p rec st env k e → Known p rec st env i e
-known_by {p} {rec} {st} {env} {e = e} h g = subst (λ (x : ℕ). Known p rec st env x e) (sym h) g
+pub known_by : {p rec st : Bytes} {env : Env} {i k : ℕ} {o : Option ℕ} → i ≡ k → Known p rec st env k o → Known p rec st env i o
+known_by {p} {rec} {st} {env} {o = o} h g = subst (λ (x : ℕ). Known p rec st env x o) (sym h) g
 
-pub known_again : {p rec st : Bytes} {env env₁ : Env} {i e : ℕ} → env₁ ≡ env → Known p rec st env i e → Known p rec st env₁ i e
-known_again {p} {rec} {st} {i = i} {e = e} h g = subst (λ (x : Env). Known p rec st x i e) (sym h) g
+pub known_again : {p rec st : Bytes} {env env₁ : Env} {i : ℕ} {o : Option ℕ} → env₁ ≡ env → Known p rec st env i o → Known p rec st env₁ i o
+known_again {p} {rec} {st} {i = i} {o = o} h g = subst (λ (x : Env). Known p rec st x i o) (sym h) g
 
-pub known_none : {p rec st : Bytes} {env : Env} {i : ℕ} → Known p rec st env i 0
-known_none =
-    record {
-      low = λ h. absurd (omega (arith, h));
-      same = λ h. absurd (omega (arith, h));
-      number = λ h. absurd (omega (arith, h));
-    }
+pub known_none : {p rec st : Bytes} {env : Env} {i : ℕ} → Known p rec st env i None
+known_none = record { given = λ e h. absurd (none-some e h) }
 
 pub event_known : {p : Bytes} {index : List ℕ} (rec st : Bytes) {env : Env} {j : ℕ} {n : Node} → CaseAs p index (length st) env j n
-    → {k : ℕ} → k ≡ kind_at p n.a → k ≤ 3 → {e : ℕ} → outcome_in e ≡ eval_s rec st env (signal_at p n.a) → IsOutcome e → Known p rec st env (a_at p j) e
-event_known rec st r h l q i =
-    known_by (sym r.fields.a_is) (record { low = λ _. rw (← h) l; same = λ _. q; number = λ _. i })
+    → {k : ℕ} → k ≡ kind_at p n.a → k ≤ 3 → {e : ℕ} → outcome_in e ≡ eval_s rec st env (signal_at p n.a) → IsOutcome e → Known p rec st env (a_at p j) (Some e)
+event_known {p} rec st {env} {j = j} r h l {e = e} q i =
+    let k : IsKnown p rec st env (a_at p j) e = subst (λ (x : ℕ). IsKnown p rec st env x e) r.fields.a_is (record { low = rw (← h) l; same = q; number = i }) in
+    record { given = λ x g. subst (λ (y : ℕ). IsKnown p rec st env (a_at p j) y) (same_Some _ _ g) k }
 
 -- What the event of a case counted is small.
 pub few_seen : {p : Bytes} {index : List ℕ} (rec st : Bytes) {env : Env} {j : ℕ} {n : Node} → CaseAs p index (length st) env j n
-    → {x : Evaluated} → x ≡ eval_s rec st env (signal_at p n.a) → {e : Event} {u : Tally} → parts_of x ≡ Maybe e u → u.work < 4294967296
+    → {x : Evaluated} → x ≡ eval_s rec st env (signal_at p n.a) → {e : Option ℕ} {u : Tally} → parts_of x ≡ parts e u → u.work < 4294967296
 few_seen {p} rec st {env} {n = n} r q d =
     omega (arith, take_work _ d, ap work_of q, work_within _ (eval_s_within rec st env (signal_at p n.a)), seen_small (case_part r).ready)
+
+-- An event of a low kind that is evaluated counts a rule at least.
+rule_counts : (x : Evaluated) {m : Parts} → parts_of (rule x) ≡ Some m → 0 < m.count.work
+unfolding rule after one_rule ◌plus◌ parts_of
+rule_counts (Done v w) e = omega (arith, take_work (rule (Done v w)) e)
+rule_counts Stuck e = cc
+
+pub low_counts : {p : Bytes} {i : ℕ} (rec st : Bytes) (env : Env) → NodeOf is_signal p i → kind_at p i ≤ 3 → {x : Evaluated} → x ≡ eval_s rec st env (signal_at p i)
+    → {m : Parts} → parts_of x ≡ Some m → 0 < m.count.work
+low_counts {p} {i} rec st env w l {x} q {m} e = go (eqb (kind_at p i) 1) (eqb (kind_at p i) 3) refl refl
+  where
+    counts : (y : Evaluated) → eval_s rec st env (signal_at p i) ≡ rule y → 0 < m.count.work
+    counts y h = rule_counts y (sym (ap parts_of (q ∙ h)) ∙ e)
+
+    go : (a b : Bool) → eqb (kind_at p i) 1 ≡ a → eqb (kind_at p i) 3 ≡ b → 0 < m.count.work
+    go true b f g = counts _ (input_eval p i w rec st env (eqb-true _ _ f))
+    go false true f g = counts _ (ext_eval p i w rec st env (eqb-true _ _ g))
+    go false false f g = counts _ (time_eval p i w rec st env (time_alone p i w refl l (eqb-false _ _ f) (eqb-false _ _ g)))
 
 -- What an event counted is read back from its number.
 pub seen_back : (w : Tally) → w.work < 65536 → (seen_in (seen_of w) ≡ w) × (seen_of w % 4294967296 < 65536) × (seen_of w < 8589934592)
@@ -101,7 +118,7 @@ pub record IsQuiet (p rec st : Bytes) (env : Env) (j u : ℕ) : Type 0 where
   pub once : u < 8589934592
   pub follows : 0 < u → b_at p j ≡ no_next → ⊥
   pub idle : 0 < u → kind_at p (a_at p j) ≤ 3
-  pub absent : 0 < u → parts_of (eval_s rec st env (signal_at p (a_at p j))) ≡ Maybe Event.Quiet (seen_in u)
+  pub absent : 0 < u → parts_of (eval_s rec st env (signal_at p (a_at p j))) ≡ parts None (seen_in u)
 
 none_quiet : {p rec st : Bytes} {env : Env} {j u : ℕ} → u ≡ 0 → IsQuiet p rec st env j u
 none_quiet {u = u} e =
@@ -117,22 +134,26 @@ none_quiet {u = u} e =
     none h = omega (arith, h, e)
 
 module _ {p : Bytes} {index : List ℕ} (rec st : Bytes) {env : Env} {j : ℕ} {n : Node} (r : CaseAs p index (length st) env j n) where
-  by_parts : (b_at p j ≡ no_next → ⊥) → kind_at p (a_at p j) ≤ 3 → {u : ℕ} (a : Parts) → parts_of (eval_s rec st env (signal_at p (a_at p j))) ≡ a
+  by_parts : (b_at p j ≡ no_next → ⊥) → kind_at p (a_at p j) ≤ 3 → {u : ℕ} (a : Option Parts) → parts_of (eval_s rec st env (signal_at p (a_at p j))) ≡ a
       → u ≡ absent_work a → IsQuiet p rec st env j u
-  unfolding absent_work
-  by_parts d l (Maybe (Occurs v) w) e f = none_quiet f
-  by_parts d l {u} (Maybe Event.Quiet w) e f =
-      let s : parts_of (eval_s rec st env (signal_at p n.a)) ≡ Maybe Event.Quiet w = rw r.fields.a_is e in
-      let few : w.work < 65536 = omega (arith, take_work _ s, work_within _ (eval_s_within rec st env (signal_at p n.a)), seen_small (case_part r).ready) in
-      let back = seen_back w few in
-      record {
-        small = omega (arith, f, back.1);
-        once = omega (arith, f, back.2);
-        follows = λ _. d;
-        idle = λ _. l;
-        absent = λ _. rw (f, back.0) e;
-      }
-  by_parts d l Wrong e f = none_quiet f
+  unfolding absent_work absent_count
+  by_parts d l {u} (Some m) e f = go m.event refl f
+    where
+      go : (o : Option ℕ) → m.event ≡ o → u ≡ absent_count o m.count → IsQuiet p rec st env j u
+      go (Some v) g h = none_quiet h
+      go None g h =
+          let w = m.count in
+          let s : parts_of (eval_s rec st env (signal_at p n.a)) ≡ parts None w = rw r.fields.a_is (parts_with e g) in
+          let few : w.work < 65536 = omega (arith, take_work _ s, work_within _ (eval_s_within rec st env (signal_at p n.a)), seen_small (case_part r).ready) in
+          let back = seen_back w few in
+          record {
+            small = omega (arith, h, back.1);
+            once = omega (arith, h, back.2);
+            follows = λ _. d;
+            idle = λ _. l;
+            absent = λ _. rw (h, back.0) (parts_with e g);
+          }
+  by_parts d l None e f = none_quiet f
 
   by_tests : (b k : Bool) → eqb (b_at p j) no_next ≡ b → ltb 3 (kind_at p (a_at p j)) ≡ k → IsQuiet p rec st env j (quiet_work p rec st env j)
   by_tests true k e f = none_quiet (work_last p rec st env j (eqb-true _ _ e))

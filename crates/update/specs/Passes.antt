@@ -1,6 +1,6 @@
 -- The cases of an until that a loop passes: their events are absent, and to update them does nothing.
 -- Assumes nothing: these are definitions.
-use Rattle.std.specs.Prelude.{◌≡◌, false, ℕ, zero, suc, ◌+◌, ◌%◌, ◌≤◌, ◌<◌, eqb, ltb, leb, if◌then◌else◌}
+use Rattle.std.specs.Prelude.{◌≡◌, false, ℕ, zero, suc, ◌+◌, ◌%◌, ◌≤◌, ◌<◌, eqb, ltb, leb, if◌then◌else◌, Option, Some, None}
 use Rattle.rules.specs.Bytes.{Bytes}
 use Rattle.rules.specs.Layout.{kind_at, a_at, b_at, no_next}
 use Rattle.rules.specs.Tree.{signal_at}
@@ -9,11 +9,11 @@ use Rattle.rules.specs.Evaluate.{Env, eval_s}
 use Rattle.rules.specs.declared.Tally.{Tally}
 use Rattle.outcomes.specs.Combine.{parts_of}
 use Rattle.outcomes.specs.Outcome.{outcome_in, IsOutcome}
-use Rattle.outcomes.specs.declared.Event.TheVariants.{Occurs, Quiet}
 use Rattle.outcomes.specs.declared.Parts.{Parts}
-use Rattle.outcomes.specs.declared.Parts.TheVariants.{Maybe, Wrong}
 use Rattle.moves.specs.Outcomes.{count_in}
 use Rattle.update.specs.declared.Passed.{Passed}
+use Rattle.update.specs.declared.Looked.{Looked}
+use Rattle.update.specs.declared.Looked.TheVariants.{Quiet, Stands}
 
 -- What events counted, as one number: their work, and 4,294,967,296 more for each in which a number wrapped.
 unfoldable pub seen_of : Tally → ℕ
@@ -33,10 +33,13 @@ unfoldable pub quietly : ℕ → ℕ → Updated → Updated
 quietly seen kept r = afterᵘ (seen_in seen) (keeping kept r)
 
 -- What an absent event counted; else 0.
-unfoldable pub absent_work : Parts → ℕ
-absent_work (Maybe (Occurs v) u) = 0
-absent_work (Maybe Quiet u) = seen_of u
-absent_work Wrong = 0
+unfoldable pub absent_count : Option ℕ → Tally → ℕ
+absent_count (Some v) u = 0
+absent_count None u = seen_of u
+
+unfoldable pub absent_work : Option Parts → ℕ
+absent_work (Some m) = absent_count m.event m.count
+absent_work None = 0
 
 -- What the event of case j counted, if the case is quiet: a case follows, and the event is an input, time or ext and absent; else 0.
 unfoldable pub quiet_work : Bytes → Bytes → Bytes → Env → ℕ → ℕ
@@ -61,8 +64,26 @@ pub record Fits (s : Passed) (o : ℕ) : Type 0 where
   pub still : 0 < o → o < 1048576 → s.seen % 4294967296 + (s.kept + count_in o) < 524288
   pub jumps : 1048576 ≤ o → s.seen % 4294967296 + count_in o < 524288
 
--- A number e above 0 is the outcome of signal i, an input, time or ext; 0 says nothing.
-pub record Known (p rec st : Bytes) (env : Env) (i e : ℕ) : Type 0 where
-  pub low : 0 < e → kind_at p i ≤ 3
-  pub same : 0 < e → outcome_in e ≡ eval_s rec st env (signal_at p i)
-  pub number : 0 < e → IsOutcome e
+-- What a case that was looked at counted, if it is quiet, else 0; and its event's outcome, if it is not quiet and the event was evaluated.
+abbrev pub looked_work : Looked → ℕ
+looked_work (Quiet u) = u
+looked_work (Stands e) = 0
+
+abbrev pub looked_event : Looked → Option ℕ
+looked_event (Quiet u) = None
+looked_event (Stands e) = e
+
+-- A quiet case has counted something.
+abbrev pub Counts : Looked → Type 0
+Counts (Quiet u) = 0 < u
+Counts (Stands e) = Unit {0}
+
+-- A number is the outcome of signal i, an input, time or ext.
+pub record IsKnown (p rec st : Bytes) (env : Env) (i e : ℕ) : Type 0 where
+  pub low : kind_at p i ≤ 3
+  pub same : outcome_in e ≡ eval_s rec st env (signal_at p i)
+  pub number : IsOutcome e
+
+-- What is known of it, if anything: where nothing is, nothing is said.
+pub record Known (p rec st : Bytes) (env : Env) (i : ℕ) (o : Option ℕ) : Type 0 where
+  pub given : (e : ℕ) → o ≡ Some e → IsKnown p rec st env i e

@@ -18,7 +18,7 @@ ghost use Rattle.noted.specs.Noted.{memory_in, Noted, Notes};
 ghost use Rattle.evaluate.specs.Ready.{ReadyS};
 ghost use Rattle.moves.specs.Outcomes.{count_in, moved_in, left_in, walked, walked_on, next_cases};
 ghost use Rattle.moves.specs.Parts.{in_switch};
-ghost use Rattle.update.specs.Passes.{Fits, seen_of, seen_in, quietly, quiet_work, passed_from, Known};
+ghost use Rattle.update.specs.Passes.{Fits, seen_of, seen_in, quietly, quiet_work, passed_from, looked_work, looked_event, Counts, Known};
 ghost use Rattle.moves.specs.Lent.{Ready, ReadyAs, Placed, ReadyC, CaseAs};
 
 use branches::has_branch;
@@ -26,10 +26,9 @@ use cells::{kind_by, node_by, own_cell};
 use evaluate::{branch_in, evaluated, outright};
 use leaving::{enters, switches};
 use moves::{
-    Calm, after, caught, hold, jump, later, ruled, settled, stay, stayed, target_in, together,
-    value_in,
+    after, caught, hold, jump, later, ruled, settled, stay, stayed, target_in, together, value_in,
 };
-use outcomes::{Event, Parts, Shown, apart, exactly, show};
+use outcomes::{apart, exactly, show};
 use rules::{Node, Tally};
 use table::LAST;
 
@@ -65,19 +64,18 @@ pub struct Passed {
     pub kept: u64,
 }
 
-// A case that was looked at: what its event counted, if the case is quiet, else 0; and the event's outcome, if it was evaluated and the case is
-// not quiet, else 0.
+// A case that was looked at: a quiet one, with what its event counted, or one that is not, with the event's outcome, if it was evaluated.
 #[derive(Clone, Copy)]
-pub struct Looked {
-    pub seen: u64,
-    pub event: u64,
+pub enum Looked {
+    Quiet(u64),
+    Stands(Option<u64>),
 }
 
-// Where a loop has brought a walk, and the outcome of the event of the case where it stands, if it was evaluated, else 0.
+// Where a loop has brought a walk, and the outcome of the event of the case where it stands, if it was evaluated.
 #[derive(Clone, Copy)]
 pub struct Reached {
     pub passed: Passed,
-    pub event: u64,
+    pub event: Option<u64>,
 }
 
 // What an event counted, as one number: its work, and 4,294,967,296 more where a number wrapped.
@@ -112,29 +110,27 @@ fn quiet(
     n: Node,
 ) -> Looked
     requires { CaseAs p.now.now index.now (length st.now) env.old j n }
-    ensures { (result.seen ≡ quiet_work p.now.now rec.now.now st.now env.old j) × (env.new ≡ env.old) × Known p.now.now rec.now.now st.now env.old (a_at p.now.now j) result.event }
+    ensures { (looked_work result ≡ quiet_work p.now.now rec.now.now st.now env.old j) × (env.new ≡ env.old) × Known p.now.now rec.now.now st.now env.old (a_at p.now.now j) (looked_event result) × Counts result }
 {
     if n.b == LAST {
-        return Looked { seen: 0, event: 0 };
+        return Looked::Stands(None);
     }
     let kind = kind_by(*p, index, n.a);
     if kind > 3 {
-        return Looked { seen: 0, event: 0 };
+        return Looked::Stands(None);
     }
     let e = outright(p, index, rec, env, n.a);
-    let Parts::Maybe(event, u) = apart(e) else {
-        return Looked { seen: 0, event: e };
+    let Some(parts) = apart(e) else {
+        return Looked::Stands(Some(e));
     };
-    let Event::Occurs(_) = event else {
-        return Looked {
-            seen: seen_of(u),
-            event: 0,
-        };
-    };
-    Looked { seen: 0, event: e }
+    match parts.event {
+        None => Looked::Quiet(seen_of(parts.count)),
+        Some(_) => Looked::Stands(Some(e)),
+    }
 }
 
-// The cases from case j on that are quiet so are passed in a loop, each without a level of the walk's recursion.
+// The cases from case j on that are quiet so are passed in a loop, each without a level of the walk's recursion. (It goes from case to case by the
+// case's own field and counts no index, so a `for` would be no plainer.)
 fn pass(
     p: &&[u8],
     index: &[u16; 10080],
@@ -146,31 +142,21 @@ fn pass(
     requires { ReadyC p.now.now index.now (length st.now) env.old j }
     ensures { (result.passed ≡ passed_from p.now.now rec.now.now st.now env.old most_nodes j) × (env.new ≡ env.old) × Known p.now.now rec.now.now st.now env.old (a_at p.now.now result.passed.at) result.event }
 {
-    let mut at = j;
-    let mut seen: u64 = 0;
-    let mut kept: u64 = 0;
-    let mut event: u64 = 0;
-    let mut on = true;
-    while on {
-        let n = node_by(*p, index, at);
-        let next = n.b;
-        let s = quiet(p, index, rec, st, env, at, n);
-        let u = s.seen;
-        event = s.event;
-        on = u > 0;
-        if on {
-            seen += u;
-            kept += 1;
-            at = next;
+    let mut passed = Passed {
+        at: j,
+        seen: 0,
+        kept: 0,
+    };
+    loop {
+        let n = node_by(*p, index, passed.at);
+        match quiet(p, index, rec, st, env, passed.at, n) {
+            Looked::Quiet(u) => {
+                passed.seen += u;
+                passed.kept += 1;
+                passed.at = n.b;
+            }
+            Looked::Stands(event) => return Reached { passed, event },
         }
-    }
-    Reached {
-        passed: Passed {
-            at: at,
-            seen: seen,
-            kept: kept,
-        },
-        event: event,
     }
 }
 
@@ -182,16 +168,16 @@ fn event_of(
     st: &[u8],
     env: &mut [u64; 1008],
     i: usize,
-    known: u64,
+    known: Option<u64>,
     memo: &mut [u64; 1008],
 ) -> u64
     requires { ReadyS p.now.now index.now st.now env.old i × Noted p.now.now memo.old × Known p.now.now rec.now.now st.now env.old i known }
     ensures { (outcome_in result ≡ eval_s rec.now.now st.now env.old (signal_at p.now.now i)) × IsOutcome result × (env.new ≡ env.old) × Notes p.now.now memo.old memo.new (fill_s rec.now.now st.now env.old (signal_at p.now.now i)) }
 {
-    if known > 0 {
-        return known;
+    match known {
+        Some(outcome) => outcome,
+        None => evaluated(p, index, rec, st, env, i, memo),
     }
-    evaluated(p, index, rec, st, env, i, memo)
 }
 
 // The walk's outcome with what was passed before it: the passed events' updates, a rule each, count only where none was present.
@@ -208,6 +194,8 @@ fn added(s: Passed, o: u64) -> u64
     }
     after(seen, o)
 }
+
+// (What is lent stands as parameters of their own: crate evaluate says what a struct costs.)
 
 // Signal i goes one step on; input, time and ext, which do nothing, without a call.
 #[cycle(goes_in_switch_inside_update_delay_update_group_update_let_update_s_update_switch_update_until_walk_walk_case_walk_on)]
@@ -304,15 +292,15 @@ fn update_delay(
     ensures { (left_in result st.new memo.new ≡ recall_s rec.now.now env.old (signal_at p.now.now i) st.old (memory_in memo.old)) × (env.new ≡ env.old) × Noted p.now.now memo.new }
 {
     let e = evaluated(p, index, rec, st, env, n.a, memo);
-    let Shown::Value(v, u) = show(e) else {
+    let Some(shown) = show(e) else {
         return 0;
     };
     let r = goes(p, index, rec, st, env, n.a, memo);
-    let Calm::Still(w) = settled(r) else {
+    let Some(w) = settled(r) else {
         return 0;
     };
-    hold(index, st, i, v);
-    stayed(u, w)
+    hold(index, st, i, shown.value);
+    stayed(shown.count, w)
 }
 
 // A let takes what the evaluation before noted of its definition, binds, updates the definition, then the body.
@@ -331,14 +319,15 @@ fn update_let(
     ensures { (left_in result st.new memo.new ≡ recall_s rec.now.now env.old (signal_at p.now.now i) st.old (memory_in memo.old)) × (env.new ≡ env.old) × Noted p.now.now memo.new }
 {
     let e = memo[i];
-    let Shown::Value(v, u) = show(e) else {
+    let Some(shown) = show(e) else {
         return 0;
     };
+    let v = shown.value;
     let d = inside(p, index, rec, st, env, i, v, n.a, memo);
-    let Calm::Still(w) = settled(d) else {
+    let Some(w) = settled(d) else {
         return 0;
     };
-    let t = together(u, w);
+    let t = together(shown.count, w);
     let b = inside(p, index, rec, st, env, i, v, n.b, memo);
     after(t, b)
 }
@@ -359,19 +348,19 @@ fn update_switch(
     ensures { (left_in result st.new memo.new ≡ recall_s rec.now.now env.old (signal_at p.now.now i) st.old (memory_in memo.old)) × (env.new ≡ env.old) × Noted p.now.now memo.new }
 {
     let e = evaluated(p, index, rec, st, env, n.b, memo);
-    let Parts::Maybe(event, u) = apart(e) else {
+    let Some(parts) = apart(e) else {
         return 0;
     };
     let r = goes(p, index, rec, st, env, n.b, memo);
-    let Calm::Still(w) = settled(r) else {
+    let Some(w) = settled(r) else {
         return 0;
     };
-    let Event::Occurs(v) = event else {
+    let Some(v) = parts.event else {
         let q = in_switch(p, index, rec, st, env, i, n, memo);
-        return later(u, w, stay(q));
+        return later(parts.count, w, stay(q));
     };
     switches(p, index, st, i, n, v);
-    stayed(u, w)
+    stayed(parts.count, w)
 }
 
 // The current part of a switch: first until it has switched, then second, its variable bound.
@@ -447,7 +436,7 @@ fn update_until(
     ensures { (left_in result st.new memo.new ≡ recall_s rec.now.now env.old (signal_at p.now.now i) st.old (memory_in memo.old)) × (env.new ≡ env.old) × Noted p.now.now memo.new }
 {
     let o = walk(p, index, rec, st, env, n.b, memo);
-    let Calm::Still(u) = settled(o) else {
+    let Some(u) = settled(o) else {
         return ruled(o);
     };
     let r = goes(p, index, rec, st, env, n.a, memo);
@@ -484,7 +473,7 @@ fn walk_case(
     st: &mut [u8],
     env: &mut [u64; 1008],
     j: usize,
-    known: u64,
+    known: Option<u64>,
     memo: &mut [u64; 1008],
 ) -> u64
     requires { ReadyC p.now.now index.now (length st.old) env.old j × Noted p.now.now memo.old × Known p.now.now rec.now.now st.old env.old (a_at p.now.now j) known }
@@ -492,14 +481,14 @@ fn walk_case(
 {
     let n = node_by(*p, index, j);
     let e = event_of(p, index, rec, st, env, n.a, known, memo);
-    let Parts::Maybe(event, u) = apart(e) else {
+    let Some(parts) = apart(e) else {
         return 0;
     };
-    let Event::Occurs(v) = event else {
+    let Some(v) = parts.event else {
         let rest = walk_on(p, index, rec, st, env, j, n, memo);
-        return after(u, rest);
+        return after(parts.count, rest);
     };
-    jump(n.c, v, u)
+    jump(n.c, v, parts.count)
 }
 
 // The cases after case j, whose event is absent; where none is present, the event is updated on the way back.
@@ -522,7 +511,7 @@ fn walk_on(
         return stay(last);
     }
     let rest = walk(p, index, rec, st, env, n.b, memo);
-    let Calm::Still(w) = settled(rest) else {
+    let Some(w) = settled(rest) else {
         return rest;
     };
     let r = goes(p, index, rec, st, env, n.a, memo);

@@ -4,7 +4,6 @@
 ghost use Rattle.std.specs.Prelude.{◌≡◌, ◌+◌, ◌*◌, ◌<◌};
 ghost use Rattle.rules.specs.Values.{is_plain, is_maybe, value_fits, value_from, packed, unpacked, type_in, present_in, word_in};
 
-use kinds::{both, either};
 use rules::{BOOL, INT, MAYBE, UNIT, Value};
 
 // Maybe unit, maybe bool, maybe int.
@@ -18,14 +17,14 @@ pub const MAYBE_INT: u8 = MAYBE + INT;
 pub fn is_plain(t: u8) -> bool
     ensures { result ≡ is_plain t }
 {
-    both(UNIT <= t, t <= INT)
+    matches!(t, UNIT..=INT)
 }
 
 // Types 5-7.
 pub fn is_maybe(t: u8) -> bool
     ensures { result ≡ is_maybe t }
 {
-    both(MAYBE_UNIT <= t, t <= MAYBE_INT)
+    matches!(t, MAYBE_UNIT..=MAYBE_INT)
 }
 
 // A present byte and a word are those of a value of type t. (Most values are ints, of which only the present byte is asked.)
@@ -35,25 +34,25 @@ pub fn value_fits(t: u8, present: u64, word: u64) -> bool
     if t == INT {
         return present == 1;
     }
-    let there = either(present == 1, both(present == 0, is_maybe(t)));
-    let absent = either(word == 0, present == 1);
-    let unit = either(word == 0, !either(t == UNIT, t == MAYBE_UNIT));
-    let truth = either(word <= 1, !either(t == BOOL, t == MAYBE_BOOL));
-    both(both(both(there, absent), unit), truth)
+    let there = (present == 1) | ((present == 0) & is_maybe(t));
+    let absent = (word == 0) | (present == 1);
+    let unit = (word == 0) | !((t == UNIT) | (t == MAYBE_UNIT));
+    let truth = (word <= 1) | !((t == BOOL) | (t == MAYBE_BOOL));
+    there & absent & unit & truth
 }
 
-// A byte as a 64-bit number.
+// A byte as a 64-bit number. (Crate moves calls this and the next for the bound.)
 pub fn wide(x: u8) -> u64
     ensures { (result ≡ x) × (result < 256) }
 {
-    x as u64
+    u64::from(x)
 }
 
 // A word as a 64-bit number.
 pub fn wide_word(x: u32) -> u64
     ensures { (result ≡ x) × (result < 4294967296) }
 {
-    x as u64
+    u64::from(x)
 }
 
 // A value as one number: its 8 bytes.
@@ -84,13 +83,7 @@ pub fn value_from(t: u8, present: usize, word: u32) -> Value
 pub fn pack_from(t: u8, present: usize, word: u32) -> u64
     ensures { result ≡ packed (value_from t present word) }
 {
-    if is_plain(t) {
-        return pack(Value::Plain(t, word));
-    }
-    if present == 0 {
-        return pack(Value::Absent(t));
-    }
-    pack(Value::Present(t, word))
+    pack(value_from(t, present, word))
 }
 
 // The type byte of a number of 8 bytes.

@@ -1,7 +1,9 @@
 -- The verdict on a program in three parts, as the code finds it.
 -- Assumes nothing: these are definitions.
-use Rattle.std.specs.Prelude.{◌≡◌}
+use Rattle.std.specs.Prelude.{Result, Ok, Err}
+use Rattle.rules.specs.Verdicts.{Verdict}
 use Rattle.rules.specs.Bytes.{Bytes, first}
+use Rattle.rules.specs.declared.Refusal.{Refusal}
 use Rattle.rules.specs.Layout.{blocks, records, nodes}
 use Rattle.rules.specs.Format.{sum_wrong, number_wrong, record_wrong}
 use Rattle.rules.specs.Shape.{shape_wrong}
@@ -11,8 +13,6 @@ use Rattle.rules.specs.Typing.{type_s, type_fault}
 use Rattle.rules.specs.Ready.{ready_fault}
 use Rattle.rules.specs.Calls.{◌otherwise◌, refuse_at}
 use Rattle.rules.specs.declared.Refusal.TheVariants.{CheckSum, BlockNumber, RecordFault, ShapeFault, ScopeFault, TypeFault, NotReady}
-use Rattle.rules.specs.declared.Verdict.{Verdict}
-use Rattle.rules.specs.declared.Verdict.TheVariants.{Fine}
 use Rattle.verdict.specs.declared.Judged.{Judged}
 
 -- Codes 2-4.
@@ -33,8 +33,7 @@ tree_verdict p =
 unfoldable pub shape_verdict : Bytes → Verdict
 shape_verdict p = refuse_at ShapeFault (first (shape_wrong p) (nodes p)) otherwise tree_verdict p
 
--- A verdict, and where it is that there is no fault, the number of nodes and the root's type.
-pub record Judges (p : Bytes) (v : Verdict) (j : Judged) : Type 0 where
-  pub verdict_is : j.verdict ≡ v
-  pub count_is : v ≡ Fine → j.count ≡ nodes p
-  pub type_is : v ≡ Fine → j.ty ≡ type_s (root p)
+-- A verdict, with the number of nodes and the root's type where it finds no fault.
+unfoldable pub judged : Bytes → Verdict → Result Judged Refusal
+judged p (Ok _) = Ok (record { count = nodes p; ty = type_s (root p) })
+judged p (Err r) = Err r

@@ -1,5 +1,8 @@
 -- What an accepted program gives the calls, and the calls by what was found.
 -- Assumes nothing.
+use Rattle.std.specs.Prelude.{Ok, Err}
+use Rattle.rules.specs.declared.Checked.{Checked}
+use Rattle.rules.specs.Verdicts.{CheckAnswer, RunAnswer, Verdict, accepted_with, refused_after}
 use mathlib.Core.Path.{◌≡◌, refl}
 use mathlib.Core.Bool.{Bool, true, not}
 use Prim.Native.Nat.{ℕ, ◌-◌, ◌*◌, ◌/◌, ◌%◌, ◌≤◌, ◌<◌}
@@ -17,11 +20,6 @@ use Rattle.rules.specs.Calls.{◌otherwise◌, refuse_if, state_verdict, program
 use Rattle.rules.specs.WellFormed.{well_formed}
 use Rattle.rules.specs.declared.Refusal.{Refusal}
 use Rattle.rules.specs.declared.Refusal.TheVariants.{StateFault, RecordsLength, OutputLength}
-use Rattle.rules.specs.declared.Verdict.{Verdict}
-use Rattle.rules.specs.declared.Verdict.TheVariants.{Fine, Refuse}
-use Rattle.rules.specs.declared.Checked.{Checked}
-use Rattle.rules.specs.declared.Started.{Started}
-use Rattle.rules.specs.declared.Ran.{Ran}
 use Rattle.rules.proofs.Static.{and_both}
 use Rattle.rules.proofs.Kids.{not_not}
 use Rattle.rules.proofs.Verdicts.{both_fine, if_fine}
@@ -31,48 +29,57 @@ use Rattle.promises.proofs.FromTable.{seated}
 use Rattle.promises.proofs.CallLaws.{state_well}
 use Rattle.watch.specs.Lent.{lent_rest, run_fits}
 
--- codes 9, 15, 10 and 11, from the answers of the three tests
-pub lent_said : (p st recs out : Bytes) (fit : Bool) {a b d bd r : Verdict} → a ≡ state_verdict p st → b ≡ refuse_if (not fit) RecordsLength
-    → d ≡ refuse_if (not (eqb (length out) (8 * (length recs / 40)))) OutputLength → bd ≡ (b otherwise d) → r ≡ (a otherwise bd) → r ≡ lent_rest p st recs out fit
-unfolding lent_rest
-lent_said p st recs out fit ea eb ed ebd er = cc
+-- codes 9, 15, 10 and 11, by the first of the three that finds something
+pub state_stops : (p st recs out : Bytes) (fit : Bool) {r : Refusal} → state_verdict p st ≡ Err r → Err r ≡ lent_rest p st recs out fit
+unfolding lent_rest ◌otherwise◌
+state_stops p st recs out fit e = rw e
 
--- what an accepted program is answered, from its numbers
-pub numbers_said : (p : Bytes) {count held most type : ℕ} {r : Checked} → count ≡ nodes p → held ≡ cells p → most ≡ bound p → type ≡ type_s (root p)
-    → r ≡ Checked.Accepted count held most type → r ≡ Checked.Accepted (nodes p) (cells p) (bound p) (type_s (root p))
-numbers_said p ec eh em et er = cc
+pub records_stop : (p st recs out : Bytes) (fit : Bool) {r : Refusal} → state_verdict p st ≡ Ok tt → refuse_if (not fit) RecordsLength ≡ Err r
+    → Err r ≡ lent_rest p st recs out fit
+unfolding lent_rest ◌otherwise◌
+records_stop p st recs out fit e f = rw (e, f)
+
+pub output_said : (p st recs out : Bytes) (fit : Bool) {r : Verdict} → state_verdict p st ≡ Ok tt → refuse_if (not fit) RecordsLength ≡ Ok tt
+    → r ≡ refuse_if (not (eqb (length out) (8 * (length recs / 40)))) OutputLength → r ≡ lent_rest p st recs out fit
+unfolding lent_rest ◌otherwise◌
+output_said p st recs out fit e f g = rw (e, f, g)
+
+-- what an accepted program is answered, from its parts
+pub parts_said : (p : Bytes) (found : Checked) → found.nodes ≡ nodes p → found.cells ≡ cells p → found.bound ≡ bound p → found.root ≡ type_s (root p)
+    → ◌≡◌ {A = CheckAnswer} (Ok found) (accepted_with (nodes p) (cells p) (bound p) (type_s (root p)))
+parts_said p found en ec eb et = λ i. Ok (record { nodes = en i; cells = ec i; bound = eb i; root = et i })
 
 -- no fault first
-pub fine_first : (v : Verdict) → (Fine otherwise v) ≡ v
+pub fine_first : (v : Verdict) → ((Ok tt) otherwise v) ≡ v
 unfolding ◌otherwise◌
 fine_first v = refl
 
 -- check, by the verdict
-pub check_refused : (p : Bytes) (r : Refusal) → program_verdict p ≡ Refuse r → check_call p ≡ Checked.Refused r
+pub check_refused : (p : Bytes) (r : Refusal) → program_verdict p ≡ Err r → check_call p ≡ Err r
 unfolding check_call check_answer
 check_refused p r e = rw e
 
-pub check_accepted : (p : Bytes) → program_verdict p ≡ Fine → check_call p ≡ Checked.Accepted (nodes p) (cells p) (bound p) (type_s (root p))
+pub check_accepted : (p : Bytes) → program_verdict p ≡ Ok tt → check_call p ≡ accepted_with (nodes p) (cells p) (bound p) (type_s (root p))
 unfolding check_call check_answer
 check_accepted p e = rw e
 
 -- start, by the verdict
-pub start_refused : (p st : Bytes) (r : Refusal) → program_verdict p ≡ Refuse r → start_call p st ≡ record { answer = Started.Refused r; state = st }
+pub start_refused : (p st : Bytes) (r : Refusal) → program_verdict p ≡ Err r → start_call p st ≡ record { answer = Err r; state = st }
 unfolding start_call start_outcome ◌otherwise◌
 start_refused p st r e = rw e
 
-pub start_accepted : (p st : Bytes) → program_verdict p ≡ Fine
+pub start_accepted : (p st : Bytes) → program_verdict p ≡ Ok tt
     → start_call p st ≡ start_outcome p st (refuse_if (not (eqb (length st) (state_length p))) StateFault)
 unfolding start_call ◌otherwise◌
 start_accepted p st e = rw e
 
 -- run, by the verdict
-pub run_refused : (p st recs out : Bytes) (r : Refusal) → program_verdict p ≡ Refuse r
-    → run_call p st recs out ≡ record { answer = Ran.Refused r 0 no_step; state = st; output = out }
+pub run_refused : (p st recs out : Bytes) (r : Refusal) → program_verdict p ≡ Err r
+    → run_call p st recs out ≡ record { answer = refused_after r 0 no_step; state = st; output = out }
 unfolding run_call run_outcome lent_verdict ◌otherwise◌
 run_refused p st recs out r e = rw e
 
-pub run_accepted : (p st recs out : Bytes) → program_verdict p ≡ Fine
+pub run_accepted : (p st recs out : Bytes) → program_verdict p ≡ Ok tt
     → run_call p st recs out ≡ run_outcome p st recs out (lent_rest p st recs out (run_fits recs))
 unfolding run_call lent_verdict lent_rest run_fits
 run_accepted p st recs out e = rw (e, fine_first)
@@ -87,7 +94,7 @@ pub record Fits (p st recs out : Bytes) (fit : Bool) : Type 0 where
   pub fitting : fit ≡ true
   pub room : length out ≡ 8 * (length recs / 40)
 
-pub lent_fine : (p st recs out : Bytes) (fit : Bool) → lent_rest p st recs out fit ≡ Fine → Fits p st recs out fit
+pub lent_fine : (p st recs out : Bytes) (fit : Bool) → lent_rest p st recs out fit ≡ Ok tt → Fits p st recs out fit
 unfolding lent_rest
 lent_fine p st recs out fit e =
     let a = both_fine _ _ e in
@@ -107,15 +114,15 @@ fits_most recs e =
     omega arith
 
 -- what a run leaves where one of them found something
-pub run_lent : (p st recs out : Bytes) (v : Verdict) {r : Refusal} → v ≡ Refuse r → Leaves (run_outcome p st recs out v) (Ran.Refused r 0 no_step) st out
+pub run_lent : (p st recs out : Bytes) (v : Verdict) {r : Refusal} → v ≡ Err r → Leaves (run_outcome p st recs out v) (refused_after r 0 no_step) st out
 unfolding run_outcome
 run_lent p st recs out v e = rw e (record { answer_is = refl; state_is = refl; output_is = refl })
 
-pub run_fits_lem : (p st recs out : Bytes) (v : Verdict) → v ≡ Fine → run_outcome p st recs out v ≡ run_from p recs (length recs / 40) 0 0 no_step st out
+pub run_fits_lem : (p st recs out : Bytes) (v : Verdict) → v ≡ Ok tt → run_outcome p st recs out v ≡ run_from p recs (length recs / 40) 0 0 no_step st out
 unfolding run_outcome
 run_fits_lem p st recs out v e = rw e
 
 -- and what it leaves where none of them did
-pub run_went : (p st recs out : Bytes) (v : Verdict) → v ≡ Fine → {r : Ran} {st₁ out₁ : Bytes}
+pub run_went : (p st recs out : Bytes) (v : Verdict) → v ≡ Ok tt → {r : RunAnswer} {st₁ out₁ : Bytes}
     → Leaves (run_from p recs (length recs / 40) 0 0 no_step st out) r st₁ out₁ → Leaves (run_outcome p st recs out v) r st₁ out₁
 run_went p st recs out v e l = rw (run_fits_lem p st recs out v e) l

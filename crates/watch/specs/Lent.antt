@@ -1,11 +1,11 @@
 -- Codes 9, 15, 10 and 11, of a call on an accepted program.
 -- Assumes nothing: these are definitions.
 use Rattle.std.specs.Prelude.{◌*◌, ◌/◌, ◌%◌, Bool, not, length, eqb, leb}
+use Rattle.rules.specs.Verdicts.{Verdict}
 use Rattle.rules.specs.Bytes.{Bytes, ◌and◌}
 use Rattle.rules.specs.Layout.{input_length}
 use Rattle.rules.specs.Calls.{◌otherwise◌, refuse_if, state_verdict}
 use Rattle.rules.specs.declared.Refusal.TheVariants.{RecordsLength, OutputLength}
-use Rattle.rules.specs.declared.Verdict.{Verdict}
 
 -- The state, then the records' length, then the output's.
 unfoldable pub lent_rest : Bytes → Bytes → Bytes → Bytes → Bool → Verdict

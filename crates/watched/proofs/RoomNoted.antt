@@ -15,8 +15,7 @@ use Rattle.rules.specs.Layout.{most_nodes, held, is_clear, branch_in}
 use Rattle.rules.specs.Tree.{Signal, input, time, ext, delay, let_signal, switch, group, until, Branches, no_branch, branch, root}
 use Rattle.rules.specs.Evaluate.{Env, unbound, bind, eval_s}
 use Rattle.rules.specs.declared.Value.{Value}
-use Rattle.rules.specs.declared.Evaluated.{Evaluated}
-use Rattle.rules.specs.declared.Evaluated.TheVariants.{Done, Stuck}
+use Rattle.rules.specs.Evaluated.{Evaluated, Done, Stuck}
 use Rattle.watched.specs.Gave.{given, own, once, gave_s, gave_b}
 use Rattle.watched.specs.Note.{put, keep, onceᵇ, note_s, note_b}
 use Rattle.watched.specs.Watch.{shown}

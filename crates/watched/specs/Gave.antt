@@ -8,8 +8,7 @@ use Rattle.rules.specs.Layout.{held, is_clear, branch_in}
 use Rattle.rules.specs.Tree.{Signal, input, time, ext, delay, let_signal, switch, group, until, Branches, no_branch, branch}
 use Rattle.rules.specs.Evaluate.{Env, bind, eval_s}
 use Rattle.rules.specs.declared.Value.{Value}
-use Rattle.rules.specs.declared.Evaluated.{Evaluated}
-use Rattle.rules.specs.declared.Evaluated.TheVariants.{Done, Stuck}
+use Rattle.rules.specs.Evaluated.{Evaluated, Done, Stuck}
 
 -- A value that is given, over what was noted before.
 unfoldable pub given : Evaluated → ℕ → ℕ

@@ -1,6 +1,7 @@
 -- The watched run: the plain run, and a second room with the values that the listed nodes gave.
 -- Assumes nothing: these are definitions.
-use Rattle.std.specs.Prelude.{ℕ, zero, suc, ◌+◌, ◌-◌, ◌*◌, ◌/◌, ◌%◌, List, [], ◌∷◌, ◌++◌, Bool, true, false, not, length, get_or, eqb, ltb, leb, if◌then◌else◌}
+use Rattle.std.specs.Prelude.{ℕ, zero, suc, ◌+◌, ◌-◌, ◌*◌, ◌/◌, ◌%◌, List, [], ◌∷◌, ◌++◌, Bool, true, false, not, length, get_or, eqb, ltb, leb, if◌then◌else◌, Result, Ok, Err, Option, Some, None}
+use Rattle.rules.specs.Verdicts.{RunAnswer, Verdict}
 use Rattle.rules.specs.Bytes.{Bytes, bytes_of, write_at, first, ◌and◌, ◌or◌}
 use Rattle.rules.specs.Layout.{most_nodes, nodes, kind_at, input_length, input_at}
 use Rattle.rules.specs.Kinds.{is_signal}
@@ -8,14 +9,10 @@ use Rattle.rules.specs.Tree.{root}
 use Rattle.rules.specs.Evaluate.{unbound}
 use Rattle.rules.specs.Update.{Stepped, Made, NotMade, step_of}
 use Rattle.rules.specs.Calls.{◌otherwise◌, refuse_if, program_verdict, state_verdict, record_verdict, RunOutcome, run_outcome}
-use Rattle.rules.specs.declared.Place.{Place}
-use Rattle.rules.specs.declared.Place.TheVariants.{At, Nowhere}
 use Rattle.rules.specs.declared.Refusal.{Refusal}
 use Rattle.rules.specs.declared.Refusal.TheVariants.{RecordsLength, OutputLength}
-use Rattle.rules.specs.declared.Verdict.{Verdict}
-use Rattle.rules.specs.declared.Verdict.TheVariants.{Fine, Refuse}
-use Rattle.watched.specs.declared.Watched.{Watched}
-use Rattle.watched.specs.declared.Watched.TheVariants.{AsRun, ListLength, ListEntry}
+use Rattle.watched.specs.declared.ListFault.{ListFault}
+use Rattle.watched.specs.declared.ListFault.TheVariants.{ListLength, ListEntry}
 use Rattle.watched.specs.Gave.{gave_s}
 
 -- A list of node numbers.
@@ -32,7 +29,7 @@ entry_off p l j =
     not (ltb (get_or l j 0) (nodes p) and is_signal (kind_at p (get_or l j 0)))
     or (not (eqb j 0) and not (ltb (get_or l (j - 1) 0) (get_or l j 0)))
 
-unfoldable pub list_fault : Bytes → List16 → Place
+unfoldable pub list_fault : Bytes → List16 → Option ℕ
 list_fault p l = first (entry_off p l) (length l)
 
 -- For each step it writes, in list order, the value that the node gave while the root was evaluated, or 8 zero bytes where the evaluation did not
@@ -47,8 +44,8 @@ unfoldable pub shown_from : Bytes → Bytes → List16 → ℕ → ℕ → Bytes
 shown_from p recs l zero done st room = room
 shown_from p recs l (suc left) done st room =
     elim (record_verdict done st (input_at recs done)) [
-      | Refuse r ↦ room
-      | Fine ↦
+      | Err r ↦ room
+      | Ok _ ↦
           elim (step_of p (input_at recs done) st) [
             | Made v st₁ w ↦
                 shown_from p recs l left (suc done) st₁ (write_at room (8 * length l * done) (shown p (input_at recs done) st l))
@@ -71,37 +68,37 @@ watch_lent p st recs l out room =
     otherwise refuse_if (not (rooms_fit recs l out room)) OutputLength
 
 unfoldable pub watch_room : Bytes → Bytes → Bytes → List16 → Bytes → Verdict → Bytes
-watch_room p st recs l room Fine = shown_from p recs l (length recs / input_length) 0 st room
-watch_room p st recs l room (Refuse r) = room
+watch_room p st recs l room (Ok _) = shown_from p recs l (length recs / input_length) 0 st room
+watch_room p st recs l room (Err r) = room
 
 -- What a watched run answers and leaves.
 pub record WatchOutcome : Type 0 where
-  pub answer : Watched
+  pub answer : Result RunAnswer ListFault
   pub state : Bytes
   pub output : Bytes
   pub room : Bytes
 
 -- A plain run's, with a second room.
 unfoldable pub as_run : RunOutcome → Bytes → WatchOutcome
-as_run o room = record { answer = AsRun o.answer; state = o.state; output = o.output; room = room }
+as_run o room = record { answer = Ok o.answer; state = o.state; output = o.output; room = room }
 
 -- Refused for its list: all lent memory is as before.
-unfoldable pub off_list : Watched → Bytes → Bytes → Bytes → WatchOutcome
+unfoldable pub off_list : Result RunAnswer ListFault → Bytes → Bytes → Bytes → WatchOutcome
 off_list a st out room = record { answer = a; state = st; output = out; room = room }
 
 -- 17 and 18 both after 8 and before 9.
-unfoldable pub watch_listed : Bytes → Bytes → Bytes → List16 → Bytes → Bytes → Place → WatchOutcome
-watch_listed p st recs l out room (At j) = off_list (ListEntry j) st out room
-watch_listed p st recs l out room Nowhere =
+unfoldable pub watch_listed : Bytes → Bytes → Bytes → List16 → Bytes → Bytes → Option ℕ → WatchOutcome
+watch_listed p st recs l out room (Some j) = off_list (Err (ListEntry j)) st out room
+watch_listed p st recs l out room None =
     as_run (run_outcome p st recs out (watch_lent p st recs l out room)) (watch_room p st recs l room (watch_lent p st recs l out room))
 
 unfoldable pub watch_accepted : Bytes → Bytes → Bytes → List16 → Bytes → Bytes → WatchOutcome
 watch_accepted p st recs l out room =
-    if list_wrong l then off_list ListLength st out room else watch_listed p st recs l out room (list_fault p l)
+    if list_wrong l then off_list (Err ListLength) st out room else watch_listed p st recs l out room (list_fault p l)
 
 unfoldable pub watch_judged : Bytes → Bytes → Bytes → List16 → Bytes → Bytes → Verdict → WatchOutcome
-watch_judged p st recs l out room Fine = watch_accepted p st recs l out room
-watch_judged p st recs l out room (Refuse r) = as_run (run_outcome p st recs out (Refuse r)) room
+watch_judged p st recs l out room (Ok _) = watch_accepted p st recs l out room
+watch_judged p st recs l out room (Err r) = as_run (run_outcome p st recs out (Err r)) room
 
 -- A watched run takes a rising list of 1 to 8 signal nodes beside the records and a second room of 8 bytes for each step and listed node.
 unfoldable pub watch_call : Bytes → Bytes → Bytes → List16 → Bytes → Bytes → WatchOutcome

@@ -2,13 +2,10 @@
 // theorems in proofs/. They know nothing of the code.
 #![tactic(auto)]
 
-use rules::Ran;
-
-// What a watched run answers: as the plain run does; or why not: a list that has not 1 to 8 entries (17), or its first entry that is no signal
-// node or not above the one before (18).
+// Why a watched run does not begin, though the program is accepted: a list that has not 1 to 8 entries (17), or its first entry that is no signal
+// node or not above the one before (18). Else it answers as the plain run does.
 #[derive(Clone, Copy)]
-pub enum Watched {
-    AsRun(Ran),
+pub enum ListFault {
     ListLength,
     ListEntry(u32),
 }

@@ -14,10 +14,6 @@ use Rattle.turns.specs.Decided.{most_records}
 use Rattle.printing.specs.Turns.{turn_of, Turned}
 use Rattle.printing.proofs.TurnLaws.{counts}
 
--- what is false is not true
-pub never : {A : Type 0} {b : Bool} → b ≡ false → b ≡ true → A
-never e f = absurd (let z : ◌≡◌ {A = ℕ} 0 1 = cc in omega arith)
-
 -- a turn with more to come
 pub goes_on : (p piece : Bytes) (steps total : ℕ) (st : Bytes) {line st₁ : Bytes} {size k total₁ : ℕ} {more : Bool}
     → Turned (turn_of p piece steps total st) line size more k total₁ st₁ → more ≡ true → k ≡ steps + 1

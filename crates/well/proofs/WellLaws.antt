@@ -1,5 +1,7 @@
 -- A signal of each kind, a list of branches and a list of cases: whether their cells are valid, and start where they are not current; and the same from what the calls for the parts have answered.
 -- Assumes nothing.
+use Rattle.std.specs.Prelude.{Ok, Err}
+use Rattle.rules.specs.Verdicts.{Verdict}
 use mathlib.Core.Path.{◌≡◌, refl, sym, ap, ◌∙◌}
 use mathlib.Core.Bool.{Bool, true, false, not}
 use mathlib.Core.List.{List}
@@ -15,9 +17,8 @@ use Rattle.rules.specs.Kinds.{is_signal, is_branch, is_case}
 use Rattle.rules.specs.Reset.{rests_s, rests_b}
 use Rattle.rules.specs.WellFormed.{content_fits, well_s, well_b, well_c, long_as_cells, knows_program, rest_well, last_moment}
 use Rattle.rules.specs.Calls.{◌otherwise◌, refuse_if, state_verdict}
+use Rattle.rules.specs.declared.Refusal.{Refusal}
 use Rattle.rules.specs.declared.Refusal.TheVariants.{StateFault, OtherProgram}
-use Rattle.rules.specs.declared.Verdict.{Verdict}
-use Rattle.rules.specs.declared.Verdict.TheVariants.{Refuse}
 use Rattle.rules.specs.Tree.{signal_at, branches_at, cases_at, root}
 use Rattle.rules.specs.Shaped.{NodeOf}
 use Rattle.rules.specs.Node.{IsNode}
@@ -159,7 +160,7 @@ module _ (p : Bytes) (n : ℕ) (w : NodeOf is_case p n) (st : Bytes) where
     case_well_on_said hs l ht hr = cc (case_well_on (λ h. l (e.b_is ∙ h)), e.a_is, e.b_is)
 
 -- a state of the wrong length, and of the right one
-pub wrong_length : (p st : Bytes) → (length st ≡ state_length p → ⊥) → Refuse StateFault ≡ state_verdict p st
+pub wrong_length : (p st : Bytes) → (length st ≡ state_length p → ⊥) → Err StateFault ≡ state_verdict p st
 unfolding state_verdict long_as_cells ◌otherwise◌ refuse_if
 wrong_length p st d = rw (ne_eqb _ _ d) refl
 
@@ -181,6 +182,18 @@ sum_then_rest p st {x} {y} {w} l h e f s g t q =
     q ∙ (λ i. s i otherwise t i)
     ∙ (λ i. refuse_if (not (right_sum p st h e f i)) OtherProgram otherwise refuse_if (not (g i)) StateFault)
     ∙ sym (right_length p st l)
+
+-- so a wrong sum is the fault, and after a right one the rest says which
+pub sum_stops : (p st : Bytes) {x y : ℕ} {sum : Verdict} {r : Refusal} → length st ≡ state_length p → checks_of p < 4294967296
+    → x ≡ sum_in st → y ≡ checks_of p % 4294967296 → sum ≡ refuse_if (not (eqb x y)) OtherProgram → sum ≡ Err r → Err r ≡ state_verdict p st
+unfolding ◌otherwise◌
+sum_stops p st l h e f s q = sum_then_rest p st l h e f s refl refl (rw q)
+
+pub sum_passes : (p st : Bytes) {x y : ℕ} {w : Bool} {sum r : Verdict} → length st ≡ state_length p → checks_of p < 4294967296
+    → x ≡ sum_in st → y ≡ checks_of p % 4294967296 → sum ≡ refuse_if (not (eqb x y)) OtherProgram → sum ≡ Ok tt
+    → w ≡ rest_well p st → r ≡ refuse_if (not w) StateFault → r ≡ state_verdict p st
+unfolding ◌otherwise◌
+sum_passes p st l h e f s q g t = sum_then_rest p st l h e f s g t (rw q)
 
 -- the rest: the time and the cells
 right_rest : (p st : Bytes)

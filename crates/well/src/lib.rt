@@ -13,10 +13,9 @@ ghost use Rattle.rules.specs.Calls.{state_verdict};
 ghost use Rattle.cells.specs.Indexed.{Indexed};
 ghost use Rattle.state.specs.Stated.{Stated};
 
-use answers::{otherwise, refuse_if};
+use answers::refuse_if;
 use cells::{cell_at, last_time, own_cell};
-use kinds::{both, either};
-use rules::{Refusal, Verdict};
+use rules::Refusal;
 use stamp::{checks_of, sum_in};
 use state::first_value;
 use table::{LAST, node};
@@ -34,7 +33,7 @@ pub fn content_fits(t: u8, middle: usize, m: u64) -> bool
     ensures { result ≡ content_fits t middle m }
 {
     let fits = value_fits(t, m / 256 % 256, m / 4294967296);
-    both(both(type_in(m) == t, middle_in(m) == middle), fits)
+    (type_in(m) == t) & (middle_in(m) == middle) & fits
 }
 
 // All cells of the signal at node i hold their start content.
@@ -49,23 +48,23 @@ fn rests_s(p: &&[u8], index: &[u16; 10080], st: &&[u8], i: usize) -> bool
         4 => {
             let m = own_cell(index, *st, i);
             let s = rests_s(p, index, st, n.a);
-            both(m == first_value(n), s)
+            (m == first_value(n)) & s
         }
-        5 => both(rests_s(p, index, st, n.a), rests_s(p, index, st, n.b)),
+        5 => rests_s(p, index, st, n.a) & rests_s(p, index, st, n.b),
         6 => {
             let m = own_cell(index, *st, i);
             let x = rests_s(p, index, st, n.a);
             let e = rests_s(p, index, st, n.b);
             let y = rests_s(p, index, st, n.c);
-            both(both(both(m == 0, x), e), y)
+            (m == 0) & x & e & y
         }
         7 => {
             let m = own_cell(index, *st, i);
             let body = rests_s(p, index, st, n.a);
             let brs = rests_b(p, index, st, n.b);
-            both(both(m == 0, body), brs)
+            (m == 0) & body & brs
         }
-        8 => both(rests_s(p, index, st, n.a), rests_c(p, index, st, n.b)),
+        8 => rests_s(p, index, st, n.a) & rests_c(p, index, st, n.b),
         _ => true,
     }
 }
@@ -79,10 +78,10 @@ fn rests_b(p: &&[u8], index: &[u16; 10080], st: &&[u8], j: usize) -> bool
     let n = node(*p, j);
     let body = rests_s(p, index, st, n.a);
     if n.b == LAST {
-        return both(body, true);
+        return body;
     }
     let next = rests_b(p, index, st, n.b);
-    both(body, next)
+    body & next
 }
 
 // All cells of the list of cases at node j hold their start content.
@@ -94,10 +93,10 @@ fn rests_c(p: &&[u8], index: &[u16; 10080], st: &&[u8], j: usize) -> bool
     let n = node(*p, j);
     let event = rests_s(p, index, st, n.a);
     if n.b == LAST {
-        return both(event, true);
+        return event;
     }
     let next = rests_c(p, index, st, n.b);
-    both(event, next)
+    event & next
 }
 
 // The cells of the signal at node i are valid, and start where they are not current.
@@ -112,33 +111,33 @@ fn well_s(p: &&[u8], index: &[u16; 10080], st: &&[u8], i: usize) -> bool
         4 => {
             let m = own_cell(index, *st, i);
             let s = well_s(p, index, st, n.a);
-            both(content_fits(n.ty, 0, m), s)
+            content_fits(n.ty, 0, m) & s
         }
-        5 => both(well_s(p, index, st, n.a), well_s(p, index, st, n.b)),
+        5 => well_s(p, index, st, n.a) & well_s(p, index, st, n.b),
         6 => {
             let m = own_cell(index, *st, i);
             let e = well_s(p, index, st, n.b);
             if m == 0 {
                 let x = well_s(p, index, st, n.a);
                 let y = rests_s(p, index, st, n.c);
-                return both(e, both(x, y));
+                return e & (x & y);
             }
             let x = rests_s(p, index, st, n.a);
             let y = well_s(p, index, st, n.c);
-            both(e, both(both(content_fits(n.ty, 0, m), x), y))
+            e & (content_fits(n.ty, 0, m) & x & y)
         }
         7 => {
             let m = own_cell(index, *st, i);
             if m == 0 {
                 let body = well_s(p, index, st, n.a);
                 let brs = rests_b(p, index, st, n.b);
-                return both(body, brs);
+                return body & brs;
             }
             let body = rests_s(p, index, st, n.a);
             let brs = well_b(p, index, st, n.b, m);
-            both(body, brs)
+            body & brs
         }
-        8 => both(well_s(p, index, st, n.a), well_c(p, index, st, n.b)),
+        8 => well_s(p, index, st, n.a) & well_c(p, index, st, n.b),
         _ => true,
     }
 }
@@ -152,19 +151,19 @@ fn well_b(p: &&[u8], index: &[u16; 10080], st: &&[u8], j: usize, m: u64) -> bool
     let n = node(*p, j);
     if j == middle_in(m) {
         let body = well_s(p, index, st, n.a);
-        let here = both(content_fits(n.ty, j, m), body);
+        let here = content_fits(n.ty, j, m) & body;
         if n.b == LAST {
-            return both(here, true);
+            return here;
         }
         let next = rests_b(p, index, st, n.b);
-        return both(here, next);
+        return here & next;
     }
     let body = rests_s(p, index, st, n.a);
     if n.b == LAST {
-        return both(body, false);
+        return false;
     }
     let next = well_b(p, index, st, n.b, m);
-    both(body, next)
+    body & next
 }
 
 // The cells of the list of cases at node j are valid, and start where they are not current.
@@ -176,10 +175,10 @@ fn well_c(p: &&[u8], index: &[u16; 10080], st: &&[u8], j: usize) -> bool
     let n = node(*p, j);
     let event = well_s(p, index, st, n.a);
     if n.b == LAST {
-        return both(event, true);
+        return event;
     }
     let next = well_c(p, index, st, n.b);
-    both(event, next)
+    event & next
 }
 
 // The time and the cells of a state of the right length.
@@ -188,9 +187,9 @@ fn rest_well(p: &[u8], index: &[u16; 10080], st: &[u8], count: usize) -> bool
     ensures { result ≡ rest_well p.now st.now }
 {
     let time = last_time(st);
-    let timed = either(time == 4294967295, time <= 2147483647);
+    let timed = (time == 4294967295) | (time <= 2147483647);
     let well = well_s(&p, index, &st, count - 1);
-    both(timed, well)
+    timed & well
 }
 
 // The fault of a state of any length, for a program of so many nodes and cells: 9 for its length, then 15 for a wrong sum, then 9 for the rest.
@@ -200,15 +199,13 @@ pub fn state_verdict(
     st: &[u8],
     count: usize,
     cells: usize,
-) -> Verdict
+) -> Result<(), Refusal>
     requires { NodeOf is_signal p.now (nodes p.now - 1) × Indexed p.now index.now × (count ≡ nodes p.now) × (cells ≡ cells_of p.now) × (checks_of p.now < 4294967296) }
     ensures { result ≡ state_verdict p.now st.now }
 {
     if st.len() != cell_at(cells) {
-        return Verdict::Refuse(Refusal::StateFault);
+        return Err(Refusal::StateFault);
     }
-    let sum = refuse_if(sum_in(st) != checks_of(p), Refusal::OtherProgram);
-    let well = rest_well(p, index, st, count);
-    let rest = refuse_if(!well, Refusal::StateFault);
-    otherwise(sum, rest)
+    refuse_if(sum_in(st) != checks_of(p), Refusal::OtherProgram)?;
+    refuse_if(!rest_well(p, index, st, count), Refusal::StateFault)
 }

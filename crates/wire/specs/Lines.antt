@@ -1,29 +1,25 @@
 -- The lines of the answers, and the header lines of the requests. Assumes nothing.
-use Rattle.std.specs.Prelude.{ℕ, ◌+◌, ◌*◌, List, [], ◌∷◌, ◌++◌}
+use Rattle.rules.specs.Verdicts.{CheckAnswer, StartAnswer, RunAnswer}
+use Rattle.std.specs.Prelude.{ℕ, ◌+◌, ◌*◌, List, [], ◌∷◌, ◌++◌, Result, Ok, Err}
 use Rattle.rules.specs.declared.Refusal.{Refusal}
-use Rattle.rules.specs.declared.Checked.{Checked}
-use Rattle.rules.specs.declared.Checked.TheVariants.{Accepted, Refused}
-use Rattle.rules.specs.declared.Started.{Started}
-use Rattle.rules.specs.declared.Started.TheVariants.{Ready}
-use Rattle.rules.specs.declared.Ran.{Ran}
-use Rattle.rules.specs.declared.Ran.TheVariants.{Finished}
 use Rattle.rules.specs.Answers.{code_of, place_of}
 use Rattle.wire.specs.declared.Request.{Request}
-use Rattle.chains.specs.declared.Explained.{Explained}
-use Rattle.chains.specs.declared.Explained.TheVariants.{NoLet, RoomLength}
-use Rattle.mends.specs.declared.Mended.{Mended}
-use Rattle.mends.specs.declared.Mended.TheVariants.{Listed, ListLength}
-use Rattle.rewritten.specs.declared.Tidied.{Tidied}
-use Rattle.rewritten.specs.declared.Tidied.TheVariants.{Table, RoomShort}
-use Rattle.dropped.specs.declared.Paired.{Paired}
-use Rattle.dropped.specs.declared.Paired.TheVariants.{OldRefused, NewRefused, EditionsDiffer, PairingLength, EntryWrong}
-use Rattle.watched.specs.declared.Watched.{Watched}
-use Rattle.watched.specs.declared.Watched.TheVariants.{AsRun, ListEntry}
-use Rattle.texts.specs.declared.TextRead.{TextRead}
-use Rattle.texts.specs.declared.TextRead.TheVariants.{BadWord, BadName, BadNumber}
-use Rattle.texts.specs.declared.TextPrinted.{TextPrinted}
-use Rattle.texts.specs.declared.TextPrinted.TheVariants.{Text}
-use Rattle.wire.specs.declared.Request.TheVariants.{Check, Start, Run, Broken}
+use Rattle.chains.specs.declared.Chain.{Chain}
+use Rattle.chains.specs.declared.NoChain.{NoChain}
+use Rattle.chains.specs.declared.NoChain.TheVariants.{NoLet, RoomLength}
+use Rattle.mends.specs.declared.Unmended.{Unmended}
+use Rattle.mends.specs.declared.Unmended.TheVariants.{ListLength}
+use Rattle.written.specs.declared.TableSize.{TableSize}
+use Rattle.rewritten.specs.declared.Untidied.{Untidied}
+use Rattle.rewritten.specs.declared.Untidied.TheVariants.{RoomShort}
+use Rattle.dropped.specs.declared.Unpaired.{Unpaired}
+use Rattle.dropped.specs.declared.Unpaired.TheVariants.{OldRefused, NewRefused, EditionsDiffer, PairingLength, EntryWrong}
+use Rattle.watched.specs.declared.ListFault.{ListFault}
+use Rattle.watched.specs.declared.ListFault.TheVariants.{ListEntry}
+use Rattle.texts.specs.declared.NoTable.{NoTable}
+use Rattle.texts.specs.declared.NoTable.TheVariants.{BadWord, BadName, BadNumber}
+use Rattle.texts.specs.declared.NoText.{NoText}
+use Rattle.wire.specs.declared.Request.TheVariants.{Check, Start, Run}
 use Rattle.wire.specs.Text.{field}
 
 -- "OK "
@@ -47,14 +43,14 @@ unfoldable pub accepted_line : ℕ → ℕ → ℕ → ℕ → List ℕ
 accepted_line n cells bound ty = ok ++ field n 32 ++ field cells 32 ++ field bound 32 ++ field ty 10
 
 -- the answer of check: accepted, or the refusal with no work
-unfoldable pub checked_line : Checked → List ℕ
-checked_line (Accepted n cells bound ty) = accepted_line n cells bound ty
-checked_line (Refused r) = refused_line r 0
+unfoldable pub checked_line : CheckAnswer → List ℕ
+checked_line (Ok found) = accepted_line found.nodes found.cells found.bound found.root
+checked_line (Err r) = refused_line r 0
 
 -- the answer of start: OK and no number, or the refusal with no work
-unfoldable pub started_line : Started → List ℕ
-started_line Ready = 79 ∷ 75 ∷ 10 ∷ []
-started_line (Started.Refused r) = refused_line r 0
+unfoldable pub started_line : StartAnswer → List ℕ
+started_line (Ok _) = 79 ∷ 75 ∷ 10 ∷ []
+started_line (Err r) = refused_line r 0
 
 -- OK and two numbers: the let and the entries of its chain, or the nodes and the length of a new table
 unfoldable pub finished_line : ℕ → ℕ → List ℕ
@@ -69,70 +65,70 @@ unfoldable pub stopped_line : Refusal → ℕ → ℕ → List ℕ
 stopped_line r work wrapped = refused ++ field (code_of r) 32 ++ field (place_of r) 32 ++ field work 32 ++ field wrapped 10
 
 -- the answer of run: steps, work and the first wrapped step, or the refusal with those of the steps done
-unfoldable pub ran_line : Ran → List ℕ
-ran_line (Finished steps work wrapped) = steps_line steps work wrapped
-ran_line (Ran.Refused r work wrapped) = stopped_line r work wrapped
+unfoldable pub ran_line : RunAnswer → List ℕ
+ran_line (Ok end) = steps_line end.steps end.work end.wrapped
+ran_line (Err stop) = stopped_line stop.why stop.work stop.wrapped
 
 -- REFUSED code place 0 65535: a list that is refused; no step is done
 unfoldable pub unlisted_line : ℕ → ℕ → List ℕ
 unlisted_line code place = refused ++ field code 32 ++ field place 32 ++ field 0 32 ++ field 65535 10
 
 -- the answer of watched: as run, or the refusal of the list
-unfoldable pub watched_line : Watched → List ℕ
-watched_line (AsRun r) = ran_line r
-watched_line Watched.ListLength = unlisted_line 17 0
-watched_line (ListEntry j) = unlisted_line 18 j
+unfoldable pub watched_line : Result RunAnswer ListFault → List ℕ
+watched_line (Ok r) = ran_line r
+watched_line (Err ListFault.ListLength) = unlisted_line 17 0
+watched_line (Err (ListEntry j)) = unlisted_line 18 j
 
 -- the answer of explain: OK let entries, or the refusal with no work
-unfoldable pub explained_line : Explained → List ℕ
-explained_line (Explained.Chain node entries) = finished_line node entries
-explained_line (Explained.Refused r) = refused_line r 0
-explained_line NoLet = coded_line 25 0 0
-explained_line RoomLength = coded_line 26 0 0
+unfoldable pub explained_line : Result Chain NoChain → List ℕ
+explained_line (Ok chain) = finished_line chain.of chain.entries
+explained_line (Err (NoChain.Refused r)) = refused_line r 0
+explained_line (Err NoLet) = coded_line 25 0 0
+explained_line (Err RoomLength) = coded_line 26 0 0
 
 -- OK and one number: how many entries mend listed, or the length of a printed text
 unfoldable pub listed_line : ℕ → List ℕ
 listed_line one = ok ++ field one 10
 
 -- the answer of mend: OK entries, or the refusal with no work
-unfoldable pub mended_line : Mended → List ℕ
-mended_line (Listed entries) = listed_line entries
-mended_line (Mended.Refused r) = refused_line r 0
-mended_line ListLength = coded_line 16 0 0
+unfoldable pub mended_line : Result ℕ Unmended → List ℕ
+mended_line (Ok entries) = listed_line entries
+mended_line (Err (Unmended.Refused r)) = refused_line r 0
+mended_line (Err ListLength) = coded_line 16 0 0
 
 -- the answer of tidy: OK nodes length, or the refusal with no work
-unfoldable pub tidied_line : Tidied → List ℕ
-tidied_line (Table count long) = finished_line count long
-tidied_line (Tidied.Refused r) = refused_line r 0
-tidied_line RoomShort = coded_line 19 0 0
+unfoldable pub tidied_line : Result TableSize Untidied → List ℕ
+tidied_line (Ok size) = finished_line size.nodes size.bytes
+tidied_line (Err (Untidied.Refused r)) = refused_line r 0
+tidied_line (Err RoomShort) = coded_line 19 0 0
 
 -- the refusal of a new program: 32 is added to its code
 unfoldable pub new_line : Refusal → List ℕ
 new_line r = coded_line (32 + code_of r) (place_of r) 0
 
 -- the answer of paired: OK and no number, or the refusal with no work
-unfoldable pub paired_line : Paired → List ℕ
-paired_line Paired.Accepted = started_line Ready
-paired_line (OldRefused r) = refused_line r 0
-paired_line (NewRefused r) = new_line r
-paired_line EditionsDiffer = coded_line 29 0 0
-paired_line PairingLength = coded_line 27 0 0
-paired_line (EntryWrong i) = coded_line 28 i 0
+unfoldable pub paired_line : Result (Unit {0}) Unpaired → List ℕ
+paired_line (Ok tt) = started_line (Ok tt)
+paired_line (Err (OldRefused r)) = refused_line r 0
+paired_line (Err (NewRefused r)) = new_line r
+paired_line (Err EditionsDiffer) = coded_line 29 0 0
+paired_line (Err PairingLength) = coded_line 27 0 0
+paired_line (Err (EntryWrong i)) = coded_line 28 i 0
 
 -- the answer of read: OK nodes length; a text code at its position in the text, 24, or the refusal, with no work
-unfoldable pub read_line : TextRead → List ℕ
-read_line (TextRead.Table count long) = finished_line count long
-read_line (BadWord at) = coded_line 21 at 0
-read_line (BadName at) = coded_line 22 at 0
-read_line (BadNumber at) = coded_line 23 at 0
-read_line TextRead.RoomShort = coded_line 24 0 0
-read_line (TextRead.Refused r) = refused_line r 0
+unfoldable pub read_line : Result TableSize NoTable → List ℕ
+read_line (Ok size) = finished_line size.nodes size.bytes
+read_line (Err (BadWord at)) = coded_line 21 at 0
+read_line (Err (BadName at)) = coded_line 22 at 0
+read_line (Err (BadNumber at)) = coded_line 23 at 0
+read_line (Err NoTable.RoomShort) = coded_line 24 0 0
+read_line (Err (NoTable.Refused r)) = refused_line r 0
 
 -- the answer of print: OK length, or the refusal with no work
-unfoldable pub printed_line : TextPrinted → List ℕ
-printed_line (Text long) = listed_line long
-printed_line (TextPrinted.Refused r) = refused_line r 0
-printed_line TextPrinted.RoomShort = coded_line 24 0 0
+unfoldable pub printed_line : Result ℕ NoText → List ℕ
+printed_line (Ok long) = listed_line long
+printed_line (Err (NoText.Refused r)) = refused_line r 0
+printed_line (Err NoText.RoomShort) = coded_line 24 0 0
 
 -- "check "
 abbrev pub check : List ℕ
@@ -226,4 +222,3 @@ header_line (Request.Tidy p b) = tidy_line p b
 header_line (Request.Pair p q n) = pair_line p q (2 * n)
 header_line (Request.Read t b) = reading_line t b
 header_line (Request.Print p t) = printing_line p t
-header_line Broken = []

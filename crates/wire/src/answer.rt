@@ -1,17 +1,17 @@
 // The lines of the answers.
-ghost use Rattle.std.specs.Prelude.{◌≡◌, take};
+ghost use Rattle.std.specs.Prelude.{◌≡◌, take, Ok};
 ghost use Rattle.io.specs.Counts.{IsPrefixLen};
-ghost use Rattle.rules.specs.declared.Started.TheVariants.{Ready};
 ghost use Rattle.wire.specs.Lines.{accepted_line, checked_line, coded_line, explained_line, finished_line, listed_line, mended_line, new_line, paired_line, printed_line, ran_line, read_line, refused_line, started_line, steps_line, stopped_line, tidied_line, unlisted_line, watched_line};
 
 use crate::text::{put, put_field};
-use chains::Explained;
-use dropped::Paired;
-use mends::Mended;
-use rewritten::Tidied;
-use rules::{Checked, Ran, Refusal, Started};
-use texts::{TextPrinted, TextRead};
-use watched::Watched;
+use chains::{Chain, NoChain};
+use dropped::Unpaired;
+use mends::Unmended;
+use rewritten::Untidied;
+use rules::{Checked, Ran, Refusal, Stopped};
+use texts::{NoTable, NoText};
+use watched::ListFault;
+use written::TableSize;
 
 // Puts `REFUSED code place work` at the start of line, and answers its length.
 fn coded_line(code: u32, place: u32, work: u32, line: &mut [u8; 64]) -> usize
@@ -47,32 +47,32 @@ fn accepted_line(n: u32, cells: u32, bound: u32, ty: u8, line: &mut [u8; 64]) ->
 }
 
 // Puts the answer of a check at the start of line, and answers its length.
-pub fn checked_line(answer: Checked, line: &mut [u8; 64]) -> usize
+pub fn checked_line(answer: Result<Checked, Refusal>, line: &mut [u8; 64]) -> usize
     ensures prefix_len { IsPrefixLen result line.new }
     ensures line_after { take result line.new ≡ checked_line answer }
 {
     match answer {
-        Checked::Accepted(n, cells, bound, ty) => accepted_line(n, cells, bound, ty, line),
-        Checked::Refused(r) => refused_line(r, 0, line),
+        Ok(found) => accepted_line(found.nodes, found.cells, found.bound, found.root, line),
+        Err(fault) => refused_line(fault, 0, line),
     }
 }
 
 // Puts the answer of a start that is done, `OK`, at the start of line, and answers its length.
 fn ready_line(line: &mut [u8; 64]) -> usize
     ensures prefix_len { IsPrefixLen result line.new }
-    ensures line_after { take result line.new ≡ started_line Ready }
+    ensures line_after { take result line.new ≡ started_line (Ok tt) }
 {
     put(b"OK\n", line, 0)
 }
 
 // Puts the answer of a start at the start of line, and answers its length.
-pub fn started_line(answer: Started, line: &mut [u8; 64]) -> usize
+pub fn started_line(answer: Result<(), Refusal>, line: &mut [u8; 64]) -> usize
     ensures prefix_len { IsPrefixLen result line.new }
     ensures line_after { take result line.new ≡ started_line answer }
 {
     match answer {
-        Started::Ready => ready_line(line),
-        Started::Refused(r) => refused_line(r, 0, line),
+        Ok(()) => ready_line(line),
+        Err(r) => refused_line(r, 0, line),
     }
 }
 
@@ -113,13 +113,13 @@ fn stopped_line(r: Refusal, work: u32, wrapped: u32, line: &mut [u8; 64]) -> usi
 }
 
 // Puts the answer of a run at the start of line, and answers its length.
-pub fn ran_line(answer: Ran, line: &mut [u8; 64]) -> usize
+pub fn ran_line(answer: Result<Ran, Stopped>, line: &mut [u8; 64]) -> usize
     ensures prefix_len { IsPrefixLen result line.new }
     ensures line_after { take result line.new ≡ ran_line answer }
 {
     match answer {
-        Ran::Finished(steps, work, wrapped) => steps_line(steps, work, wrapped, line),
-        Ran::Refused(r, work, wrapped) => stopped_line(r, work, wrapped, line),
+        Ok(ran) => steps_line(ran.steps, ran.work, ran.wrapped, line),
+        Err(stop) => stopped_line(stop.why, stop.work, stop.wrapped, line),
     }
 }
 
@@ -136,27 +136,29 @@ fn unlisted_line(code: u32, place: u32, line: &mut [u8; 64]) -> usize
 }
 
 // Puts the answer of watched at the start of line, and answers its length.
-pub fn watched_line(answer: Watched, line: &mut [u8; 64]) -> usize
+#[tactic(auto, unfolding(crate::specs::Lines::watched_line))]
+pub fn watched_line(answer: Result<Result<Ran, Stopped>, ListFault>, line: &mut [u8; 64]) -> usize
     ensures prefix_len { IsPrefixLen result line.new }
     ensures line_after { take result line.new ≡ watched_line answer }
 {
     match answer {
-        Watched::AsRun(ran) => ran_line(ran, line),
-        Watched::ListLength => unlisted_line(17, 0, line),
-        Watched::ListEntry(j) => unlisted_line(18, j, line),
+        Ok(ran) => ran_line(ran, line),
+        Err(ListFault::ListLength) => unlisted_line(17, 0, line),
+        Err(ListFault::ListEntry(j)) => unlisted_line(18, j, line),
     }
 }
 
 // Puts the answer of explain at the start of line, and answers its length.
-pub fn explained_line(answer: Explained, line: &mut [u8; 64]) -> usize
+#[tactic(auto, unfolding(crate::specs::Lines::explained_line))]
+pub fn explained_line(answer: Result<Chain, NoChain>, line: &mut [u8; 64]) -> usize
     ensures prefix_len { IsPrefixLen result line.new }
     ensures line_after { take result line.new ≡ explained_line answer }
 {
     match answer {
-        Explained::Chain(node, entries) => finished_line(node, entries, line),
-        Explained::Refused(r) => refused_line(r, 0, line),
-        Explained::NoLet => coded_line(25, 0, 0, line),
-        Explained::RoomLength => coded_line(26, 0, 0, line),
+        Ok(chain) => finished_line(chain.of, chain.entries, line),
+        Err(NoChain::Refused(r)) => refused_line(r, 0, line),
+        Err(NoChain::NoLet) => coded_line(25, 0, 0, line),
+        Err(NoChain::RoomLength) => coded_line(26, 0, 0, line),
     }
 }
 
@@ -170,26 +172,28 @@ fn listed_line(one: u32, line: &mut [u8; 64]) -> usize
 }
 
 // Puts the answer of mend at the start of line, and answers its length.
-pub fn mended_line(answer: Mended, line: &mut [u8; 64]) -> usize
+#[tactic(auto, unfolding(crate::specs::Lines::mended_line))]
+pub fn mended_line(answer: Result<u32, Unmended>, line: &mut [u8; 64]) -> usize
     ensures prefix_len { IsPrefixLen result line.new }
     ensures line_after { take result line.new ≡ mended_line answer }
 {
     match answer {
-        Mended::Listed(entries) => listed_line(entries, line),
-        Mended::Refused(r) => refused_line(r, 0, line),
-        Mended::ListLength => coded_line(16, 0, 0, line),
+        Ok(entries) => listed_line(entries, line),
+        Err(Unmended::Refused(r)) => refused_line(r, 0, line),
+        Err(Unmended::ListLength) => coded_line(16, 0, 0, line),
     }
 }
 
 // Puts the answer of tidy at the start of line, and answers its length.
-pub fn tidied_line(answer: Tidied, line: &mut [u8; 64]) -> usize
+#[tactic(auto, unfolding(crate::specs::Lines::tidied_line))]
+pub fn tidied_line(answer: Result<TableSize, Untidied>, line: &mut [u8; 64]) -> usize
     ensures prefix_len { IsPrefixLen result line.new }
     ensures line_after { take result line.new ≡ tidied_line answer }
 {
     match answer {
-        Tidied::Table(nodes, length) => finished_line(nodes, length, line),
-        Tidied::Refused(r) => refused_line(r, 0, line),
-        Tidied::RoomShort => coded_line(19, 0, 0, line),
+        Ok(size) => finished_line(size.nodes, size.bytes, line),
+        Err(Untidied::Refused(r)) => refused_line(r, 0, line),
+        Err(Untidied::RoomShort) => coded_line(19, 0, 0, line),
     }
 }
 
@@ -204,43 +208,46 @@ fn new_line(r: Refusal, line: &mut [u8; 64]) -> usize
 }
 
 // Puts the answer of paired at the start of line, and answers its length.
-pub fn paired_line(answer: Paired, line: &mut [u8; 64]) -> usize
+#[tactic(auto, unfolding(crate::specs::Lines::paired_line))]
+pub fn paired_line(answer: Result<(), Unpaired>, line: &mut [u8; 64]) -> usize
     ensures prefix_len { IsPrefixLen result line.new }
     ensures line_after { take result line.new ≡ paired_line answer }
 {
     match answer {
-        Paired::Accepted => ready_line(line),
-        Paired::OldRefused(r) => refused_line(r, 0, line),
-        Paired::NewRefused(r) => new_line(r, line),
-        Paired::EditionsDiffer => coded_line(29, 0, 0, line),
-        Paired::PairingLength => coded_line(27, 0, 0, line),
-        Paired::EntryWrong(i) => coded_line(28, i, 0, line),
+        Ok(()) => ready_line(line),
+        Err(Unpaired::OldRefused(r)) => refused_line(r, 0, line),
+        Err(Unpaired::NewRefused(r)) => new_line(r, line),
+        Err(Unpaired::EditionsDiffer) => coded_line(29, 0, 0, line),
+        Err(Unpaired::PairingLength) => coded_line(27, 0, 0, line),
+        Err(Unpaired::EntryWrong(i)) => coded_line(28, i, 0, line),
     }
 }
 
 // Puts the answer of read at the start of line, and answers its length.
-pub fn read_line(answer: TextRead, line: &mut [u8; 64]) -> usize
+#[tactic(auto, unfolding(crate::specs::Lines::read_line))]
+pub fn read_line(answer: Result<TableSize, NoTable>, line: &mut [u8; 64]) -> usize
     ensures prefix_len { IsPrefixLen result line.new }
     ensures line_after { take result line.new ≡ read_line answer }
 {
     match answer {
-        TextRead::Table(nodes, length) => finished_line(nodes, length, line),
-        TextRead::BadWord(at) => coded_line(21, at, 0, line),
-        TextRead::BadName(at) => coded_line(22, at, 0, line),
-        TextRead::BadNumber(at) => coded_line(23, at, 0, line),
-        TextRead::RoomShort => coded_line(24, 0, 0, line),
-        TextRead::Refused(r) => refused_line(r, 0, line),
+        Ok(size) => finished_line(size.nodes, size.bytes, line),
+        Err(NoTable::BadWord(at)) => coded_line(21, at, 0, line),
+        Err(NoTable::BadName(at)) => coded_line(22, at, 0, line),
+        Err(NoTable::BadNumber(at)) => coded_line(23, at, 0, line),
+        Err(NoTable::RoomShort) => coded_line(24, 0, 0, line),
+        Err(NoTable::Refused(r)) => refused_line(r, 0, line),
     }
 }
 
 // Puts the answer of print at the start of line, and answers its length.
-pub fn printed_line(answer: TextPrinted, line: &mut [u8; 64]) -> usize
+#[tactic(auto, unfolding(crate::specs::Lines::printed_line))]
+pub fn printed_line(answer: Result<u32, NoText>, line: &mut [u8; 64]) -> usize
     ensures prefix_len { IsPrefixLen result line.new }
     ensures line_after { take result line.new ≡ printed_line answer }
 {
     match answer {
-        TextPrinted::Text(length) => listed_line(length, line),
-        TextPrinted::Refused(r) => refused_line(r, 0, line),
-        TextPrinted::RoomShort => coded_line(24, 0, 0, line),
+        Ok(length) => listed_line(length, line),
+        Err(NoText::Refused(r)) => refused_line(r, 0, line),
+        Err(NoText::RoomShort) => coded_line(24, 0, 0, line),
     }
 }

@@ -18,12 +18,9 @@ pub fn hex(s: &[u8], text: &mut [u8]) -> usize
     ensures prefix_len { IsPrefixLen result text.new }
     ensures text_after { take result text.new ≡ hexes s.now }
 {
-    let mut i = 0;
-    while i < s.len() {
-        let b = s[i];
+    for (i, &b) in s.iter().enumerate() {
         text[2 * i] = digit(b / 16);
         text[2 * i + 1] = digit(b % 16);
-        i += 1;
     }
-    2 * i
+    2 * s.len()
 }

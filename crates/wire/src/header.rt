@@ -1,7 +1,6 @@
 // The header line of a request.
-ghost use Rattle.std.specs.Prelude.{◌≡◌, take};
+ghost use Rattle.std.specs.Prelude.{◌≡◌, take, IfSome};
 ghost use Rattle.io.specs.Counts.{IsPrefixLen};
-ghost use Rattle.wire.specs.declared.Request.TheVariants.{Broken};
 ghost use Rattle.wire.specs.Lines.{header_line, check_line, start_line, run_line, chain_line, mend_line, tidy_line, pair_line, watch_line, reading_line, printing_line};
 
 use crate::Request;
@@ -131,19 +130,18 @@ pub fn header(request: Request, line: &mut [u8; 64]) -> usize
         Request::Pair(p, q, n) => pair_header(p, q, 2 * (n as u32), line),
         Request::Read(t, r) => read_header(t, r, line),
         Request::Print(p, r) => print_header(p, r, line),
-        Request::Broken => 0,
     }
 }
 
-// The request whose header line `line` is, byte for byte; or broken.
-pub fn request_of(line: &[u8]) -> Request
-    ensures { (result ≡ Broken → ⊥) → line.now ≡ header_line result }
+// The request whose header line `line` is, byte for byte.
+pub fn request_of(line: &[u8]) -> Option<Request>
+    ensures { IfSome result (λ request. line.now ≡ header_line request) }
 {
-    let likely = guess(line);
+    let likely = guess(line)?;
     let mut text = [0u8; 64];
     let n = header(likely, &mut text);
     if check::same(line, &text[..n]) {
-        return likely;
+        return Some(likely);
     }
-    Request::Broken
+    None
 }

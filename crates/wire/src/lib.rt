@@ -29,5 +29,4 @@ pub enum Request {
     Pair(u32, u32, u16),
     Read(u32, u32),
     Print(u32, u32),
-    Broken,
 }

@@ -1,11 +1,9 @@
 -- When a sum, a difference or a product of the integers of two words leaves the 32-bit range, by the sides of zero on which they stand.
 -- Assumes nothing.
-use Rattle.std.specs.Prelude.{if◌then◌else◌}
-use Rattle.std.proofs.Common.{◌≡◌, ℕ, zero, suc, ◌+◌, ◌-◌, ◌*◌, ◌/◌, ◌%◌, ◌<◌, ◌≤◌, Bool, true, false, not, ◌&&◌, eqb, ltb, leb, ◌⊎◌, ℤ, pos, negsuc, ◌+ℤ◌, ◌-ℤ◌, ◌*ℤ◌, neg_ℤ, nat_abs, sym, refl, ap, ◌∙◌, inl, inr, ⊎_elim, true≢false, mul-le-mul, div-le_self, arith, w64, SFits, to_z, of_z, ltb-false, ltb-true, le-ltb, lt-ltb, eq-eqb, ne_eqb, eqb-true, le-leb, leb-false, leb-true}
+use Rattle.std.proofs.Common.{◌≡◌, ℕ, zero, suc, ◌+◌, ◌-◌, ◌*◌, ◌/◌, ◌%◌, ◌<◌, ◌≤◌, Bool, true, false, not, ◌&&◌, eqb, ltb, leb, ◌⊎◌, ℤ, pos, negsuc, ◌+ℤ◌, ◌-ℤ◌, ◌*ℤ◌, nat_abs, sym, refl, ◌∙◌, inl, inr, ⊎_elim, true≢false, mul-le-mul, div-le_self, arith, w64, SFits, to_z, of_z, ltb-false, ltb-true, le-ltb, lt-ltb, eq-eqb, ne_eqb, eqb-true, le-leb, leb-false, leb-true}
 use native.Mathlib.Nat.{div-le_of_le-mul}
 use lib.IntN.{sub_ℕ}
 use lib.Signed.{lt_z, mag}
-use mir.ValLaws.{to_z-of_z}
 use borrow.Author.Tests.{lt-leb, eqb-false}
 use Rattle.rules.specs.Bytes.{◌and◌}
 use Rattle.rules.specs.Words.{wrap, signed, outside, sum_of, difference_of, product_of, floor_z}

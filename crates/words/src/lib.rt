@@ -15,7 +15,7 @@ const MAYBE_INT: u8 = MAYBE + INT;
 pub fn times(x: u32, y: u32) -> u32
     ensures { result ≡ product_of x y }
 {
-    ((x as u64) * (y as u64) % 4294967296) as u32
+    (u64::from(x) * u64::from(y) % 4294967296) as u32
 }
 
 // Less, as integers.
@@ -153,37 +153,28 @@ pub fn number(k: u8, x: u32, y: u32) -> Worked
     requires { k ≤ 20 }
     ensures { (result.word ≡ number_of k x y) × (result.left ≡ leaves_range k x y) }
 {
-    if k == 18 {
-        return sum(x, y);
+    match k {
+        18 => sum(x, y),
+        19 => difference(x, y),
+        _ => product(x, y),
     }
-    if k == 19 {
-        return difference(x, y);
-    }
-    product(x, y)
 }
 
 // Kind 21: of quotients only -2147483648 by -1 leaves the range.
 pub fn quotient_left(x: u32, y: u32) -> bool
     ensures { result ≡ leaves_range 21 x y }
 {
-    if x == 2147483648 {
-        return y == 4294967295;
-    }
-    false
+    x == 2147483648 && y == 4294967295
 }
 
 // Kinds 22, 23, 25 and 26: the truth value.
 pub fn test(k: u8, x: u32, y: u32) -> bool
     ensures { result ≡ truth_of k x y }
 {
-    if k == 22 {
-        return less(x, y);
+    match k {
+        22 => less(x, y),
+        23 => x == y,
+        25 => x == 1 && y == 1,
+        _ => x == 1 || y == 1,
     }
-    if k == 23 {
-        return x == y;
-    }
-    if k == 25 {
-        return x == 1 && y == 1;
-    }
-    x == 1 || y == 1
 }

@@ -1,5 +1,6 @@
 -- A tree written reads back: format and shape are right, and its tree is that tree with its numbers by place.
 -- Assumes nothing.
+use Rattle.std.specs.Prelude.{None}
 use mathlib.Core.Path.{◌≡◌, refl, sym, ap, ◌∙◌}
 use mathlib.Core.Bool.{Bool, true, false}
 use Prim.Native.Nat.{ℕ, zero, suc, ◌+◌, ◌-◌, ◌<◌, ◌≤◌}
@@ -10,7 +11,6 @@ use Rattle.rules.specs.Shape.{shape_wrong}
 use Rattle.rules.specs.Accepted.{Formed}
 use Rattle.rules.specs.Size.{size_s}
 use Rattle.rules.specs.Tree.{Signal, signal_at, root}
-use Rattle.rules.specs.declared.Place.TheVariants.{Nowhere}
 use Rattle.written.specs.Parts.{size_p, last_p}
 use Rattle.written.specs.Table.{table_of}
 use Rattle.written.specs.Written.{part_s, new_number, written, placed_s, renamed}
@@ -45,7 +45,7 @@ module _ (e₀ : ℕ) (s : Signal) (right : RightS s (new_number s)) (few : size
       table_formed e₀ (part_s s (new_number s)) (part_s_right s (new_number s) right).right (omega (arith, part_s_size s (new_number s))) e
 
   -- Code 5 does not occur.
-  pub written_shaped : first (shape_wrong (written e₀ s)) (nodes (written e₀ s)) ≡ Nowhere
+  pub written_shaped : first (shape_wrong (written e₀ s)) (nodes (written e₀ s)) ≡ None
   unfolding written
   written_shaped =
       table_shaped e₀ (part_s s (new_number s)) (part_s_right s (new_number s) right).right (omega (arith, part_s_size s (new_number s)))

@@ -1,5 +1,6 @@
 -- In a tree that is in scope each binder and target that is named is a node of the tree.
 -- Assumes nothing.
+use Rattle.std.specs.Prelude.{None}
 use mathlib.Core.Path.{◌≡◌, refl, sym, ap, ◌∙◌, subst}
 use mathlib.Core.List.{List, [], ◌∷◌, ◌++◌}
 use mathlib.Core.Bool.{Bool, true, false}
@@ -14,7 +15,6 @@ use Rattle.rules.specs.Bytes.{◌or◌}
 use Rattle.rules.specs.Layout.{most_nodes}
 use Rattle.rules.specs.Tree.{Expr, variable, constant, operation, negation, choice, just, taking, Signal, input, time, ext, delay, let_signal, switch, group, until, Branches, no_branch, branch, Cases, no_case, case}
 use Rattle.rules.specs.Scope.{Marks, mark, is_marked, unmarked, Offers, has_branch, is_offered, onward, scope_e, scope_s, scope_b, scope_c}
-use Rattle.rules.specs.declared.Place.TheVariants.{Nowhere}
 use Rattle.rules.proofs.Static.{both, holds, not_both}
 use Rattle.written.specs.Order.{order_e, order_s, order_b, order_c, In}
 use Rattle.written.specs.Right.{EachE, EachS, EachB, EachC}
@@ -95,7 +95,7 @@ module _ (P : ℕ → Type 0) where
       go (inl i) = h x (has_in brs x i)
       go (inr i) = handed ed Δ o x i
 
-  each_e : (e : Expr) (Γ : Marks) → scope_e Γ e ≡ Nowhere → All (order_e e) → Marked Γ → EachE P e
+  each_e : (e : Expr) (Γ : Marks) → scope_e Γ e ≡ None → All (order_e e) → Marked Γ → EachE P e
   unfolding scope_e order_e
   each_e (variable n b t) Γ s h g = g b (holds _ n s)
   each_e (constant n v) Γ s h g = tt
@@ -124,7 +124,7 @@ module _ (P : ℕ → Type 0) where
   mutual
     unfolding scope_s order_s
 
-    pub each_s : (s : Signal) (ed : ℕ) (Γ : Marks) (Δ : Offers) → scope_s ed Γ Δ s ≡ Nowhere → All (order_s s) → Marked Γ → Offered Δ → EachS s P
+    pub each_s : (s : Signal) (ed : ℕ) (Γ : Marks) (Δ : Offers) → scope_s ed Γ Δ s ≡ None → All (order_s s) → Marked Γ → Offered Δ → EachS s P
     each_s (input n c) ed Γ Δ s h g o = tt
     each_s (time n) ed Γ Δ s h g o = tt
     each_s (ext n e) ed Γ Δ s h g o = each_e e Γ s (l1 (order_e e) n h) g
@@ -153,7 +153,7 @@ module _ (P : ℕ → Type 0) where
         let a = l1 (order_s x ++ order_c cs) n h in
         (each_s x ed Γ [] z.0 (l2 (order_s x) (order_c cs) a) g no_offer, each_c cs ed Γ Δ z.1 (r2 (order_s x) (order_c cs) a) g o)
 
-    pub each_b : (brs : Branches) (ed : ℕ) (Γ : Marks) (Δ : Offers) → scope_b ed Γ Δ brs ≡ Nowhere → All (order_b brs) → Marked Γ → Offered Δ → EachB brs P
+    pub each_b : (brs : Branches) (ed : ℕ) (Γ : Marks) (Δ : Offers) → scope_b ed Γ Δ brs ≡ None → All (order_b brs) → Marked Γ → Offered Δ → EachB brs P
     each_b no_branch ed Γ Δ s h g o = tt
     each_b (branch n t x brs) ed Γ Δ s h g o =
         let z = both _ _ s in
@@ -161,7 +161,7 @@ module _ (P : ℕ → Type 0) where
         let m = bind Γ n (top1 (order_s x ++ order_b brs) n h) g in
         (each_s x ed (mark Γ n) Δ z.0 (l2 (order_s x) (order_b brs) a) m o, each_b brs ed Γ Δ z.1 (r2 (order_s x) (order_b brs) a) g o)
 
-    pub each_c : (cs : Cases) (ed : ℕ) (Γ : Marks) (Δ : Offers) → scope_c ed Γ Δ cs ≡ Nowhere → All (order_c cs) → Marked Γ → Offered Δ → EachC cs P
+    pub each_c : (cs : Cases) (ed : ℕ) (Γ : Marks) (Δ : Offers) → scope_c ed Γ Δ cs ≡ None → All (order_c cs) → Marked Γ → Offered Δ → EachC cs P
     each_c no_case ed Γ Δ s h g o = tt
     each_c (case n x target t cs) ed Γ Δ s h g o =
         let z = both _ _ s in
@@ -170,5 +170,5 @@ module _ (P : ℕ → Type 0) where
         (o target (holds _ n z.0), each_s x ed Γ [] z₁.0 (l2 (order_s x) (order_c cs) a) g no_offer, each_c cs ed Γ Δ z₁.1 (r2 (order_s x) (order_c cs) a) g o)
 
 -- Every binder and target is in the tree's order.
-pub named_inside : (e₀ : ℕ) (s : Signal) → scope_s e₀ (unmarked most_nodes) [] s ≡ Nowhere → EachS s (λ b. In b (order_s s))
+pub named_inside : (e₀ : ℕ) (s : Signal) → scope_s e₀ (unmarked most_nodes) [] s ≡ None → EachS s (λ b. In b (order_s s))
 named_inside e₀ s h = each_s (λ b. In b (order_s s)) s e₀ (unmarked most_nodes) [] h (λ x i. i) (λ x i. absurd (none_marked most_nodes x i)) (no_offer (λ b. In b (order_s s)))

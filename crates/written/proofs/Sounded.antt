@@ -1,5 +1,6 @@
 -- A sound tree written reads back; and the tree of an accepted program is sound.
 -- Assumes nothing.
+use Rattle.std.specs.Prelude.{None}
 use mathlib.Core.Path.{◌≡◌, refl, sym, ap, ◌∙◌}
 use mathlib.Core.List.{[]}
 use Prim.Native.Nat.{ℕ, zero, suc, ◌+◌, ◌-◌, ◌<◌, ◌≤◌}
@@ -12,7 +13,6 @@ use Rattle.rules.specs.Scope.{scope_s, scope_fault, unmarked}
 use Rattle.rules.specs.Size.{size_s}
 use Rattle.rules.specs.Accepted.{Formed, Accepted}
 use Rattle.rules.specs.Tree.{Signal, signal_at, root}
-use Rattle.rules.specs.declared.Place.TheVariants.{Nowhere}
 use Rattle.rules.proofs.Rooted.{some_node, root_of}
 use Rattle.rules.proofs.Once.{tree_small}
 use Rattle.written.specs.Order.{order_s, In}
@@ -52,7 +52,7 @@ module _ (τ : ℕ → ℕ) (s : Signal) (sound : Sound τ s) where
     pub sound_formed : e₀ ≤ 1 → Formed (written e₀ s)
     sound_formed = written_formed e₀ s sound_right sound.few
 
-    pub sound_shaped : first (shape_wrong (written e₀ s)) (nodes (written e₀ s)) ≡ Nowhere
+    pub sound_shaped : first (shape_wrong (written e₀ s)) (nodes (written e₀ s)) ≡ None
     sound_shaped = written_shaped e₀ s sound_right sound.few
 
     -- The type byte of a new number is that of the old one.

@@ -1,6 +1,6 @@
 -- The table of a part has the right format and shape: codes 1-5 do not occur.
 -- Assumes nothing.
-use Rattle.std.specs.Prelude.{if◌then◌else◌}
+use Rattle.std.specs.Prelude.{if◌then◌else◌, Option, Some, None, ℕ}
 use mathlib.Core.Path.{◌≡◌, refl, sym, ap, ◌∙◌}
 use mathlib.Core.List.{List, [], ◌∷◌, ◌++◌}
 use mathlib.Core.Bool.{Bool, true, false, not}
@@ -19,8 +19,6 @@ use Rattle.rules.specs.Accepted.{Formed}
 use Rattle.rules.specs.Node.{IsNode}
 use Rattle.rules.specs.declared.Node.{Node}
 use Rattle.rules.specs.declared.Field.{Field}
-use Rattle.rules.specs.declared.Place.{Place}
-use Rattle.rules.specs.declared.Place.TheVariants.{At, Nowhere}
 use Rattle.rules.proofs.Static.{not_both}
 use Rattle.written.specs.Parts.{Part, part, Slot, holds, child, size_p, size_k, last_p, row_p, rows_p, rows_k}
 use Rattle.written.specs.Table.{row_bytes, rows_bytes, blocks_from, blocks_for, table_of}
@@ -35,25 +33,25 @@ step_no : (test : ℕ → Bool) (left k : ℕ) → test k ≡ false → first_fr
 unfolding first_from
 step_no test left k e = rw (e, first_from)
 
-step_yes : (test : ℕ → Bool) (left k : ℕ) → test k ≡ true → first_from test k (suc left) ≡ At k
+step_yes : (test : ℕ → Bool) (left k : ℕ) → test k ≡ true → first_from test k (suc left) ≡ Some k
 unfolding first_from
 step_yes test left k e = rw (e, first_from)
 
-step_none : (test : ℕ → Bool) (k : ℕ) → first_from test k 0 ≡ Nowhere
+step_none : (test : ℕ → Bool) (k : ℕ) → first_from test k 0 ≡ None
 unfolding first_from
 step_none test k = refl
 
-nowhere : (test : ℕ → Bool) (left k : ℕ) → ((m : ℕ) → k ≤ m → m < k + left → test m ≡ false) → first_from test k left ≡ Nowhere
+nowhere : (test : ℕ → Bool) (left k : ℕ) → ((m : ℕ) → k ≤ m → m < k + left → test m ≡ false) → first_from test k left ≡ None
 nowhere test zero k h = step_none test k
 nowhere test (suc left) k h = step_no test left k (h k (omega arith) (omega arith)) ∙ nowhere test left (suc k) λ m l g. h m (omega arith) (omega arith)
 
-pub all_nowhere : (test : ℕ → Bool) (count : ℕ) → ((m : ℕ) → m < count → test m ≡ false) → first test count ≡ Nowhere
+pub all_nowhere : (test : ℕ → Bool) (count : ℕ) → ((m : ℕ) → m < count → test m ≡ false) → first test count ≡ None
 unfolding first
 all_nowhere test count h = nowhere test count 0 λ m l g. h m (omega arith)
 
 stop_here : (test : ℕ → Bool) (left k d : ℕ) → test k ≡ true → place_or (first_from test k (suc left)) d ≡ k
 unfolding place_or
-stop_here test left k d e = ap (λ (x : Place). place_or x d) (step_yes test left k e)
+stop_here test left k d e = ap (λ (x : Option ℕ). place_or x d) (step_yes test left k e)
 
 stops_at : (test : ℕ → Bool) (left k n d : ℕ) → d ≡ k + left → k ≤ n → n ≤ d → ((m : ℕ) → m < n → test m ≡ false) → (n < d → test n ≡ true)
     → place_or (first_from test k left) d ≡ n
@@ -62,7 +60,7 @@ stops_at test zero k n d e l g h j = omega arith
 stops_at test (suc left) k n d e l g h j = go (dec_lt k n) (λ i. stops_at test left (suc k) n d (omega arith) i g h j)
   where
     go : Dec (k < n) → (k < n → place_or (first_from test (suc k) left) d ≡ n) → place_or (first_from test k (suc left)) d ≡ n
-    go (yes i) more = ap (λ (x : Place). place_or x d) (step_no test left k (h k i)) ∙ more i
+    go (yes i) more = ap (λ (x : Option ℕ). place_or x d) (step_no test left k (h k i)) ∙ more i
     go (no i) more =
         let z : n ≡ k = omega arith in
         stop_here test left k d (ap test (sym z) ∙ j (omega arith)) ∙ sym z
@@ -286,7 +284,7 @@ module _ (e₀ : ℕ) (p : Part) (right : RightP p) (few : size_p p ≤ 1008) wh
       let k : is_signal (kind_at q r) ≡ true = ap (λ (x : ℕ). is_signal (kind_at q x)) z ∙ ap is_signal (kind_of p q 0 table_held) ∙ h in
       simp ((table_fine r (omega arith)).children_right, eq-eqb (suc r) (nodes q) (omega (arith, nodes_is)), k)
 
-  pub table_shaped : is_signal (kind_p p) ≡ true → first (shape_wrong q) (nodes q) ≡ Nowhere
+  pub table_shaped : is_signal (kind_p p) ≡ true → first (shape_wrong q) (nodes q) ≡ None
   table_shaped h = all_nowhere (shape_wrong q) (nodes q) λ r g. go r (omega (arith, nodes_is)) (dec_lt (suc r) n)
     where
       go : (r : ℕ) → r < n → Dec (suc r < n) → shape_wrong q r ≡ false

@@ -1,5 +1,4 @@
 use mathlib.Core.Path.{◌≡◌, refl, sym, ap, ◌∙◌}
-use Prim.Native.Nat.{◌-◌}
 use native.Mathlib.Omega.{arith}
 use Rattle.rules.specs.Bytes.{how_many}
 use Rattle.rules.specs.Layout.{cells_before}
@@ -9,7 +8,7 @@ use Rattle.cells.proofs.count_cells.Goals.{then-has_cell, else-has_cell}
 
 pub loop-i-init : goal.loop-i-init
 unfolding cells_before how_many
-loop-i-init c = (omega arith, refl)
+loop-i-init c = refl
 
 pub kind_of-requires : goal.kind_of-requires
 kind_of-requires c = let s = c.requires.0 in (omega (arith, s.within), omega (arith, s.small))
@@ -17,23 +16,15 @@ kind_of-requires c = let s = c.requires.0 in (omega (arith, s.within), omega (ar
 pub overflow_add-seen : goal.overflow_add-seen
 overflow_add-seen c = omega (arith, cells_most c.args.p.now c.loop-i.i)
 
-pub overflow_add-i : goal.overflow_add-i
-overflow_add-i c = omega arith
-
-pub loop-i-smaller : goal.loop-i-smaller
-loop-i-smaller c = omega arith
-
 pub loop-i-preserved : goal.loop-i-preserved
 loop-i-preserved c = let p = c.args.p.now in
     let has = c.has_cell.ensures in
-    let kind = c.kind_of.ensures in (
-      omega arith,
-      elim c.if-has_cell.branch [
-        | then-has_cell y ↦ y.seen-is ∙ counts_cell p c.loop-i.i _ _ c.loop-i.invariant.1 kind (sym has ∙ y.if-has_cell.true)
-        | else-has_cell n ↦ n.seen-is ∙ counts_none p c.loop-i.i _ _ c.loop-i.invariant.1 kind (sym has ∙ n.if-has_cell.false)
-      ],
-    )
+    let kind = c.kind_of.ensures in
+    elim c.if-has_cell.branch [
+      | then-has_cell y ↦ y.seen-is ∙ counts_cell p c.loop-i.i _ _ c.loop-i.invariant kind (sym has ∙ y.if-has_cell.true)
+      | else-has_cell n ↦ n.seen-is ∙ counts_none p c.loop-i.i _ _ c.loop-i.invariant kind (sym has ∙ n.if-has_cell.false)
+    ]
 
 pub returns : goal.returns
 returns c = let e : c.loop-i.i ≡ c.args.count = omega arith in
-    c.loop-i.invariant.1 ∙ ap (cells_before c.args.p.now) e
+    c.loop-i.invariant ∙ ap (cells_before c.args.p.now) e

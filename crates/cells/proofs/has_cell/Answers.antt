@@ -1,17 +1,21 @@
-use mathlib.Core.Path.{refl}
-use borrow.Author.Tests.{ne_eqb}
+use Rattle.std.proofs.lemmas.Bool.Decides.{nat_tests}
+use native.Mathlib.Omega.{arith}
 use Rattle.rules.specs.Bytes.{◌or◌}
 use Rattle.rules.specs.Layout.{has_cell}
 use Rattle.cells.proofs.has_cell.Goals as goal
 
-pub returns-then-k-eq4 : goal.returns-then-k-eq4
+pub returns-in_default : goal.returns-in_default
 unfolding has_cell ◌or◌
-returns-then-k-eq4 c = rw c.if-k-eq4.true refl
+returns-in_default c = grind (arith, nat_tests)
 
-pub returns-then-k-eq6 : goal.returns-then-k-eq6
+pub returns-in_default-2 : goal.returns-in_default-2
 unfolding has_cell ◌or◌
-returns-then-k-eq6 c = rw (ne_eqb _ 4 c.if-k-eq4.false, c.if-k-eq6.true) refl
+returns-in_default-2 c = grind (arith, nat_tests)
 
-pub returns : goal.returns
+pub returns-in-4 : goal.returns-in-4
 unfolding has_cell ◌or◌
-returns c = rw (ne_eqb _ 4 c.if-k-eq4.false, ne_eqb _ 6 c.if-k-eq6.false) refl
+returns-in-4 c = grind (arith, nat_tests)
+
+pub returns-in-4-2 : goal.returns-in-4-2
+unfolding has_cell ◌or◌
+returns-in-4-2 c = grind (arith, nat_tests)

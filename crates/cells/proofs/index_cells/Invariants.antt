@@ -1,12 +1,8 @@
 use Rattle.cells.proofs.Numbered.{Below}
 use Rattle.rules.specs.Layout.{cells_before}
 use lib.ListN.{length}
-use Prim.Native.Nat.{◌≤◌, ◌-◌}
 use mathlib.Core.Path.{◌≡◌}
 use Rattle.cells.proofs.index_cells.Given as goal
 
 abbrev pub invariant-loop-i : goal.invariant-loop-i
-invariant-loop-i l = (l.i ≤ l.count) × (l.seen ≡ cells_before l.p l.i) × (length l.index ≡ length l.initial.index) × Below l.p l.index l.i
-
-abbrev pub decreases-loop-i : goal.decreases-loop-i
-decreases-loop-i l = l.count - l.i
+invariant-loop-i l = (l.seen ≡ cells_before l.p l.i) × (length l.index ≡ length l.initial.index) × Below l.p l.index l.i

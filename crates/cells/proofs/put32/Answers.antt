@@ -4,4 +4,4 @@ use mathlib.Core.Path.{ap, ◌∙◌}
 use Rattle.cells.proofs.put32.Goals as goal
 
 pub returns : goal.returns
-returns c = c.put.ensures ∙ ap (λ (x : ℕ). write_at c.args.s.now c.args.at (bytes_of 4 x)) c.wide.ensures.0
+returns c = c.put.ensures ∙ ap (λ (x : ℕ). write_at c.args.s.now c.args.at (bytes_of 4 x)) c.from.ensures

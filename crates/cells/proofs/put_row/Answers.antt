@@ -9,8 +9,8 @@ node-n-requires c = (omega (arith, c.requires.0.within, c.requires.1), omega (ar
 pub node_at-at-requires : goal.node_at-at-requires
 node_at-at-requires c = (omega (arith, c.requires.0.within, c.requires.1), omega (arith, c.requires.0.small, c.requires.1))
 
-pub short_at-b-requires : goal.short_at-b-requires
-short_at-b-requires c = omega (arith, c.node_at-at.ensures.1)
+pub half_at-b-requires : goal.half_at-b-requires
+half_at-b-requires c = omega (arith, c.node_at-at.ensures.1)
 
 pub overflow_add-i : goal.overflow_add-i
 overflow_add-i c = omega (arith, c.requires.0.small, c.requires.1)
@@ -27,8 +27,8 @@ store-requires-2 c = omega (arith, c.requires.0.small, c.requires.1, c.requires.
 pub overflow_add-i-3 : goal.overflow_add-i-3
 overflow_add-i-3 c = omega (arith, c.requires.0.small, c.requires.1)
 
-pub short_at-requires : goal.short_at-requires
-short_at-requires c = omega (arith, c.node_at-at.ensures.1)
+pub half_at-requires : goal.half_at-requires
+half_at-requires c = omega (arith, c.node_at-at.ensures.1)
 
 pub store-requires-3 : goal.store-requires-3
 store-requires-3 c = omega (arith, c.requires.0.small, c.requires.1, c.requires.2, c.store.ensures.long, c.store-2.ensures.long)
@@ -45,8 +45,8 @@ overflow_add-i-5 c = omega (arith, c.requires.0.small, c.requires.1)
 pub overflow_add-at-3 : goal.overflow_add-at-3
 overflow_add-at-3 c = omega (arith, c.node_at-at.ensures.0, place_small c.args.i (omega (arith, c.requires.0.small, c.requires.1)))
 
-pub short_at-requires-2 : goal.short_at-requires-2
-short_at-requires-2 c = omega (arith, c.node_at-at.ensures.1)
+pub half_at-requires-2 : goal.half_at-requires-2
+half_at-requires-2 c = omega (arith, c.node_at-at.ensures.1)
 
 pub store-requires-5 : goal.store-requires-5
 store-requires-5 c = omega (arith, c.requires.0.small, c.requires.1, c.requires.2, c.store.ensures.long, c.store-2.ensures.long, c.store-3.ensures.long, c.store-4.ensures.long)
@@ -64,4 +64,4 @@ pub shape_of-index : goal.shape_of-index
 shape_of-index c = c.store_value.ensures.long ∙ c.store-5.ensures.long ∙ c.store-4.ensures.long ∙ c.store-3.ensures.long ∙ c.store-2.ensures.long ∙ c.store.ensures.long
 
 pub returns : goal.returns
-returns c = row_put c.args.p.now c.args.i (omega (arith, c.requires.0.small, c.requires.1)) c.node_at-at.ensures.0 c.node-n.ensures (omega (arith, c.wide16.ensures.0, c.wide16.ensures.1)) (omega (arith, c.wide16-2.ensures.0, c.wide16-2.ensures.1)) c.wide16.ensures.0 c.wide16-2.ensures.0 c.short_at.ensures.0 c.short_at-b.ensures.0 c.short_at-2.ensures.0 c.pack_from-v.ensures c.store.ensures c.store-2.ensures c.store-3.ensures c.store-4.ensures c.store-5.ensures c.store_value.ensures
+returns c = row_put c.args.p.now c.args.i (omega (arith, c.requires.0.small, c.requires.1)) c.node_at-at.ensures.0 c.node-n.ensures (omega (arith, c.from-2.ensures)) (omega (arith, c.from-3.ensures)) c.from-2.ensures c.from-3.ensures c.half_at.ensures c.half_at-b.ensures c.half_at-2.ensures (rw c.from.ensures at c.pack_from-v.ensures) c.store.ensures c.store-2.ensures c.store-3.ensures c.store-4.ensures c.store-5.ensures c.store_value.ensures

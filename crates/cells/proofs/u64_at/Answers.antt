@@ -4,4 +4,4 @@ use Rattle.cells.proofs.u64_at.Goals as goal
 
 pub returns : goal.returns
 unfolding u64_at
-returns c = omega (arith, c.u32_at.ensures, c.u32_at-2.ensures, c.wide.ensures, c.wide-2.ensures)
+returns c = omega (arith, c.u32_at.ensures, c.u32_at-2.ensures, c.from.ensures, c.from-2.ensures)

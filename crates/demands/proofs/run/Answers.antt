@@ -4,12 +4,12 @@ use Rattle.rules.specs.Bytes.{byte_at}
 use Rattle.mission.proofs.Demands.{run_demands}
 use Rattle.demands.proofs.run.Goals as goal
 
-pub returns-in-Finished : goal.returns-in-Finished
+pub returns-in-Ok : goal.returns-in-Ok
 unfolding byte_at
-returns-in-Finished c = run_demands _ _ _ _ (record { small = λ i. omega (arith, c.shared_slice_known-1.given i) }) (record { small = λ i. omega (arith, c.slice_known-1.given i) }) (record { small = λ i. omega (arith, c.shared_slice_known-2-1.given i) })
-    (sym c.in-Finished.is ∙ c.run-answer.ensures.0) c.run-answer.ensures.1 c.run-answer.ensures.2
+returns-in-Ok c = run_demands _ _ _ _ (record { small = λ i. omega (arith, c.shared_slice_known-1.given i) }) (record { small = λ i. omega (arith, c.slice_known-1.given i) }) (record { small = λ i. omega (arith, c.shared_slice_known-2-1.given i) })
+    (sym c.in-Ok.is ∙ c.run-answer.ensures.0) c.run-answer.ensures.1 c.run-answer.ensures.2
 
-pub returns-in-Refused : goal.returns-in-Refused
+pub returns-in-Err : goal.returns-in-Err
 unfolding byte_at
-returns-in-Refused c = run_demands _ _ _ _ (record { small = λ i. omega (arith, c.shared_slice_known-1.given i) }) (record { small = λ i. omega (arith, c.slice_known-1.given i) }) (record { small = λ i. omega (arith, c.shared_slice_known-2-1.given i) })
-    (sym c.in-Refused.is ∙ c.run-answer.ensures.0) c.run-answer.ensures.1 c.run-answer.ensures.2
+returns-in-Err c = run_demands _ _ _ _ (record { small = λ i. omega (arith, c.shared_slice_known-1.given i) }) (record { small = λ i. omega (arith, c.slice_known-1.given i) }) (record { small = λ i. omega (arith, c.shared_slice_known-2-1.given i) })
+    (sym c.in-Err.is ∙ c.run-answer.ensures.0) c.run-answer.ensures.1 c.run-answer.ensures.2

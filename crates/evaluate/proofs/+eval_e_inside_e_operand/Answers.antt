@@ -90,7 +90,7 @@ eval_e-operand-requires-in-27 t c = let p = c.args.p.now.now in
     let i = c.args.i in
     let ready = c.requires in
     let node = c.node_by-n.ensures in
-    let k = chosen_part p i ready.node ready.small (sym node.kind_is ∙ c.in-27.is) (outcome_in c.operand-test.result) node.b_is node.c_is (sym c.chosen.ensures ∙ c.in-Go.is) in
+    let k = chosen_part p i ready.node ready.small (sym node.kind_is ∙ c.in-27.is) (outcome_in c.operand-test.result) node.b_is node.c_is (sym c.chosen.ensures ∙ c.in-Some.is) in
     (omega (arith, k.less, c.decreases), next_e ready c.operand-test.ensures.2 k)
 
 pub eval_e-later-requires : goal.eval_e-later-requires
@@ -98,8 +98,8 @@ eval_e-later-requires t c = let p = c.args.p.now.now in
     let i = c.args.i in
     let ready = c.requires in
     let node = c.node_by-n.ensures in
-    let go = (sym c.chosen.ensures ∙ c.in-Go.is) in
-    (c.operand-in-27.ensures.1, omega (arith, arm_work _ _ (outcome_in c.operand-test.result) go, pair_work p c.node_by-n.result.a c.in-Go.arm _ _ (choice_pair p i ready.node ready.small (sym node.kind_is ∙ c.in-27.is) (outcome_in c.operand-test.result) node.a_is node.b_is node.c_is go) c.operand-test.ensures.0 c.operand-in-27.ensures.0))
+    let go = (sym c.chosen.ensures ∙ c.in-Some.is) in
+    (c.operand-in-27.ensures.1, omega (arith, arm_work _ _ (outcome_in c.operand-test.result) go, pair_work p c.node_by-n.result.a c.in-Some.arm.at _ _ (choice_pair p i ready.node ready.small (sym node.kind_is ∙ c.in-27.is) (outcome_in c.operand-test.result) node.a_is node.b_is node.c_is go) c.operand-test.ensures.0 c.operand-in-27.ensures.0))
 
 pub eval_e-operand-requires-in-28 : goal.eval_e-operand-requires-in-28
 eval_e-operand-requires-in-28 t c = let p = c.args.p.now.now in
@@ -146,7 +146,7 @@ eval_e-later-requires-in_default-event t c = let p = c.args.p.now.now in
     let i = c.args.i in
     let ready = c.requires in
     let node = c.node_by-n.ensures in
-    (c.eval_e.ensures.1, omega (arith, take_work (outcome_in c.operand-maybe.result) (sym c.apart.ensures ∙ c.in-Maybe.is), pair_work p c.node_by-n.result.a c.node_by-n.result.b _ _ (taking_pairs p i ready.node ready.small (sym node.kind_is ∙ c.in-29.is) node.a_is node.b_is node.c_is).0 c.operand-maybe.ensures.0 c.eval_e.ensures.0))
+    (c.eval_e.ensures.1, omega (arith, take_work (outcome_in c.operand-maybe.result) (sym c.apart.ensures ∙ c.in-Some-apart.is), pair_work p c.node_by-n.result.a c.node_by-n.result.b _ _ (taking_pairs p i ready.node ready.small (sym node.kind_is ∙ c.in-29.is) node.a_is node.b_is node.c_is).0 c.operand-maybe.ensures.0 c.eval_e.ensures.0))
 
 pub eval_e-returns-in_default-event : goal.eval_e-returns-in_default-event
 eval_e-returns-in_default-event t c = let p = c.args.p.now.now in
@@ -154,7 +154,7 @@ eval_e-returns-in_default-event t c = let p = c.args.p.now.now in
     let w = c.requires.node in
     let env = c.args.env.now in
     let node = c.node_by-n.ensures in
-    (later_said p i w env c.in-Maybe.count (taking_absent p i w env (sym node.kind_is ∙ c.in-29.is) node.a_is c.operand-maybe.ensures.0 (sym c.apart.ensures ∙ c.in-Maybe.is) c.in_default-event.is) node.b_is c.operand-maybe.ensures.2 c.eval_e.ensures.0 c.later-in_default-event.ensures.0, c.later-in_default-event.ensures.1, c.eval_e.ensures.2 ∙ c.operand-maybe.ensures.2)
+    (later_said p i w env c.in-Some-apart.parts.count (taking_absent p i w env (sym node.kind_is ∙ c.in-29.is) node.a_is c.operand-maybe.ensures.0 (sym c.apart.ensures ∙ c.in-Some-apart.is) c.in_default-event.is) node.b_is c.operand-maybe.ensures.2 c.eval_e.ensures.0 c.later-in_default-event.ensures.0, c.later-in_default-event.ensures.1, c.eval_e.ensures.2 ∙ c.operand-maybe.ensures.2)
 
 pub eval_e-inside_e-requires : goal.eval_e-inside_e-requires
 eval_e-inside_e-requires t c = let p = c.args.p.now.now in
@@ -163,14 +163,14 @@ eval_e-inside_e-requires t c = let p = c.args.p.now.now in
     let node = c.node_by-n.ensures in
     let w = ready.node in
     let k = read node.c_is (taking_parts p i ready.node ready.small (sym node.kind_is ∙ c.in-29.is)).2 in
-    (omega (arith, k.less, c.decreases), (next_e ready c.operand-maybe.ensures.2 k, omega (arith, w.inside, w.shaped.small), take_value (outcome_in c.operand-maybe.result) (sym c.apart.ensures ∙ c.in-Maybe.is) c.in-Occurs.is))
+    (omega (arith, k.less, c.decreases), (next_e ready c.operand-maybe.ensures.2 k, omega (arith, w.inside, w.shaped.small), take_value (outcome_in c.operand-maybe.result) (sym c.apart.ensures ∙ c.in-Some-apart.is) c.in-Some-event.is))
 
 pub eval_e-later-requires-in-29 : goal.eval_e-later-requires-in-29
 eval_e-later-requires-in-29 t c = let p = c.args.p.now.now in
     let i = c.args.i in
     let ready = c.requires in
     let node = c.node_by-n.ensures in
-    (c.inside_e.ensures.1, omega (arith, take_work (outcome_in c.operand-maybe.result) (sym c.apart.ensures ∙ c.in-Maybe.is), pair_work p c.node_by-n.result.a c.node_by-n.result.c _ _ (taking_pairs p i ready.node ready.small (sym node.kind_is ∙ c.in-29.is) node.a_is node.b_is node.c_is).1 c.operand-maybe.ensures.0 c.inside_e.ensures.0))
+    (c.inside_e.ensures.1, omega (arith, take_work (outcome_in c.operand-maybe.result) (sym c.apart.ensures ∙ c.in-Some-apart.is), pair_work p c.node_by-n.result.a c.node_by-n.result.c _ _ (taking_pairs p i ready.node ready.small (sym node.kind_is ∙ c.in-29.is) node.a_is node.b_is node.c_is).1 c.operand-maybe.ensures.0 c.inside_e.ensures.0))
 
 pub eval_e-operand-x-requires-in_default : goal.eval_e-operand-x-requires-in_default
 eval_e-operand-x-requires-in_default t c = let p = c.args.p.now.now in
@@ -203,13 +203,13 @@ eval_e-returns-in-24 t c = let p = c.args.p.now.now in
     let node = c.node_by-n.ensures in
     (negation_said p i w env (sym node.kind_is ∙ c.in-24.is) node.a_is c.operand.ensures.0 c.negated.ensures.0, c.negated.ensures.1, c.operand.ensures.2)
 
-pub eval_e-returns-in-Go : goal.eval_e-returns-in-Go
-eval_e-returns-in-Go t c = let p = c.args.p.now.now in
+pub eval_e-returns-in-Some : goal.eval_e-returns-in-Some
+eval_e-returns-in-Some t c = let p = c.args.p.now.now in
     let i = c.args.i in
     let w = c.requires.node in
     let env = c.args.env.now in
     let node = c.node_by-n.ensures in
-    (later_said p i w env c.in-Go.count (choice_goes p i w env (sym node.kind_is ∙ c.in-27.is) node.a_is node.b_is node.c_is c.operand-test.ensures.0 (sym c.chosen.ensures ∙ c.in-Go.is)) refl c.operand-test.ensures.2 c.operand-in-27.ensures.0 c.later.ensures.0, c.later.ensures.1, c.operand-in-27.ensures.2 ∙ c.operand-test.ensures.2)
+    (later_said p i w env c.in-Some.arm.count (choice_goes p i w env (sym node.kind_is ∙ c.in-27.is) node.a_is node.b_is node.c_is c.operand-test.ensures.0 (sym c.chosen.ensures ∙ c.in-Some.is)) refl c.operand-test.ensures.2 c.operand-in-27.ensures.0 c.later.ensures.0, c.later.ensures.1, c.operand-in-27.ensures.2 ∙ c.operand-test.ensures.2)
 
 pub eval_e-returns-in-28 : goal.eval_e-returns-in-28
 eval_e-returns-in-28 t c = let p = c.args.p.now.now in
@@ -219,13 +219,13 @@ eval_e-returns-in-28 t c = let p = c.args.p.now.now in
     let node = c.node_by-n.ensures in
     (just_said p i w env (sym node.kind_is ∙ c.in-28.is) node.a_is c.operand-in-28.ensures.0 c.lifted.ensures.0, c.lifted.ensures.1, c.operand-in-28.ensures.2)
 
-pub eval_e-returns-in-Occurs : goal.eval_e-returns-in-Occurs
-eval_e-returns-in-Occurs t c = let p = c.args.p.now.now in
+pub eval_e-returns-in-Some-event : goal.eval_e-returns-in-Some-event
+eval_e-returns-in-Some-event t c = let p = c.args.p.now.now in
     let i = c.args.i in
     let w = c.requires.node in
     let env = c.args.env.now in
     let node = c.node_by-n.ensures in
-    (later_said p i w env c.in-Maybe.count (taking_present p i w env (sym node.kind_is ∙ c.in-29.is) node.a_is c.operand-maybe.ensures.0 (sym c.apart.ensures ∙ c.in-Maybe.is) c.in-Occurs.is) node.c_is (ap (λ (l : List ℕ). bind l i (unpacked c.in-Occurs.v)) c.operand-maybe.ensures.2) c.inside_e.ensures.0 c.later-in-29.ensures.0, c.later-in-29.ensures.1, c.inside_e.ensures.2 ∙ c.operand-maybe.ensures.2)
+    (later_said p i w env c.in-Some-apart.parts.count (taking_present p i w env (sym node.kind_is ∙ c.in-29.is) node.a_is c.operand-maybe.ensures.0 (sym c.apart.ensures ∙ c.in-Some-apart.is) c.in-Some-event.is) node.c_is (ap (λ (l : List ℕ). bind l i (unpacked c.in-Some-event.v)) c.operand-maybe.ensures.2) c.inside_e.ensures.0 c.later-in-29.ensures.0, c.later-in-29.ensures.1, c.inside_e.ensures.2 ∙ c.operand-maybe.ensures.2)
 
 pub eval_e-returns-in_default : goal.eval_e-returns-in_default
 eval_e-returns-in_default t c = let p = c.args.p.now.now in

@@ -66,7 +66,7 @@ eval_s-inside_s-requires t c = let p = c.args.p.now.now in
     let rec = c.args.rec.now.now in
     let st = c.args.st.now.now in
     let k = read_s node.b_is (let_parts p i w small (sym node.kind_is ∙ c.in-5.is)).1 in
-    (omega (arith, k.less, c.decreases), (record { node = k.node; indexed = c.requires.0.indexed; state = c.requires.0.state; slots = subst Slots (sym c.part-d.ensures.2) c.requires.0.slots; small = k.small }, omega (arith, w.inside, w.shaped.small), shown_exact c.part-d.result c.part-d.ensures.1 (sym c.show.ensures ∙ c.in-Value.is), noted_set i c.part-d.result rec st env w c.part-d.ensures.3.noted c.part-d.ensures.1 (c.part-d.ensures.0 ∙ ap (λ (a : ℕ). eval_s rec st env (signal_at p a)) node.a_is) (omega (arith, w.inside, w.shaped.small))))
+    (omega (arith, k.less, c.decreases), (record { node = k.node; indexed = c.requires.0.indexed; state = c.requires.0.state; slots = subst Slots (sym c.part-d.ensures.2) c.requires.0.slots; small = k.small }, omega (arith, w.inside, w.shaped.small), shown_exact c.part-d.result c.part-d.ensures.1 (sym c.show.ensures ∙ c.in-Some.is), noted_set i c.part-d.result rec st env w c.part-d.ensures.3.noted c.part-d.ensures.1 (c.part-d.ensures.0 ∙ ap (λ (a : ℕ). eval_s rec st env (signal_at p a)) node.a_is) (omega (arith, w.inside, w.shaped.small))))
 
 pub eval_s-later-requires : goal.eval_s-later-requires
 eval_s-later-requires t c = let p = c.args.p.now.now in
@@ -74,7 +74,7 @@ eval_s-later-requires t c = let p = c.args.p.now.now in
     let w = c.requires.0.node in
     let small = c.requires.0.small in
     let node = c.node_by-n.ensures in
-    (c.inside_s.ensures.1, omega (arith, shown_work c.part-d.result (sym c.show.ensures ∙ c.in-Value.is), let_work p c.node_by-n.result.a c.node_by-n.result.b _ _ _ _ (let_pair p i w small (sym node.kind_is ∙ c.in-5.is) node.a_is node.b_is) c.part-d.ensures.0 c.inside_s.ensures.0))
+    (c.inside_s.ensures.1, omega (arith, shown_work c.part-d.result (sym c.show.ensures ∙ c.in-Some.is), let_work p c.node_by-n.result.a c.node_by-n.result.b _ _ _ _ (let_pair p i w small (sym node.kind_is ∙ c.in-5.is) node.a_is node.b_is) c.part-d.ensures.0 c.inside_s.ensures.0))
 
 pub eval_s-own_cell-m-requires : goal.eval_s-own_cell-m-requires
 eval_s-own_cell-m-requires t c = let p = c.args.p.now.now in
@@ -219,15 +219,15 @@ eval_s-through-requires t c = let p = c.args.p.now.now in
     let k = read_s node.a_is (until_part p i w small (until_alone p i w node.kind_is c.if-k-le4.false c.in_default.in_default-own.rest)) in
     (omega (arith, k.less, c.decreases), (record { node = k.node; indexed = c.requires.0.indexed; state = c.requires.0.state; slots = c.requires.0.slots; small = k.small }, c.requires.1))
 
-pub eval_s-returns-in-Value : goal.eval_s-returns-in-Value
-eval_s-returns-in-Value t c = let p = c.args.p.now.now in
+pub eval_s-returns-in-Some : goal.eval_s-returns-in-Some
+eval_s-returns-in-Some t c = let p = c.args.p.now.now in
     let i = c.args.i in
     let w = c.requires.0.node in
     let env = c.args.env.now in
     let rec = c.args.rec.now.now in
     let st = c.args.st.now.now in
     let node = c.node_by-n.ensures in
-    let told = sym c.show.ensures ∙ c.in-Value.is in
+    let told = sym c.show.ensures ∙ c.in-Some.is in
     (let_goes p i w rec st env (sym node.kind_is ∙ c.in-5.is) node.a_is node.b_is c.part-d.ensures.0 (shown_value c.part-d.result told) c.part-d.ensures.2 c.inside_s.ensures.0 c.later.ensures.0, c.later.ensures.1, c.inside_s.ensures.2 ∙ c.part-d.ensures.2, let_notes p i w rec st env (sym node.kind_is ∙ c.in-5.is) c.part-d.result node.a_is node.b_is c.part-d.ensures.0 (shown_value c.part-d.result told) c.part-d.ensures.2 (omega (arith, w.inside, w.shaped.small)) c.part-d.ensures.3 c.inside_s.ensures.3)
 
 pub eval_s-returns-else-m-eq0 : goal.eval_s-returns-else-m-eq0

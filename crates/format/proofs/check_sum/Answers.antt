@@ -5,36 +5,24 @@ use Rattle.format.proofs.check_sum.Goals as goal
 
 pub loop-i-init : goal.loop-i-init
 loop-i-init c = let none = from_end c.args.p.now c.args.at in
-    (omega arith, omega arith, omega arith, omega (arith, none.0), omega (arith, none.1))
-
-pub overflow_sub-i : goal.overflow_sub-i
-overflow_sub-i c = omega arith
-
-pub overflow_add-bytes : goal.overflow_add-bytes
-overflow_add-bytes c = omega arith
+    (omega arith, omega arith, omega (arith, none.0), omega (arith, none.1))
 
 pub bounds-p-at : goal.bounds-p-at
 bounds-p-at c = omega arith
 
-pub overflow_cast-bytes : goal.overflow_cast-bytes
-overflow_cast-bytes c = omega (arith, c.shared_slice_known-1.given (c.args.at + (c.loop-i.i - 1)))
-
-pub overflow_add-bytes-in-loop-i : goal.overflow_add-bytes-in-loop-i
-overflow_add-bytes-in-loop-i c = omega (arith, c.shared_slice_known-1.given (c.args.at + (c.loop-i.i - 1)))
+pub overflow_add-bytes : goal.overflow_add-bytes
+overflow_add-bytes c = omega (arith, c.shared_slice_known-1.given (c.args.at + (c.loop-i.i - 1)))
 
 pub overflow_add-sum : goal.overflow_add-sum
 overflow_add-sum c = omega (arith, c.shared_slice_known-1.given (c.args.at + (c.loop-i.i - 1)))
-
-pub loop-i-smaller : goal.loop-i-smaller
-loop-i-smaller c = omega arith
 
 pub loop-i-preserved : goal.loop-i-preserved
 loop-i-preserved c = let args = c.args in
     let turn = c.loop-i in
     let byte = c.shared_slice_known-1.given (args.at + (turn.i - 1)) in
-    let bytes = bytes_before args.p.now args.at turn.i c.requires c.loop-i-test.true turn.invariant.0 in
-    let check = check_before args.p.now args.at turn.i c.requires c.loop-i-test.true turn.invariant.0 in
-    (omega arith, omega (arith, byte), omega (arith, byte), omega (arith, bytes), omega (arith, bytes, check))
+    let bytes = bytes_before args.p.now args.at turn.i c.requires (omega arith) (omega arith) in
+    let check = check_before args.p.now args.at turn.i c.requires (omega arith) (omega arith) in
+    (omega (arith, byte), omega (arith, byte), omega (arith, bytes), omega (arith, bytes, check))
 
 pub returns : goal.returns
 returns c = let args = c.args in

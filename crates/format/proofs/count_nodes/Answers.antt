@@ -14,7 +14,7 @@ pub overflow_mul-count : goal.overflow_mul-count
 overflow_mul-count c = omega arith
 
 pub loop-r-init : goal.loop-r-init
-loop-r-init c = (omega arith, first_starts _ _)
+loop-r-init c = first_starts _ _
 
 pub kind_at-requires : goal.kind_at-requires
 unfolding blocks records
@@ -24,22 +24,16 @@ pub returns-then-kind_at-eq0 : goal.returns-then-kind_at-eq0
 unfolding blocks records
 returns-then-kind_at-eq0 c = let p = c.args.p.now in
     let here = sym (eq-eqb _ _ (sym c.kind_at.ensures ∙ c.if-kind_at-eq0.true)) in
-    let at = found (ends p) _ _ c.loop-r.invariant.1 _ c.loop-r-test.true here refl in
+    let at = found (ends p) _ _ c.loop-r.invariant _ (omega arith) here refl in
     (sym (nodes_at p _ (sym at)), omega (arith, most_bytes p c.requires))
-
-pub overflow_add-r : goal.overflow_add-r
-overflow_add-r c = omega arith
-
-pub loop-r-smaller : goal.loop-r-smaller
-loop-r-smaller c = omega arith
 
 pub loop-r-preserved : goal.loop-r-preserved
 loop-r-preserved c = let p = c.args.p.now in
     let other = sym (ne_eqb _ _ λ e. c.if-kind_at-eq0.false (c.kind_at.ensures ∙ e)) in
-    (omega arith, passed (ends p) _ _ c.loop-r.invariant.1 _ c.loop-r-test.true other refl)
+    passed (ends p) _ _ c.loop-r.invariant _ (omega arith) other refl
 
 pub returns : goal.returns
 unfolding blocks records
 returns c = let p = c.args.p.now in
-    let none = none_left (ends p) _ _ c.loop-r.invariant.1 c.loop-r-test.false in
+    let none = none_left (ends p) _ _ c.loop-r.invariant (omega arith) in
     (sym (nodes_all p (sym none)), omega (arith, most_bytes p c.requires))

@@ -4,7 +4,4 @@ use Rattle.format.proofs.SearchLaws.{Ahead}
 use Rattle.format.proofs.first_number.Given as goal
 
 abbrev pub invariant-loop-j : goal.invariant-loop-j
-invariant-loop-j l = (l.j ≤ l.count) × Ahead (number_wrong l.p) l.count l.j
-
-abbrev pub decreases-loop-j : goal.decreases-loop-j
-decreases-loop-j l = l.count - l.j
+invariant-loop-j l = Ahead (number_wrong l.p) l.count l.j

@@ -11,7 +11,7 @@ pub overflow_mul-count : goal.overflow_mul-count
 overflow_mul-count c = omega arith
 
 pub loop-r-init : goal.loop-r-init
-loop-r-init c = (omega arith, first_starts _ _)
+loop-r-init c = first_starts _ _
 
 pub record_wrong-requires : goal.record_wrong-requires
 unfolding blocks records
@@ -22,17 +22,11 @@ overflow_cast-result c = omega (arith, most_bytes _ c.requires)
 
 pub returns-then-record_wrong : goal.returns-then-record_wrong
 unfolding blocks records
-returns-then-record_wrong c = found _ _ _ c.loop-r.invariant.1 _ c.loop-r-test.true c.record_wrong.ensures c.if-record_wrong.true
-
-pub overflow_add-r : goal.overflow_add-r
-overflow_add-r c = omega arith
-
-pub loop-r-smaller : goal.loop-r-smaller
-loop-r-smaller c = omega arith
+returns-then-record_wrong c = found _ _ _ c.loop-r.invariant _ (omega arith) c.record_wrong.ensures c.if-record_wrong.true
 
 pub loop-r-preserved : goal.loop-r-preserved
-loop-r-preserved c = (omega arith, passed _ _ _ c.loop-r.invariant.1 _ c.loop-r-test.true c.record_wrong.ensures c.if-record_wrong.false)
+loop-r-preserved c = passed _ _ _ c.loop-r.invariant _ (omega arith) c.record_wrong.ensures c.if-record_wrong.false
 
 pub returns : goal.returns
 unfolding blocks records
-returns c = none_left _ _ _ c.loop-r.invariant.1 c.loop-r-test.false
+returns c = none_left _ _ _ c.loop-r.invariant (omega arith)

@@ -4,7 +4,4 @@ use Rattle.format.proofs.SearchLaws.{Ahead}
 use Rattle.format.proofs.first_record.Given as goal
 
 abbrev pub invariant-loop-r : goal.invariant-loop-r
-invariant-loop-r l = (l.r ≤ l.count) × Ahead (record_wrong l.p) l.count l.r
-
-abbrev pub decreases-loop-r : goal.decreases-loop-r
-decreases-loop-r l = l.count - l.r
+invariant-loop-r l = Ahead (record_wrong l.p) l.count l.r

@@ -8,7 +8,7 @@ use Rattle.format.proofs.SumLaws.{most_bytes}
 use Rattle.format.proofs.first_sum.Goals as goal
 
 pub loop-j-init : goal.loop-j-init
-loop-j-init c = (omega arith, first_starts _ _)
+loop-j-init c = first_starts _ _
 
 pub sum_wrong-requires : goal.sum_wrong-requires
 unfolding blocks records
@@ -19,17 +19,11 @@ overflow_cast-result c = omega (arith, most_bytes _ c.requires)
 
 pub returns-then-sum_wrong : goal.returns-then-sum_wrong
 unfolding blocks records
-returns-then-sum_wrong c = found _ _ _ c.loop-j.invariant.1 _ c.loop-j-test.true c.sum_wrong.ensures c.if-sum_wrong.true
-
-pub overflow_add-j : goal.overflow_add-j
-overflow_add-j c = omega arith
-
-pub loop-j-smaller : goal.loop-j-smaller
-loop-j-smaller c = omega arith
+returns-then-sum_wrong c = found _ _ _ c.loop-j.invariant _ (omega arith) c.sum_wrong.ensures c.if-sum_wrong.true
 
 pub loop-j-preserved : goal.loop-j-preserved
-loop-j-preserved c = (omega arith, passed _ _ _ c.loop-j.invariant.1 _ c.loop-j-test.true c.sum_wrong.ensures c.if-sum_wrong.false)
+loop-j-preserved c = passed _ _ _ c.loop-j.invariant _ (omega arith) c.sum_wrong.ensures c.if-sum_wrong.false
 
 pub returns : goal.returns
 unfolding blocks records
-returns c = none_left _ _ _ c.loop-j.invariant.1 c.loop-j-test.false
+returns c = none_left _ _ _ c.loop-j.invariant (omega arith)

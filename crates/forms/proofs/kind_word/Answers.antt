@@ -1,11 +1,11 @@
 use Rattle.forms.proofs.KindLaws.{no_kind_word}
 use Rattle.spell.proofs.WordLaws.{kind_row}
 use native.Mathlib.Omega.{arith}
-use Rattle.letters.proofs.WroteLaws.{wrote_none, wrote_as}
+use Rattle.letters.proofs.PutsLaws.{puts_none, puts_as}
 use Rattle.forms.proofs.kind_word.Goals as goal
 
 pub returns-then-k-lt30 : goal.returns-then-k-lt30
-returns-then-k-lt30 c = wrote_as (kind_row c.args.k c.if-k-lt30.true) c.put_word.ensures
+returns-then-k-lt30 c = puts_as (kind_row c.args.k c.if-k-lt30.true) c.word.ensures
 
-pub returns : goal.returns
-returns c = wrote_as (no_kind_word c.args.k (omega (arith, c.if-k-lt30.false))) (wrote_none _ _)
+pub returns-else-k-lt30 : goal.returns-else-k-lt30
+returns-else-k-lt30 c = puts_as (no_kind_word c.args.k (omega (arith, c.if-k-lt30.false))) (puts_none _)

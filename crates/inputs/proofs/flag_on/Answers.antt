@@ -3,4 +3,4 @@ use Rattle.inputs.proofs.flag_on.Goals as goal
 
 pub returns : goal.returns
 unfolding flag_on
-returns c = rw c.byte_at-flags.ensures
+returns c = rw (c.from-flags.ensures, c.byte_at.ensures)

@@ -1,5 +1,4 @@
 use mathlib.Core.Path.{refl}
-use borrow.Author.Rules.{rules}
 use Rattle.rules.specs.Bytes.{◌and◌, ◌or◌}
 use Rattle.rules.specs.Kinds.{row, is_signal, is_branch, is_case, is_expression, is_kind, fields_of}
 use Rattle.kinds.specs.Rows.{child_number, type_number, width, named_bits, row_number, row_of}
@@ -20,74 +19,6 @@ returns-in_default c = let rest = c.in_default.in_default-own.rest in
 pub returns-in_default-2 : goal.returns-in_default-2
 returns-in_default-2 c = let r = c.in_default.in_default-own.rest.0 in
     none_high _ c.in_default.if-k-lt27-own.false r.0.0.1 r.0.1 r.1
-
-pub row-requires : goal.row-requires
-unfolding row_of is_kind is_signal is_branch is_case is_expression ◌and◌ ◌or◌ fields_of row row_number named_bits width child_number type_number
-row-requires c = search rules
-
-pub row-requires-in-3 : goal.row-requires-in-3
-unfolding row_of is_kind is_signal is_branch is_case is_expression ◌and◌ ◌or◌ fields_of row row_number named_bits width child_number type_number
-row-requires-in-3 c = search rules
-
-pub row-requires-in-4 : goal.row-requires-in-4
-unfolding row_of is_kind is_signal is_branch is_case is_expression ◌and◌ ◌or◌ fields_of row row_number named_bits width child_number type_number
-row-requires-in-4 c = search rules
-
-pub row-requires-in-5 : goal.row-requires-in-5
-unfolding row_of is_kind is_signal is_branch is_case is_expression ◌and◌ ◌or◌ fields_of row row_number named_bits width child_number type_number
-row-requires-in-5 c = search rules
-
-pub row-requires-in-6 : goal.row-requires-in-6
-unfolding row_of is_kind is_signal is_branch is_case is_expression ◌and◌ ◌or◌ fields_of row row_number named_bits width child_number type_number
-row-requires-in-6 c = search rules
-
-pub row-requires-in-7 : goal.row-requires-in-7
-unfolding row_of is_kind is_signal is_branch is_case is_expression ◌and◌ ◌or◌ fields_of row row_number named_bits width child_number type_number
-row-requires-in-7 c = search rules
-
-pub row-requires-in-8 : goal.row-requires-in-8
-unfolding row_of is_kind is_signal is_branch is_case is_expression ◌and◌ ◌or◌ fields_of row row_number named_bits width child_number type_number
-row-requires-in-8 c = search rules
-
-pub row-requires-in-9 : goal.row-requires-in-9
-unfolding row_of is_kind is_signal is_branch is_case is_expression ◌and◌ ◌or◌ fields_of row row_number named_bits width child_number type_number
-row-requires-in-9 c = search rules
-
-pub row-requires-in-10 : goal.row-requires-in-10
-unfolding row_of is_kind is_signal is_branch is_case is_expression ◌and◌ ◌or◌ fields_of row row_number named_bits width child_number type_number
-row-requires-in-10 c = search rules
-
-pub row-requires-in-16 : goal.row-requires-in-16
-unfolding row_of is_kind is_signal is_branch is_case is_expression ◌and◌ ◌or◌ fields_of row row_number named_bits width child_number type_number
-row-requires-in-16 c = search rules
-
-pub row-requires-in-17 : goal.row-requires-in-17
-unfolding row_of is_kind is_signal is_branch is_case is_expression ◌and◌ ◌or◌ fields_of row row_number named_bits width child_number type_number
-row-requires-in-17 c = search rules
-
-pub row-requires-in-24 : goal.row-requires-in-24
-unfolding row_of is_kind is_signal is_branch is_case is_expression ◌and◌ ◌or◌ fields_of row row_number named_bits width child_number type_number
-row-requires-in-24 c = search rules
-
-pub row-requires-in-27 : goal.row-requires-in-27
-unfolding row_of is_kind is_signal is_branch is_case is_expression ◌and◌ ◌or◌ fields_of row row_number named_bits width child_number type_number
-row-requires-in-27 c = search rules
-
-pub row-requires-in-28 : goal.row-requires-in-28
-unfolding row_of is_kind is_signal is_branch is_case is_expression ◌and◌ ◌or◌ fields_of row row_number named_bits width child_number type_number
-row-requires-in-28 c = search rules
-
-pub row-requires-in-29 : goal.row-requires-in-29
-unfolding row_of is_kind is_signal is_branch is_case is_expression ◌and◌ ◌or◌ fields_of row row_number named_bits width child_number type_number
-row-requires-in-29 c = search rules
-
-pub row-requires-in-1-to-8 : goal.row-requires-in-1-to-8
-unfolding row_of is_kind is_signal is_branch is_case is_expression ◌and◌ ◌or◌ fields_of row row_number named_bits width child_number type_number
-row-requires-in-1-to-8 c = search rules
-
-pub row-requires-in-16-to-29 : goal.row-requires-in-16-to-29
-unfolding row_of is_kind is_signal is_branch is_case is_expression ◌and◌ ◌or◌ fields_of row row_number named_bits width child_number type_number
-row-requires-in-16-to-29 c = search rules
 
 pub returns-in-1 : goal.returns-in-1
 unfolding row_of is_kind is_signal is_branch is_case is_expression ◌and◌ ◌or◌ fields_of row row_number named_bits width child_number type_number

@@ -1,33 +1,24 @@
-use mathlib.Core.List.{[]}
 use mathlib.Core.Path.{sym, ap, ◌∙◌}
-use native.Mathlib.Omega.{arith}
+use Rattle.texts.specs.Tokens.{part}
 use Rattle.texts.specs.Spelled.{is_among}
-use Rattle.labels.proofs.NoteLaws.{ahead_none, word_ahead, ahead_here, ahead_next, names_ahead_lem, state_is}
+use Rattle.spell.proofs.PartLaws.{same_pointwise}
+use Rattle.labels.proofs.NoteLaws.{ahead_none, ahead_here, ahead_other, ahead_next, names_ahead_lem, state_is}
+use Rattle.labels.proofs.is_branch_name.Goals.{else-state-eq2-via-then-state-eq2+else-eq, else-state-eq2-via-else-state-eq2}
 use Rattle.labels.proofs.is_branch_name.Goals as goal
 
-pub loop-begin-init : goal.loop-begin-init
-loop-begin-init c = ap (is_among _) (names_ahead_lem _)
+pub loop-w-init : goal.loop-w-init
+loop-w-init c = ap (is_among _) (names_ahead_lem _)
 
-pub enum_told-1 : goal.enum_told-1
-enum_told-1 c = c.in-End.in-End-own.keys1
+pub returns-then-eq : goal.returns-then-eq
+unfolding part
+returns-then-eq c = sym (c.loop-w.invariant ∙ ahead_here _ _ _ _ _ c.word_from.ensures _ c.in-Some.is c.if-state-eq2.true (sym (c.eq.ensures ∙ same_pointwise _ _) ∙ c.if-eq.true))
 
-pub returns-in-End : goal.returns-in-End
-returns-in-End c = sym (c.loop-begin.invariant ∙ ahead_none _ _ _ _ _ c.word_from.ensures c.in-End.is)
+pub loop-w-preserved : goal.loop-w-preserved
+unfolding part
+loop-w-preserved c = elim c.else-state-eq2.branch [
+  | else-state-eq2-via-then-state-eq2+else-eq w ↦ c.loop-w.invariant ∙ ahead_next _ _ _ _ _ c.word_from.ensures _ c.in-Some.is w.if-state-eq2.true (sym (w.eq.ensures ∙ same_pointwise _ _) ∙ w.if-eq.false) ∙ state_is _ _ _ _ _ _ c.await_next-state.ensures
+  | else-state-eq2-via-else-state-eq2 w ↦ c.loop-w.invariant ∙ ahead_other _ _ _ _ _ c.word_from.ensures _ c.in-Some.is w.if-state-eq2.false ∙ state_is _ _ _ _ _ _ c.await_next-state.ensures
+]
 
-pub enum_known-begin : goal.enum_known-begin
-enum_known-begin c = c.in-Word.in-Word-own.keys2
-
-pub same_parts-requires : goal.same_parts-requires
-same_parts-requires c = let w = (word_ahead c.args.text.now [] 0 c.loop-begin.at _ c.word_from.ensures _ _ c.in-Word.is) in record { part = c.requires; part_2 = (omega (arith, w.1), w.2) }
-
-pub returns-then-both : goal.returns-then-both
-returns-then-both c = sym (c.loop-begin.invariant ∙ ahead_here _ _ _ _ _ c.word_from.ensures _ _ c.in-Word.is _ _ c.both.ensures c.same_parts.ensures c.if-both.true)
-
-pub await_next-state-requires : goal.await_next-state-requires
-await_next-state-requires c = let w = (word_ahead c.args.text.now [] 0 c.loop-begin.at _ c.word_from.ensures _ _ c.in-Word.is) in (omega (arith, w.1), w.2)
-
-pub loop-begin-smaller : goal.loop-begin-smaller
-loop-begin-smaller c = let w = (word_ahead c.args.text.now [] 0 c.loop-begin.at _ c.word_from.ensures _ _ c.in-Word.is) in omega (arith, w.0, w.1, w.2)
-
-pub loop-begin-preserved : goal.loop-begin-preserved
-loop-begin-preserved c = c.loop-begin.invariant ∙ ahead_next _ _ _ _ _ c.word_from.ensures _ _ c.in-Word.is _ _ c.both.ensures c.same_parts.ensures c.if-both.false ∙ state_is _ _ _ _ _ _ c.await_next-state.ensures
+pub returns : goal.returns
+returns c = sym (c.loop-w.invariant ∙ ahead_none _ _ _ _ _ c.word_from.ensures c.in_default.is)

@@ -114,7 +114,7 @@ parts_n-inside_n-requires t c = let a = c.args in
     let w = ready.node in
     let node = c.node_by-n.ensures in
     let kind = sym node.kind_is ∙ c.in-5.is in
-    let told = sym c.show.ensures ∙ c.in-Value.is in
+    let told = sym c.show.ensures ∙ c.in-Some.is in
     let k = read_s node.b_is (let_parts p i w ready.small kind).1 in
     (omega (arith, k.less, c.decreases), (part_ready ready k c.note_s-d.ensures.2, omega (arith, c.requires.1, c.room-1.given), omega (arith, w.inside, w.shaped.small), shown_exact c.note_s-d.result c.note_s-d.ensures.1 told, noted_set i c.note_s-d.result rec st env w c.note_s-d.ensures.4.noted c.note_s-d.ensures.1 (c.note_s-d.ensures.0 ∙ ap (λ (x : ℕ). eval_s rec st env (signal_at p x)) node.a_is) (omega (arith, w.inside, w.shaped.small))))
 
@@ -132,7 +132,7 @@ parts_n-later-requires t c = let a = c.args in
     let w = ready.node in
     let node = c.node_by-n.ensures in
     let kind = sym node.kind_is ∙ c.in-5.is in
-    let told = sym c.show.ensures ∙ c.in-Value.is in
+    let told = sym c.show.ensures ∙ c.in-Some.is in
     (c.inside_n.ensures.1, omega (arith, shown_work c.note_s-d.result told, let_work p c.node_by-n.result.a c.node_by-n.result.b _ _ _ _ (let_pair p i w ready.small kind node.a_is node.b_is) c.note_s-d.ensures.0 c.inside_n.ensures.0))
 
 pub parts_n-own_cell-m-requires : goal.parts_n-own_cell-m-requires
@@ -432,11 +432,11 @@ parts_n-ruled-requires-in-8 t c = let a = c.args in
 pub parts_n-evaluated-requires : goal.parts_n-evaluated-requires
 parts_n-evaluated-requires t c = (c.requires.0, c.requires.2)
 
-pub parts_n-shape_of-room-in-Value : goal.parts_n-shape_of-room-in-Value
-parts_n-shape_of-room-in-Value t c = omega (arith, c.room-1.given, c.room-in-5-1.given)
+pub parts_n-shape_of-room-in-Some : goal.parts_n-shape_of-room-in-Some
+parts_n-shape_of-room-in-Some t c = omega (arith, c.room-1.given, c.room-in-5-1.given)
 
-pub parts_n-returns-in-Value : goal.parts_n-returns-in-Value
-parts_n-returns-in-Value t c = let a = c.args in
+pub parts_n-returns-in-Some : goal.parts_n-returns-in-Some
+parts_n-returns-in-Some t c = let a = c.args in
     let p = a.p.now.now in
     let i = a.i in
     let rec = a.rec.now.now in
@@ -449,7 +449,7 @@ parts_n-returns-in-Value t c = let a = c.args in
     let w = ready.node in
     let node = c.node_by-n.ensures in
     let kind = sym node.kind_is ∙ c.in-5.is in
-    let told = sym c.show.ensures ∙ c.in-Value.is in
+    let told = sym c.show.ensures ∙ c.in-Some.is in
     (let_goes p i w rec st env kind node.a_is node.b_is c.note_s-d.ensures.0 (shown_value c.note_s-d.result told) c.note_s-d.ensures.2 c.inside_n.ensures.0 c.later.ensures.0, c.later.ensures.1, c.inside_n.ensures.2 ∙ c.note_s-d.ensures.2, let_noted p i w l at rec st env room kind node.a_is c.note_s-d.ensures.3 c.note_s-d.ensures.0 (shown_value c.note_s-d.result told) c.note_s-d.ensures.2 node.b_is c.inside_n.ensures.3, let_notes p i w rec st env kind c.note_s-d.result node.a_is node.b_is c.note_s-d.ensures.0 (shown_value c.note_s-d.result told) c.note_s-d.ensures.2 (omega (arith, w.inside, w.shaped.small)) c.note_s-d.ensures.4 c.inside_n.ensures.4)
 
 pub parts_n-shape_of-room-else-m-eq0 : goal.parts_n-shape_of-room-else-m-eq0

@@ -10,4 +10,4 @@ pub truth-requires : goal.truth-requires
 truth-requires c = (omega arith, omega (arith, c.requires, work_is c.args.r, c.counted_in.ensures.0, c.counted_in.ensures.1))
 
 pub returns : goal.returns
-returns c = negated_done c.args.r c.plain_word.ensures c.in-Is.is c.counted_in.ensures.0 c.requires c.truth.ensures
+returns c = negated_done c.args.r c.plain_word.ensures c.in-Some.is c.counted_in.ensures.0 c.requires c.truth.ensures

@@ -1,10 +1,10 @@
 use Rattle.dropped.specs.PairedCall.{entries_answer}
 use Rattle.pairing.proofs.entries_answer.Goals as goal
 
-pub returns-in-At : goal.returns-in-At
+pub returns-in-Some : goal.returns-in-Some
 unfolding entries_answer
-returns-in-At c = rw c.in-At.is
+returns-in-Some c = rw c.in-Some.is
 
-pub returns-in-Nowhere : goal.returns-in-Nowhere
+pub returns-in-None : goal.returns-in-None
 unfolding entries_answer
-returns-in-Nowhere c = rw c.in-Nowhere.is
+returns-in-None c = rw c.in-None.is

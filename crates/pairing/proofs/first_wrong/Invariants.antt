@@ -1,11 +1,8 @@
 use Rattle.dropped.specs.Pairing.{entry_wrong}
 use Rattle.rules.specs.Bytes.{first, first_from}
-use Prim.Native.Nat.{◌≤◌, ◌-◌}
+use Prim.Native.Nat.{◌-◌}
 use mathlib.Core.Path.{◌≡◌}
 use Rattle.pairing.proofs.first_wrong.Given as goal
 
 abbrev pub invariant-loop-i : goal.invariant-loop-i
-invariant-loop-i l = (l.i ≤ l.count) × (first_from (entry_wrong l.p l.q l.pairing) l.i (l.count - l.i) ≡ first (entry_wrong l.p l.q l.pairing) l.count)
-
-abbrev pub decreases-loop-i : goal.decreases-loop-i
-decreases-loop-i l = l.count - l.i
+invariant-loop-i l = first_from (entry_wrong l.p l.q l.pairing) l.i (l.count - l.i) ≡ first (entry_wrong l.p l.q l.pairing) l.count

@@ -6,22 +6,16 @@ use native.Mathlib.Omega.{arith}
 use Rattle.pairing.proofs.lead_all.Goals as goal
 
 pub loop-m-init : goal.loop-m-init
-loop-m-init c = (omega arith, refl, lead_none _ _ (omega (arith, c.requires.1, c.requires.2)))
+loop-m-init c = (refl, lead_none _ _ (omega (arith, c.requires.1, c.requires.2)))
 
 pub lead-requires : goal.lead-requires
-lead-requires c = (shaped_of _ c.requires.0, omega (arith, c.requires.1, c.loop-m-test.true), c.loop-m.invariant.2)
-
-pub overflow_add-m : goal.overflow_add-m
-overflow_add-m c = omega arith
-
-pub loop-m-smaller : goal.loop-m-smaller
-loop-m-smaller c = omega arith
+lead-requires c = (shaped_of _ c.requires.0, omega (arith, c.requires.1), c.loop-m.invariant.1)
 
 pub loop-m-preserved : goal.loop-m-preserved
-loop-m-preserved c = (omega arith, c.lead.auto.ends ∙ c.loop-m.invariant.1, c.lead.ensures)
+loop-m-preserved c = (c.lead.auto.ends ∙ c.loop-m.invariant.0, c.lead.ensures)
 
 pub shape_of-ends : goal.shape_of-ends
-shape_of-ends c = c.loop-m.invariant.1
+shape_of-ends c = c.loop-m.invariant.0
 
 pub returns : goal.returns
-returns c = lead_done _ _ _ c.requires.0 (omega (arith, c.requires.1, c.loop-m.invariant.0, c.loop-m-test.false)) c.loop-m.invariant.2
+returns c = lead_done _ _ _ c.requires.0 (omega (arith, c.requires.1)) c.loop-m.invariant.1

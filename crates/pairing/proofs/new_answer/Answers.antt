@@ -1,15 +1,16 @@
+use Rattle.verdict.proofs.Judging.{judged_ok, judged_err}
 use Rattle.rules.proofs.Verdicts.{accepted as accepted-when}
 use mathlib.Core.Path.{sym, ◌∙◌}
 use Rattle.dropped.specs.PairedCall.{new_answer}
 use Rattle.pairing.proofs.new_answer.Goals as goal
 
 pub pairing_answer-requires : goal.pairing_answer-requires
-pairing_answer-requires c = let e = sym c.judge-found.ensures.verdict_is ∙ c.in-Fine.is in (c.requires.0, accepted-when _ e, c.requires.1, c.judge-found.ensures.count_is e)
+pairing_answer-requires c = let j = judged_ok _ _ c.judge.ensures c.in-Ok.is in (c.requires.0, accepted-when _ j.0, c.requires.1, j.1)
 
-pub returns-in-Refuse : goal.returns-in-Refuse
+pub returns-in-Err : goal.returns-in-Err
 unfolding new_answer
-returns-in-Refuse c = let e = sym c.judge-found.ensures.verdict_is ∙ c.in-Refuse.is in rw e
+returns-in-Err c = let e = judged_err _ _ c.judge.ensures c.in-Err.is in rw e
 
-pub returns-in-Fine : goal.returns-in-Fine
+pub returns-in-Ok : goal.returns-in-Ok
 unfolding new_answer
-returns-in-Fine c = let e = sym c.judge-found.ensures.verdict_is ∙ c.in-Fine.is in rw e c.pairing_answer.ensures
+returns-in-Ok c = let e = (judged_ok _ _ c.judge.ensures c.in-Ok.is).0 in rw e c.pairing_answer.ensures

@@ -6,27 +6,21 @@ use mathlib.Core.Path.{sym, ◌∙◌}
 use Rattle.peeking.proofs.list_fault.Goals as goal
 
 pub loop-j-init : goal.loop-j-init
-loop-j-init c = (omega arith, first_starts _ _)
+loop-j-init c = first_starts _ _
 
 pub entry_off-requires : goal.entry_off-requires
-entry_off-requires c = (c.requires.0, c.requires.1, c.loop-j-test.true)
+entry_off-requires c = (c.requires.0, c.requires.1, omega arith)
 
 pub overflow_cast-result : goal.overflow_cast-result
-overflow_cast-result c = omega (arith, c.requires.2, c.loop-j-test.true)
+overflow_cast-result c = omega (arith, c.requires.2)
 
 pub returns-then-entry_off : goal.returns-then-entry_off
 unfolding list_fault
-returns-then-entry_off c = sym (first_here (entry_off c.args.p.now c.args.list.now) _ _ c.loop-j-test.true (sym c.entry_off.ensures ∙ c.if-entry_off.true)) ∙ c.loop-j.invariant.1
-
-pub overflow_add-j : goal.overflow_add-j
-overflow_add-j c = omega (arith, c.loop-j.invariant.0)
-
-pub loop-j-smaller : goal.loop-j-smaller
-loop-j-smaller c = omega (arith, c.loop-j-test.true)
+returns-then-entry_off c = sym (first_here (entry_off c.args.p.now c.args.list.now) _ _ (omega arith) (sym c.entry_off.ensures ∙ c.if-entry_off.true)) ∙ c.loop-j.invariant
 
 pub loop-j-preserved : goal.loop-j-preserved
-loop-j-preserved c = (omega arith, sym (first_next (entry_off c.args.p.now c.args.list.now) _ _ c.loop-j-test.true (sym c.entry_off.ensures ∙ c.if-entry_off.false)) ∙ c.loop-j.invariant.1)
+loop-j-preserved c = sym (first_next (entry_off c.args.p.now c.args.list.now) _ _ (omega arith) (sym c.entry_off.ensures ∙ c.if-entry_off.false)) ∙ c.loop-j.invariant
 
 pub returns : goal.returns
 unfolding list_fault
-returns c = sym (first_ends (entry_off c.args.p.now c.args.list.now) _ _ c.loop-j-test.false) ∙ c.loop-j.invariant.1
+returns c = sym (first_ends (entry_off c.args.p.now c.args.list.now) _ _ (omega arith)) ∙ c.loop-j.invariant

@@ -9,8 +9,8 @@ list_fault-off-requires c = ((counted _ _ c.requires.0 c.requires.1).shaped, c.r
 pub watch_listed-requires : goal.watch_listed-requires
 watch_listed-requires c = (c.requires.0, c.requires.1, c.requires.2)
 
-pub returns-in-At : goal.returns-in-At
-returns-in-At c = entry_refused _ _ _ _ _ _ _ (sym c.list_fault-off.ensures ∙ c.in-At.is)
+pub returns-in-Some : goal.returns-in-Some
+returns-in-Some c = entry_refused _ _ _ _ _ _ _ (sym c.list_fault-off.ensures ∙ c.in-Some.is)
 
-pub returns-in-Nowhere : goal.returns-in-Nowhere
-returns-in-Nowhere c = entries_run _ _ _ _ _ _ _ (sym c.list_fault-off.ensures ∙ c.in-Nowhere.is) c.watch_listed.ensures.0 c.watch_listed.ensures.1
+pub returns-in-None : goal.returns-in-None
+returns-in-None c = entries_run _ _ _ _ _ _ _ (sym c.list_fault-off.ensures ∙ c.in-None.is) c.watch_listed.ensures.0 c.watch_listed.ensures.1

@@ -1,3 +1,4 @@
+use Rattle.std.proofs.lemmas.Result.{err_from_is_err_and}
 use mathlib.Core.Path.{refl, sym, ◌∙◌}
 use native.Mathlib.Omega.{arith}
 use lib.ListN.{length-replicate}
@@ -12,9 +13,9 @@ use Rattle.peeking.proofs.watch_listed.Goals as goal
 pub index_cells-held-requires : goal.index_cells-held-requires
 index_cells-held-requires c = let k = counted _ _ c.requires.0 c.requires.1 in (k.shaped, k.listed, c.requires.1, rw (length-replicate) (omega (arith, k.most)))
 
-pub lent_verdict-fault-requires : goal.lent_verdict-fault-requires
+pub lent_verdict-requires : goal.lent_verdict-requires
 unfolding byte_at
-lent_verdict-fault-requires c = let pre = c.requires in
+lent_verdict-requires c = let pre = c.requires in
     let indexed = c.index_cells-held.ensures in (
       root_of _ pre.0,
       indexed.0,
@@ -26,11 +27,14 @@ lent_verdict-fault-requires c = let pre = c.requires in
 
 pub watch_records-requires : goal.watch_records-requires
 unfolding unbound
-watch_records-requires c = let f = lent_fine _ _ _ _ _ _ (sym c.lent_verdict-fault.ensures ∙ c.in-Fine.is) in
+watch_records-requires c = let f = lent_fine _ _ _ _ _ _ (sym c.lent_verdict.ensures ∙ c.in_ok-lent_verdict.was) in
     (record { accepted = c.requires.0; indexed = c.index_cells-held.ensures.0; counted = c.requires.1; well = f.well; blank = refl }, f.most, f.output, c.requires.2, f.second)
 
-pub returns-in-Refuse : goal.returns-in-Refuse
-returns-in-Refuse c = let e = sym c.lent_verdict-fault.ensures ∙ c.in-Refuse.is in (run_lent _ _ _ _ _ e, room_lent _ _ _ _ _ _ e)
+pub returns-in_err-lent_verdict : goal.returns-in_err-lent_verdict
+returns-in_err-lent_verdict c =
+    let p = err_from_is_err_and c.from_residual.result c.from_residual.ensures.1 in
+    let e = sym c.lent_verdict.ensures ∙ c.in_err-lent_verdict.was in
+    rw (p.1, p.2) (run_lent _ _ _ _ _ e, room_lent _ _ _ _ _ _ e)
 
-pub returns-in-Fine : goal.returns-in-Fine
-returns-in-Fine c = listed_run _ _ _ _ _ _ _ (sym c.lent_verdict-fault.ensures ∙ c.in-Fine.is) c.watch_records.ensures.0 c.watch_records.ensures.1
+pub returns : goal.returns
+returns c = listed_run _ _ _ _ _ _ _ (sym c.lent_verdict.ensures ∙ c.in_ok-lent_verdict.was) c.watch_records.ensures.0 c.watch_records.ensures.1

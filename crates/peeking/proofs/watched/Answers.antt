@@ -1,13 +1,13 @@
-use mathlib.Core.Path.{sym, ◌∙◌}
 use Rattle.rules.proofs.Verdicts.{accepted as accepted-when}
+use Rattle.verdict.proofs.Judging.{judged_ok, judged_err}
 use Rattle.peeking.proofs.CallLaws.{refused_parts, accepted_parts}
 use Rattle.peeking.proofs.watched.Goals as goal
 
 pub watch_accepted-requires : goal.watch_accepted-requires
-watch_accepted-requires c = let e = sym c.judge-found.ensures.verdict_is ∙ c.in-Fine.is in (accepted-when _ e, c.judge-found.ensures.count_is e)
+watch_accepted-requires c = let j = judged_ok _ _ c.judge.ensures c.in-Ok.is in (accepted-when _ j.0, j.1)
 
-pub returns-in-Refuse : goal.returns-in-Refuse
-returns-in-Refuse c = refused_parts _ _ _ _ _ _ (sym c.judge-found.ensures.verdict_is ∙ c.in-Refuse.is)
+pub returns-in-Err : goal.returns-in-Err
+returns-in-Err c = rw c.from.ensures (refused_parts _ _ _ _ _ _ (judged_err _ _ c.judge.ensures c.in-Err.is))
 
-pub returns-in-Fine : goal.returns-in-Fine
-returns-in-Fine c = accepted_parts _ _ _ _ _ _ (sym c.judge-found.ensures.verdict_is ∙ c.in-Fine.is) c.watch_accepted.ensures
+pub returns-in-Ok : goal.returns-in-Ok
+returns-in-Ok c = accepted_parts _ _ _ _ _ _ (judged_ok _ _ c.judge.ensures c.in-Ok.is).0 c.watch_accepted.ensures

@@ -1,11 +1,11 @@
-use Rattle.phrases.specs.Gave.{gave_value}
+use mathlib.Core.Path.{◌∙◌}
+use Rattle.phrases.specs.Gave.{gave}
 use Rattle.phrases.proofs.StepLaws as L
 use Rattle.phrases.proofs.closed.Goals as goal
 
-pub returns-in-Stop : goal.returns-in-Stop
-unfolding gave_value
-returns-in-Stop c = λ so. L.step_stop _ _ _ _ _ (c.close.ensures so) _ _ c.in-Stop.is
+pub returns-in_err-w : goal.returns-in_err-w
+returns-in_err-w c = λ so. L.step_err _ _ _ _ _ (L.err_is _ _ c.from_residual.ensures.1) ∙ L.word_stop _ _ _ _ _ (c.close.ensures so) _ _ c.in_err-w.was
 
-pub returns-in-Read : goal.returns-in-Read
-unfolding gave_value
-returns-in-Read c = λ so. L.step_read _ _ _ _ _ (c.close.ensures so) _ _ _ c.in-Read.is
+pub returns : goal.returns
+unfolding gave
+returns c = λ so. L.word_read _ _ _ _ _ (c.close.ensures so) _ _ c.in_ok-w.was

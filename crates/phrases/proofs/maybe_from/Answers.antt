@@ -1,15 +1,9 @@
 use mathlib.Core.Path.{◌∙◌}
-use Rattle.phrases.specs.Gave.{gave_value}
 use Rattle.phrases.proofs.StepLaws as L
 use Rattle.phrases.proofs.maybe_from.Goals as goal
 
-pub maybe_value-requires : goal.maybe_value-requires
-maybe_value-requires c = L.word_part _ _ _ c.word_from.ensures _ _ c.in-Word.is
+pub returns-in_err-w : goal.returns-in_err-w
+returns-in_err-w c = λ so. L.step_err _ _ _ _ _ (L.err_is _ _ c.from_residual.ensures.1) ∙ L.word_stop _ _ _ _ _ (c.next.ensures.0 so) _ _ c.in_err-w.was
 
-pub returns-in-End : goal.returns-in-End
-unfolding gave_value
-returns-in-End c = λ so. L.none_next _ _ _ c.word_from.ensures _ so _ c.in-End.is
-
-pub returns-in-Word : goal.returns-in-Word
-unfolding gave_value
-returns-in-Word c = λ so. c.maybe_value.ensures so ∙ L.some_next _ _ _ c.word_from.ensures _ so _ _ _ c.in-Word.is
+pub returns : goal.returns
+returns c = λ so. c.maybe_value.ensures so ∙ L.word_read _ _ _ _ _ (c.next.ensures.0 so) _ _ c.in_ok-w.was

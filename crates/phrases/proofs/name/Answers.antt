@@ -1,21 +1,18 @@
 use mathlib.Core.Path.{sym, ◌∙◌}
-use Rattle.texts.specs.Tokens.{token}
+use Rattle.texts.specs.Tokens.{token, part}
 use Rattle.texts.specs.Steps as S
-use Rattle.phrases.specs.Gave.{gave}
+use Rattle.phrases.specs.Gave.{gave_word}
 use Rattle.phrases.proofs.StepLaws as L
 use Rattle.phrases.proofs.name.Goals as goal
 
-pub is_name-requires : goal.is_name-requires
-is_name-requires c = L.word_part _ _ _ c.word_from.ensures _ _ c.in-Word.is
+pub returns-in_err-w : goal.returns-in_err-w
+unfolding S.name
+returns-in_err-w c = (λ so. L.word_err _ _ _ _ _ (L.err_is _ _ c.from_residual.ensures.1) ∙ L.word_stop _ _ _ _ _ (c.next.ensures.0 so) _ _ c.in_err-w.was, L.part_err _ _ _ (L.err_is _ _ c.from_residual.ensures.1))
 
 pub returns-then-is_name : goal.returns-then-is_name
-unfolding gave S.name token
-returns-then-is_name c = let w = L.at_word _ _ _ c.word_from.ensures _ _ c.in-Word.is in (λ so. L.given_on _ _ _ _ _ (sym c.is_name.ensures ∙ c.if-is_name.true) ∙ L.some_next _ _ _ c.word_from.ensures _ so _ _ _ c.in-Word.is, (w.1, w.2))
+unfolding gave_word S.name token part
+returns-then-is_name c = (λ so. L.given_on _ _ _ _ _ (sym c.is_name.ensures ∙ c.if-is_name.true) ∙ L.word_read _ _ _ _ _ (c.next.ensures.0 so) _ _ c.in_ok-w.was, L.part_of _ _ c.next.ensures.1 _ c.in_ok-w.was)
 
-pub returns-in-End : goal.returns-in-End
-unfolding gave S.name
-returns-in-End c = (λ so. L.none_next _ _ _ c.word_from.ensures _ so _ c.in-End.is, tt)
-
-pub returns-else-is_name : goal.returns-else-is_name
-unfolding gave S.name token
-returns-else-is_name c = (λ so. L.given_off _ _ _ _ _ (sym c.is_name.ensures ∙ c.if-is_name.false) ∙ L.some_next _ _ _ c.word_from.ensures _ so _ _ _ c.in-Word.is, tt)
+pub returns : goal.returns
+unfolding gave_word S.name token part
+returns c = (λ so. L.given_off _ _ _ _ _ (sym c.is_name.ensures ∙ c.if-is_name.false) ∙ L.word_read _ _ _ _ _ (c.next.ensures.0 so) _ _ c.in_ok-w.was, tt)

@@ -1,24 +1,17 @@
 use mathlib.Core.Path.{sym, ◌∙◌}
-use Rattle.texts.specs.Tokens.{token}
+use Rattle.texts.specs.Tokens.{token, part}
 use Rattle.texts.specs.Steps as S
-use Rattle.phrases.specs.Gave.{gave_value}
 use Rattle.phrases.proofs.StepLaws as L
 use Rattle.phrases.proofs.value.Goals as goal
 
-pub is_byte-requires : goal.is_byte-requires
-is_byte-requires c = L.word_part _ _ _ c.word_from.ensures _ _ c.in-Word.is
+pub returns-in_err-w : goal.returns-in_err-w
+unfolding S.value
+returns-in_err-w c = λ so. L.step_err _ _ _ _ _ (L.err_is _ _ c.from_residual.ensures.1) ∙ L.word_stop _ _ _ _ _ (c.next.ensures.0 so) _ _ c.in_err-w.was
 
 pub returns-then-is_byte : goal.returns-then-is_byte
-unfolding S.value token
-returns-then-is_byte c = λ so. c.maybe_from.ensures so ∙ L.value_opened _ _ _ _ so (sym c.is_byte.ensures ∙ c.if-is_byte.true) ∙ L.some_next _ _ _ c.word_from.ensures _ so _ _ _ c.in-Word.is
+unfolding S.value token part
+returns-then-is_byte c = λ so. c.maybe_from.ensures so ∙ L.value_opened _ _ _ _ so (sym c.is_byte.ensures ∙ c.if-is_byte.true) ∙ L.word_read _ _ _ _ _ (c.next.ensures.0 so) _ _ c.in_ok-w.was
 
-pub plain_value-requires : goal.plain_value-requires
-plain_value-requires c = L.word_part _ _ _ c.word_from.ensures _ _ c.in-Word.is
-
-pub returns-in-End : goal.returns-in-End
-unfolding gave_value S.value
-returns-in-End c = λ so. L.none_next _ _ _ c.word_from.ensures _ so _ c.in-End.is
-
-pub returns-else-is_byte : goal.returns-else-is_byte
-unfolding S.value token
-returns-else-is_byte c = λ so. c.plain_value.ensures.0 so ∙ L.value_plain _ _ _ _ so (sym c.is_byte.ensures ∙ c.if-is_byte.false) ∙ L.some_next _ _ _ c.word_from.ensures _ so _ _ _ c.in-Word.is
+pub returns : goal.returns
+unfolding S.value token part
+returns c = λ so. c.plain_value.ensures.0 so ∙ L.value_plain _ _ _ _ so (sym c.is_byte.ensures ∙ c.if-is_byte.false) ∙ L.word_read _ _ _ _ _ (c.next.ensures.0 so) _ _ c.in_ok-w.was

@@ -1,13 +1,13 @@
 use mathlib.Core.Path.{◌∙◌}
 use Rattle.texts.specs.Reader as R
-use Rattle.phrases.specs.Gave.{written, gave_head}
+use Rattle.phrases.specs.Gave.{written}
 use Rattle.phrases.proofs.StepLaws as L
 use Rattle.phrases.proofs.value_head.Goals as goal
 
-pub returns-in-Stop : goal.returns-in-Stop
-unfolding gave_head R.typed
-returns-in-Stop c = λ so. L.value_stop _ _ _ _ (c.value.ensures so) _ _ c.in-Stop.is
+pub returns-in_err-r : goal.returns-in_err-r
+unfolding R.typed
+returns-in_err-r c = λ so. L.step_err _ _ _ _ _ (L.err_is _ _ c.from_residual.ensures.1) ∙ L.step_stop _ _ _ _ _ (c.value.ensures so) _ _ c.in_err-r.was
 
-pub returns-in-Read : goal.returns-in-Read
+pub returns : goal.returns
 unfolding R.typed written
-returns-in-Read c = λ so. L.head_none _ _ _ _ _ _ _ so ∙ L.value_read _ _ _ _ (c.value.ensures so) _ _ _ c.in-Read.is
+returns c = λ so. L.head_none _ _ _ _ _ _ so ∙ L.step_read _ _ _ _ _ (c.value.ensures so) _ _ c.in_ok-r.was

@@ -1,10 +1,10 @@
 use Rattle.printing.specs.Turns.{opening_line}
 use Rattle.printing.proofs.opening.Goals as goal
 
-pub returns-in-Accepted : goal.returns-in-Accepted
+pub returns-in-Ok : goal.returns-in-Ok
 unfolding opening_line
-returns-in-Accepted c = rw c.in-Accepted.is c.first_line.ensures
+returns-in-Ok c = rw c.in-Ok.is c.first_line.ensures
 
-pub returns-in-Refused : goal.returns-in-Refused
+pub returns-in-Err : goal.returns-in-Err
 unfolding opening_line
-returns-in-Refused c = rw c.in-Refused.is c.refused_line.ensures
+returns-in-Err c = rw c.in-Err.is c.refused_line.ensures

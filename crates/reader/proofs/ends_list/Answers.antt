@@ -1,13 +1,12 @@
+use Rattle.texts.specs.Tokens.{part}
 use mathlib.Core.Path.{◌∙◌}
-use Rattle.phrases.proofs.StepLaws as P
 use Rattle.reader.proofs.RowLaws as L
 use Rattle.reader.proofs.ends_list.Goals as goal
 
-pub is_byte-requires : goal.is_byte-requires
-is_byte-requires c = P.word_part _ _ _ c.word_from.ensures _ _ c.in-Word.is
+pub returns-in-None : goal.returns-in-None
+unfolding part
+returns-in-None c = L.list_none _ _ _ c.word_from.ensures c.in-None.is
 
-pub returns-in-End : goal.returns-in-End
-returns-in-End c = L.list_none _ _ _ c.word_from.ensures c.in-End.is
-
-pub returns-in-Word : goal.returns-in-Word
-returns-in-Word c = c.is_byte.ensures ∙ L.list_some _ _ _ c.word_from.ensures _ _ c.in-Word.is
+pub returns-in-Some : goal.returns-in-Some
+unfolding part
+returns-in-Some c = c.is_byte.ensures ∙ L.list_some _ _ _ c.word_from.ensures _ c.in-Some.is

@@ -1,5 +1,6 @@
 use mathlib.Core.Path.{refl}
 use Rattle.reader.specs.Held.{is_inside}
+use Rattle.phrases.proofs.StepLaws.{err_is}
 use Rattle.reader.proofs.SimpleLaws as P
 use Rattle.reader.proofs.simple.Goals as goal
 
@@ -37,5 +38,8 @@ returns-in-NextCase c = P.says_next_case _ _ _ _ _ _ c.in-NextCase.is
 pub returns-in-Binder : goal.returns-in-Binder
 returns-in-Binder c = P.says_binder _ _ _ _ _ _ c.in-Binder.is
 
-pub returns-in-Target : goal.returns-in-Target
-returns-in-Target c = P.says_target _ _ _ _ _ _ c.in-Target.is _ c.target.ensures.0 c.target.ensures.1
+pub returns-in_err-w-in-Target : goal.returns-in_err-w-in-Target
+returns-in_err-w-in-Target c = P.says_no_target _ _ _ _ _ _ c.in-Target.is _ c.target.ensures.0 _ c.in_err-w-in-Target.was _ (err_is _ _ c.from_residual.ensures.1)
+
+pub returns-in_ok-w-in-Target : goal.returns-in_ok-w-in-Target
+returns-in_ok-w-in-Target c = P.says_target _ _ _ _ _ _ c.in-Target.is _ c.target.ensures.0 c.target.ensures.1 _ c.in_ok-w-in-Target.was

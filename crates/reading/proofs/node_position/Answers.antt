@@ -4,22 +4,22 @@ use native.Mathlib.Omega.{arith}
 use Rattle.reading.proofs.node_position.Goals as goal
 
 pub overflow_mul-node : goal.overflow_mul-node
-overflow_mul-node c = let w = (M.rowed_of _ _ _ c.read_rows.ensures _ _ c.in-Read.is) in omega (arith, w.few, c.if-node-rows.true)
+overflow_mul-node c = let w = (M.rowed_of _ _ _ c.read_rows.ensures _ c.in-Ok.is) in omega (arith, w.few, c.if-node-rows.true)
 
 pub overflow_add-node : goal.overflow_add-node
-overflow_add-node c = let w = (M.rowed_of _ _ _ c.read_rows.ensures _ _ c.in-Read.is) in omega (arith, w.few, c.if-node-rows.true)
+overflow_add-node c = let w = (M.rowed_of _ _ _ c.read_rows.ensures _ c.in-Ok.is) in omega (arith, w.few, c.if-node-rows.true)
 
 pub offset_bounds-rows-node : goal.offset_bounds-rows-node
-offset_bounds-rows-node c = let w = (M.rowed_of _ _ _ c.read_rows.ensures _ _ c.in-Read.is) in omega (arith, w.few, c.if-node-rows.true)
+offset_bounds-rows-node c = let w = (M.rowed_of _ _ _ c.read_rows.ensures _ c.in-Ok.is) in omega (arith, w.few, c.if-node-rows.true)
 
 pub bounds-rows-node : goal.bounds-rows-node
-bounds-rows-node c = let w = (M.rowed_of _ _ _ c.read_rows.ensures _ _ c.in-Read.is) in omega (arith, w.few, c.if-node-rows.true)
+bounds-rows-node c = let w = (M.rowed_of _ _ _ c.read_rows.ensures _ c.in-Ok.is) in omega (arith, w.few, c.if-node-rows.true)
 
 pub returns-then-node-rows : goal.returns-then-node-rows
-returns-then-node-rows c = K.place_at _ _ _ _ (M.rowed_of _ _ _ c.read_rows.ensures _ _ c.in-Read.is) c.if-node-rows.true c.capped.ensures
+returns-then-node-rows c = K.place_at _ _ _ _ (M.rowed_of _ _ _ c.read_rows.ensures _ c.in-Ok.is) c.if-node-rows.true c.capped.ensures
 
-pub returns-in-Stop : goal.returns-in-Stop
-returns-in-Stop c = K.place_none _ _ (M.stopped_of _ _ _ c.read_rows.ensures _ c.in-Stop.is)
+pub returns-in-Err : goal.returns-in-Err
+returns-in-Err c = K.place_none _ _ (M.stopped_of _ _ _ c.read_rows.ensures _ c.in-Err.is)
 
 pub returns-else-node-rows : goal.returns-else-node-rows
-returns-else-node-rows c = K.place_behind _ _ _ _ (M.rowed_of _ _ _ c.read_rows.ensures _ _ c.in-Read.is) c.if-node-rows.false
+returns-else-node-rows c = K.place_behind _ _ _ _ (M.rowed_of _ _ _ c.read_rows.ensures _ c.in-Ok.is) c.if-node-rows.false

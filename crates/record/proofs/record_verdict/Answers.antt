@@ -1,20 +1,14 @@
-use mathlib.Core.Path.{◌≡◌, ap, ◌∙◌}
-use mathlib.Core.Bool.{Bool}
-use Rattle.rules.specs.Calls.{refuse_if, ◌otherwise◌, record_verdict}
-use Rattle.rules.specs.declared.Refusal.{Refusal}
-use Rattle.rules.specs.declared.Verdict.{Verdict}
+use Rattle.std.proofs.lemmas.Result.{err_from_is_err_and}
+use mathlib.Core.Path.{sym, ◌∙◌}
+use Rattle.rules.specs.Calls.{◌otherwise◌, record_verdict}
 use Rattle.record.proofs.record_verdict.Goals as goal
 
--- A fault if a test fails, from the answers of the test and of refuse_if.
-refused : (r : Refusal) {w w' : Bool} {v : Verdict} → v ≡ refuse_if w r → w ≡ w' → v ≡ refuse_if w' r
-refused r told found = told ∙ ap (λ (b : Bool). refuse_if b r) found
-
--- The first of two faults.
-firstly : {v v' w w' r : Verdict} → r ≡ (v otherwise w) → v ≡ v' → w ≡ w' → r ≡ (v' otherwise w')
-firstly {v' = v'} {w = w} told one other = told ∙ ap (λ (x : Verdict). x otherwise w) one ∙ ap (λ (y : Verdict). v' otherwise y) other
+pub returns-in_err-refuse_if : goal.returns-in_err-refuse_if
+unfolding record_verdict ◌otherwise◌
+returns-in_err-refuse_if c =
+    let p = err_from_is_err_and c.from_residual.result c.from_residual.ensures.1 in
+    rw (p.1, p.2) (rw (sym c.input_wrong.ensures, sym c.refuse_if.ensures ∙ c.in_err-refuse_if.was))
 
 pub returns : goal.returns
-unfolding record_verdict
-returns c = firstly c.otherwise.ensures
-    (refused _ c.refuse_if-input.ensures c.input_wrong.ensures)
-    (refused _ c.refuse_if-time.ensures c.time_wrong.ensures)
+unfolding record_verdict ◌otherwise◌
+returns c = rw (sym c.input_wrong.ensures, sym c.time_wrong.ensures) (rw (sym c.refuse_if.ensures ∙ c.in_ok-refuse_if.was) c.refuse_if-2.ensures)

@@ -4,32 +4,17 @@ use native.Mathlib.Omega.{arith}
 use mathlib.Core.Path.{refl, sym, ◌∙◌}
 use Rattle.sealing.proofs.put_blocks.Goals as goal
 
-pub bounds-rows-1 : goal.bounds-rows-1
-bounds-rows-1 c = omega arith
-
-pub overflow_add-blocks : goal.overflow_add-blocks
-overflow_add-blocks c = omega (arith, c.requires.0)
-
 pub loop-j-init : goal.loop-j-init
-loop-j-init c = (omega arith, refl, blocks_start _ _ _ _)
+loop-j-init c = (refl, blocks_start _ _ _ _)
 
 pub put_block-requires : goal.put_block-requires
-put_block-requires c = (c.requires.0, c.requires.1, omega (arith, c.requires.0, c.requires.2, c.loop-j.invariant.1, c.loop-j-test.true), omega (arith, c.requires.0), omega (arith, c.requires.0, c.loop-j-test.true))
-
-pub overflow_add-j : goal.overflow_add-j
-overflow_add-j c = omega (arith, c.requires.0, c.loop-j-test.true)
-
-pub loop-j-smaller : goal.loop-j-smaller
-loop-j-smaller c = omega (arith, c.loop-j-test.true)
+put_block-requires c = (c.requires.0, c.requires.1, omega (arith, c.requires.0, c.requires.2, c.loop-j.invariant.0, c.loop-j-test.true), omega (arith, c.requires.0), omega (arith, c.requires.0, c.loop-j-test.true))
 
 pub loop-j-preserved : goal.loop-j-preserved
-loop-j-preserved c = (omega (arith, c.loop-j-test.true), c.put_block.auto.room ∙ c.loop-j.invariant.1, blocks_step _ _ _ _ _ _ c.loop-j-test.true c.put_block.ensures ∙ c.loop-j.invariant.2)
-
-pub overflow_mul-result : goal.overflow_mul-result
-overflow_mul-result c = omega (arith, c.requires.0)
+loop-j-preserved c = (c.put_block.auto.room ∙ c.loop-j.invariant.0, blocks_step _ _ _ _ _ _ c.loop-j-test.true c.put_block.ensures ∙ c.loop-j.invariant.1)
 
 pub shape_of-room : goal.shape_of-room
-shape_of-room c = c.loop-j.invariant.1
+shape_of-room c = c.loop-j.invariant.0
 
 pub returns : goal.returns
-returns c = (sealed_long _ _ _, sealed_is _ _ _ _ (sym (blocks_end _ _ _ _ _ c.loop-j-test.false) ∙ c.loop-j.invariant.2))
+returns c = (sealed_long _ _ _, sealed_is _ _ _ _ (sym (blocks_end _ _ _ _ _ c.loop-j-test.false) ∙ c.loop-j.invariant.1))

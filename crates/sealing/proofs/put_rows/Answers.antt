@@ -4,34 +4,16 @@ use mathlib.Core.Path.{refl, sym, ◌∙◌}
 use Rattle.sealing.proofs.put_rows.Goals as goal
 
 pub loop-r-init : goal.loop-r-init
-loop-r-init c = (omega arith, refl, rows_start _ _ _ _)
-
-pub overflow_add-first : goal.overflow_add-first
-overflow_add-first c = omega (arith, c.requires.2, c.loop-r-test.true)
-
-pub record_at-n-requires : goal.record_at-n-requires
-record_at-n-requires c = c.requires.0
-
-pub overflow_mul-r : goal.overflow_mul-r
-overflow_mul-r c = omega (arith, c.loop-r-test.true)
-
-pub overflow_add-at : goal.overflow_add-at
-overflow_add-at c = omega (arith, c.loop-r-test.true, c.requires.1)
+loop-r-init c = (refl, rows_start _ _ _ _)
 
 pub put_row-requires : goal.put_row-requires
-put_row-requires c = omega (arith, c.loop-r-test.true, c.requires.1, c.loop-r.invariant.1)
-
-pub overflow_add-r : goal.overflow_add-r
-overflow_add-r c = omega (arith, c.loop-r-test.true)
-
-pub loop-r-smaller : goal.loop-r-smaller
-loop-r-smaller c = omega (arith, c.loop-r-test.true)
+put_row-requires c = omega (arith, c.loop-r-test.true, c.requires.1, c.loop-r.invariant.0)
 
 pub loop-r-preserved : goal.loop-r-preserved
-loop-r-preserved c = (omega (arith, c.loop-r-test.true), c.put_row.auto.room ∙ c.loop-r.invariant.1, rows_step _ _ _ _ _ _ _ c.loop-r-test.true c.put_row.ensures c.record_at-n.ensures ∙ c.loop-r.invariant.2)
+loop-r-preserved c = (c.put_row.auto.room ∙ c.loop-r.invariant.0, rows_step _ _ _ _ _ _ _ c.loop-r-test.true c.put_row.ensures c.record_at-n.ensures ∙ c.loop-r.invariant.1)
 
 pub shape_of-room : goal.shape_of-room
-shape_of-room c = c.loop-r.invariant.1
+shape_of-room c = c.loop-r.invariant.0
 
 pub returns : goal.returns
-returns c = sym (rows_end _ _ _ _ _ c.loop-r-test.false) ∙ c.loop-r.invariant.2
+returns c = sym (rows_end _ _ _ _ _ c.loop-r-test.false) ∙ c.loop-r.invariant.1

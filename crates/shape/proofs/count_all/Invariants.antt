@@ -5,7 +5,4 @@ use Rattle.shape.specs.Counts.{marked_to, last_wrong}
 use Rattle.shape.proofs.count_all.Given as goal
 
 abbrev pub invariant-loop-m : goal.invariant-loop-m
-invariant-loop-m l = (l.m ≤ l.count) × (length l.counts ≡ length l.initial.counts) × (l.counts ≡ marked_to l.p l.initial.counts l.m) × (l.wrong ≡ last_wrong l.p l.m)
-
-abbrev pub decreases-loop-m : goal.decreases-loop-m
-decreases-loop-m l = l.count - l.m
+invariant-loop-m l = (length l.counts ≡ length l.initial.counts) × (l.counts ≡ marked_to l.p l.initial.counts l.m) × (l.wrong ≡ last_wrong l.p l.m)

@@ -14,17 +14,17 @@ pub count_all-last-requires : goal.count_all-last-requires
 count_all-last-requires c = (c.requires.within, c.requires.small, omega (arith, length-replicate {A = ℕ} 1008 0, c.requires.small))
 
 pub loop-j-init : goal.loop-j-init
-loop-j-init c = (omega arith, first_starts _ _)
+loop-j-init c = first_starts _ _
 
 pub bounds-counts-j : goal.bounds-counts-j
-bounds-counts-j c = omega (arith, c.loop-j-test.true, c.requires.small)
+bounds-counts-j c = omega (arith, c.requires.small)
 
 pub shape_wrong-requires : goal.shape_wrong-requires
 shape_wrong-requires c = let sized = c.requires in
     let done = c.count_all-last.ensures in (
       sized,
-      c.loop-j-test.true,
-      ap (λ (l : List ℕ). get_or l c.loop-j.j 0) done.0 ∙ marks_are _ _ _ sized c.loop-j-test.true,
+      omega arith,
+      ap (λ (l : List ℕ). get_or l c.loop-j.j 0) done.0 ∙ marks_are _ _ _ sized (omega arith),
       done.1,
     )
 
@@ -32,16 +32,10 @@ pub overflow_cast-result : goal.overflow_cast-result
 overflow_cast-result c = omega (arith, c.requires.small)
 
 pub returns-then-shape_wrong : goal.returns-then-shape_wrong
-returns-then-shape_wrong c = sym (first_here _ _ _ c.loop-j-test.true (sym c.shape_wrong.ensures ∙ c.if-shape_wrong.true)) ∙ c.loop-j.invariant.1 ∙ ap (first (shape_wrong c.args.p.now)) c.requires.is_nodes
-
-pub overflow_add-j : goal.overflow_add-j
-overflow_add-j c = omega (arith, c.requires.small)
-
-pub loop-j-smaller : goal.loop-j-smaller
-loop-j-smaller c = omega arith
+returns-then-shape_wrong c = sym (first_here _ _ _ (omega arith) (sym c.shape_wrong.ensures ∙ c.if-shape_wrong.true)) ∙ c.loop-j.invariant ∙ ap (first (shape_wrong c.args.p.now)) c.requires.is_nodes
 
 pub loop-j-preserved : goal.loop-j-preserved
-loop-j-preserved c = (omega arith, sym (first_next _ _ _ c.loop-j-test.true (sym c.shape_wrong.ensures ∙ c.if-shape_wrong.false)) ∙ c.loop-j.invariant.1)
+loop-j-preserved c = sym (first_next _ _ _ (omega arith) (sym c.shape_wrong.ensures ∙ c.if-shape_wrong.false)) ∙ c.loop-j.invariant
 
 pub returns : goal.returns
-returns c = sym (first_ends _ _ _ c.loop-j-test.false) ∙ c.loop-j.invariant.1 ∙ ap (first (shape_wrong c.args.p.now)) c.requires.is_nodes
+returns c = sym (first_ends _ _ _ (omega arith)) ∙ c.loop-j.invariant ∙ ap (first (shape_wrong c.args.p.now)) c.requires.is_nodes

@@ -5,7 +5,4 @@ use mathlib.Core.Path.{◌≡◌}
 use Rattle.shape.proofs.first_shape.Given as goal
 
 abbrev pub invariant-loop-j : goal.invariant-loop-j
-invariant-loop-j l = (l.j ≤ l.count) × (first_from (shape_wrong l.p) l.j (l.count - l.j) ≡ first (shape_wrong l.p) l.count)
-
-abbrev pub decreases-loop-j : goal.decreases-loop-j
-decreases-loop-j l = l.count - l.j
+invariant-loop-j l = first_from (shape_wrong l.p) l.j (l.count - l.j) ≡ first (shape_wrong l.p) l.count

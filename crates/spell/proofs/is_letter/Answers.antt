@@ -1,10 +1,17 @@
-use mathlib.Core.Path.{ap, ◌∙◌}
-use mathlib.Core.Bool.{Bool}
-use lib.Dec.{leb}
+use Rattle.std.proofs.Common.{arith}
+use Rattle.std.proofs.lemmas.Grind.{common_steps}
 use Rattle.rules.specs.Bytes.{◌and◌, ◌or◌}
 use Rattle.texts.specs.Spelling.{is_letter}
 use Rattle.spell.proofs.is_letter.Goals as goal
 
-pub returns : goal.returns
-unfolding is_letter
-returns c = c.either.ensures ∙ ap (λ (b : Bool). b or c.both-2.result) c.both.ensures ∙ ap (λ (b : Bool). (leb 97 c.args.b and leb c.args.b 122) or b) c.both-2.ensures
+pub returns-then-b-le122 : goal.returns-then-b-le122
+unfolding is_letter ◌and◌ ◌or◌
+returns-then-b-le122 c = grind (arith, common_steps)
+
+pub returns-then-b-ge65 : goal.returns-then-b-ge65
+unfolding is_letter ◌and◌ ◌or◌
+returns-then-b-ge65 c = grind (arith, common_steps)
+
+pub returns-else-b-ge65 : goal.returns-else-b-ge65
+unfolding is_letter ◌and◌ ◌or◌
+returns-else-b-ge65 c = grind (arith, common_steps)

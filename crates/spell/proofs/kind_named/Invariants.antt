@@ -1,14 +1,10 @@
 use mathlib.Core.Path.{◌≡◌}
-use Prim.Native.Nat.{◌-◌, ◌≤◌}
+use Prim.Native.Nat.{◌-◌}
 use Rattle.rules.specs.Bytes.{first_from, ◌and◌}
 use Rattle.rules.specs.Shape.{may_be}
-use Rattle.texts.specs.Tokens.{part}
 use Rattle.texts.specs.Spelled.{same}
 use Rattle.texts.specs.Spelling.{kind_word, kind_named}
 use Rattle.spell.proofs.kind_named.Given as goal
 
 abbrev pub invariant-loop-k : goal.invariant-loop-k
-invariant-loop-k l = (l.k ≤ 30) × (first_from (λ k. may_be l.f k and same (part l.text l.start l.end) (kind_word k)) l.k (30 - l.k) ≡ kind_named l.f (part l.text l.start l.end))
-
-abbrev pub decreases-loop-k : goal.decreases-loop-k
-decreases-loop-k l = 30 - l.k
+invariant-loop-k l = first_from (λ k. may_be l.f k and same l.word (kind_word k)) l.k (30 - l.k) ≡ kind_named l.f l.word

@@ -1,5 +1,5 @@
 -- `stamp::checks_of` meets its contract. The invariant: the sum so far is that of the checks of the blocks before.
-use Rattle.std.proofs.Common.{◌≡◌, ℕ, suc, ◌+◌, ◌-◌, ◌*◌, ◌/◌, ◌%◌, length, refl, ap, ◌∙◌, arith}
+use Rattle.std.proofs.Common.{◌≡◌, ℕ, suc, ◌+◌, ◌*◌, ◌/◌, ◌%◌, length, refl, ap, ◌∙◌, arith}
 use Rattle.rules.specs.Bytes.{Bytes, u32_at}
 use Rattle.rules.specs.Layout.{blocks, block_at, check_in, checks_below, checks_of}
 use Rattle.stamp.proofs.checks_of.Goals as goal
@@ -14,31 +14,19 @@ unfolding checks_below
 none_yet p = refl
 
 pub loop-j-init : goal.loop-j-init
-loop-j-init c = (omega arith, omega (arith, none_yet c.args.p.now))
-
-pub overflow_mul-j : goal.overflow_mul-j
-overflow_mul-j c = omega arith
-
-pub overflow_add-j : goal.overflow_add-j
-overflow_add-j c = omega arith
+loop-j-init c = omega (arith, none_yet c.args.p.now)
 
 pub u32_at-requires : goal.u32_at-requires
 u32_at-requires c = omega arith
 
-pub overflow_add-j-in-loop-j : goal.overflow_add-j-in-loop-j
-overflow_add-j-in-loop-j c = omega arith
-
-pub loop-j-smaller : goal.loop-j-smaller
-loop-j-smaller c = omega arith
-
 pub loop-j-preserved : goal.loop-j-preserved
 loop-j-preserved c = let loop = c.loop-j in
     let next = next_check c.args.p.now loop.j in
-    (omega arith, omega (arith, c.wrapping_add_u32-sum.ensures.value, c.u32_at.ensures, next, loop.invariant.1))
+    omega (arith, c.wrapping_add_u32-sum.ensures.value, c.u32_at.ensures, next, loop.invariant)
 
 pub returns : goal.returns
 unfolding checks_of blocks
 returns c = let p : Bytes = c.args.p.now in
     let loop = c.loop-j in
     let e : loop.j ≡ length p / 512 = omega arith in
-    loop.invariant.1 ∙ ap (λ (k : ℕ). checks_below p k % 4294967296) e
+    loop.invariant ∙ ap (λ (k : ℕ). checks_below p k % 4294967296) e

@@ -31,7 +31,7 @@ returns c = let p = c.shared_slice_known-1 in
     let rec = c.shared_slice_known-2-1 in
     let r = c.update_s-moved in (
       advances c.requires.0 (record { small = λ i. omega (arith, p.given i) }) (record { small = λ i. omega (arith, st.given i) }) (record { small = λ i. omega (arith, rec.given i) }) c.requires.2
-          (moved_in r.result) _ (ap (λ (o : Recalled). o.outcome) r.ensures.0) (sym c.settled.ensures ∙ c.in-Still.is) c.set_time.ensures c.time_of.ensures,
+          (moved_in r.result) _ (ap (λ (o : Recalled). o.outcome) r.ensures.0) (sym c.settled.ensures ∙ c.in-Some.is) c.set_time.ensures c.time_of.ensures,
       held_again (held c.requires.0) (c.set_time.auto.st ∙ r.auto.st) r.ensures.1,
       r.ensures.2,
     )

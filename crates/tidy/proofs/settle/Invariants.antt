@@ -1,10 +1,5 @@
 use Rattle.tidy.proofs.SettleLaws.{Settling}
-use Prim.Native.Nat.{◌-◌}
-use lib.ListN.{length}
 use Rattle.tidy.proofs.settle.Given as goal
 
 abbrev pub invariant-loop-k : goal.invariant-loop-k
 invariant-loop-k l = Settling l.names l.from l.initial.order l.initial.new l.order l.new l.m l.last l.k
-
-abbrev pub decreases-loop-k : goal.decreases-loop-k
-decreases-loop-k l = length l.names - l.k

@@ -8,6 +8,6 @@ pub returns-then-steps-lt-MOST_RECORDS : goal.returns-then-steps-lt-MOST_RECORDS
 unfolding is_record ◌and◌
 returns-then-steps-lt-MOST_RECORDS c = rw (lt-ltb c.args.steps 4096 (omega (arith, c.if-steps-lt-MOST_RECORDS.true)))
 
-pub returns : goal.returns
+pub returns-else-steps-lt-MOST_RECORDS : goal.returns-else-steps-lt-MOST_RECORDS
 unfolding is_record ◌and◌
-returns c = rw (le-ltb c.args.steps 4096 (omega (arith, c.if-steps-lt-MOST_RECORDS.false)))
+returns-else-steps-lt-MOST_RECORDS c = rw (le-ltb c.args.steps 4096 (omega (arith, c.if-steps-lt-MOST_RECORDS.false)))

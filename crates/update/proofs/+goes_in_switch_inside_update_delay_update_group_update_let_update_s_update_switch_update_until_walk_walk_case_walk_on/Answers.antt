@@ -11,7 +11,6 @@ use Rattle.noted.specs.Noted.{memory_in}
 use Rattle.outcomes.proofs.Outcomes.{shown_value, shown_exact, shown_stuck}
 use Rattle.rules.specs.Work.{moved}
 use Rattle.rules.specs.Tree.{signal_at}
-use Prim.Native.Nat.{ℕ}
 use mathlib.Core.Path.{refl, sym, ◌∙◌}
 use native.Mathlib.Omega.{arith}
 use borrow.Author.Rules.{rules}
@@ -26,49 +25,44 @@ use Rattle.rules.specs.Values.{unpacked}
 use Rattle.outcomes.proofs.Outcomes.{bind_value}
 use lib.ListN.{get_or, set}
 use mathlib.Core.List.{List}
-use mathlib.Core.Path.{refl, sym, ap, ◌∙◌}
+use mathlib.Core.Path.{ap}
 -- The needs of the update of a group. In a need a are the arguments, h is what was required of the node, m the cell, d whether it has a branch, f the branch, r the update of the part. Assumes nothing.
 use Rattle.moves.proofs.SmallLaws.{number_work, group_sum, branch_sum}
-use Rattle.moves.proofs.ReadyLaws.{group_part, branch_node, branch_part, placed, celled, cell_number}
+use Rattle.moves.proofs.ReadyLaws.{group_part, branch_node, branch_part, placed}
 use Rattle.evaluate.proofs.SignalLaws.{group_cell}
-use Rattle.moves.proofs.KindLaws.{group_first, group_branch, group_missing, low_updates}
-use Rattle.moves.specs.Outcomes.{count_in, moved_in}
+use Rattle.moves.proofs.KindLaws.{group_first, group_branch, group_missing}
+use Rattle.moves.specs.Outcomes.{count_in}
 use Rattle.branches.proofs.ByTable.{group_first as list-first}
 use Rattle.outcomes.specs.Outcome.{IsValue}
 use Rattle.outcomes.proofs.Outcomes.{exact_value, exact_same}
 use lib.ListN.{length}
-use mathlib.Core.Path.{refl, sym, ap, ◌∙◌, subst}
+use mathlib.Core.Path.{subst}
 -- The needs of the update of a let. In a need a are the arguments, h is what was required of the node, r and q the updates of parts. Assumes nothing.
-use Rattle.moves.proofs.SmallLaws.{number_work, let_sum}
+use Rattle.moves.proofs.SmallLaws.{let_sum}
 use Rattle.moves.proofs.NumberLaws.{later_fits, later_by}
-use Rattle.moves.proofs.ReadyLaws.{ready_again, let_parts}
+use Rattle.moves.proofs.ReadyLaws.{let_parts}
 use Rattle.moves.proofs.KindLaws.{let_stuck, let_broken, let_done}
-use lib.ListN.{get_or}
 -- The needs of the update of a switch and of the part that it is in. In a need a are the arguments, h is what was required of the node, x the evaluation, m the cell, r and q the updates of parts. Assumes nothing.
-use Rattle.moves.proofs.SmallLaws.{parts_work, calm_work, switch_work, switch_sum}
-use Rattle.moves.proofs.ReadyLaws.{ready_again, as_again, switch_parts, placed, celled, cell_number}
+use Rattle.moves.proofs.SmallLaws.{parts_work, switch_work, switch_sum}
+use Rattle.moves.proofs.ReadyLaws.{as_again, switch_parts}
 use Rattle.evaluate.proofs.SignalLaws.{switch_cell}
 use Rattle.moves.proofs.KindLaws.{switch_wrong, switch_broken, switch_caught, switch_quiet, switch_first, switch_second}
-use Rattle.outcomes.specs.declared.Parts.TheVariants.{Maybe}
-use Rattle.outcomes.specs.declared.Event.{Event}
-use Rattle.outcomes.specs.Outcome.{outcome_in, IsValue}
-use Rattle.outcomes.proofs.Outcomes.{take_value, exact_value, exact_same}
+use Rattle.outcomes.specs.Outcome.{outcome_in}
+use Rattle.outcomes.proofs.Outcomes.{take_value, parts_with}
 -- The needs of the update of an until. In a need a are the arguments, h is what was required of the node, o the walk, r the update of the part. Assumes nothing.
-use Rattle.moves.proofs.SmallLaws.{number_work, walk_sum, until_sum}
+use Rattle.moves.proofs.SmallLaws.{walk_sum, until_sum}
 use Rattle.moves.proofs.NumberLaws.{count_of}
-use Rattle.moves.proofs.ReadyLaws.{ready_again, until_parts}
+use Rattle.moves.proofs.ReadyLaws.{until_parts}
 use Rattle.moves.proofs.WalkLaws.{until_broken, until_still, walk_count, walk_still}
-use mathlib.Core.Path.{sym, ◌∙◌}
 -- The needs of the walk over an until's cases. In a need a are the arguments, h is what was required of the case, x the evaluation, o the walk, r and q the updates of parts. Assumes nothing.
-use Rattle.moves.proofs.SmallLaws.{parts_work, number_work, event_sum, rest_sum}
-use Rattle.moves.proofs.ReadyLaws.{ready_again, walk_again, case_part, case_rest}
-use Rattle.moves.proofs.WalkLaws.{walk_wrong, walk_took, walk_quiet, rest_work, last_on, broken_on, goes_on, walked_within, walk_still, occurs_plain}
-use Rattle.moves.specs.Outcomes.{moved_in, walked}
+use Rattle.moves.proofs.SmallLaws.{event_sum, rest_sum}
+use Rattle.moves.proofs.ReadyLaws.{walk_again, case_part, case_rest}
+use Rattle.moves.proofs.WalkLaws.{walk_wrong, walk_took, walk_quiet, rest_work, last_on, broken_on, goes_on, walked_within, occurs_plain}
+use Rattle.moves.specs.Outcomes.{walked}
 use Rattle.rules.specs.Evaluate.{Env}
 use Rattle.update.proofs.QuietLaws.{known_by, known_again}
 use Rattle.update.proofs.PassLaws.{passes_from, passes_fit, walk_passed}
-use Rattle.outcomes.specs.Outcome.{outcome_in}
-use Rattle.rules.specs.Tree.{signal_at, cases_at}
+use Rattle.rules.specs.Tree.{cases_at}
 -- The update of a signal, of each kind, and the walk over an until's cases, which call each other: each goes down in node numbers, and each need
 -- is a law of the crate moves; the needs stand by member in the folder Proof. Assumes nothing.
 use Rattle.update.proofs.+goes_in_switch_inside_update_delay_update_group_update_let_update_s_update_switch_update_until_walk_walk_case_walk_on.Goals as goal
@@ -76,12 +70,6 @@ use Rattle.update.proofs.+goes_in_switch_inside_update_delay_update_group_update
 pub update_delay-evaluated-e-requires : goal.update_delay-evaluated-e-requires
 update_delay-evaluated-e-requires t c = let a = c.args in
     (evaluable a.st.now a.env.now (delay_part c.requires.0), c.requires.1)
-
-pub update_delay-enum_known-v : goal.update_delay-enum_known-v
-update_delay-enum_known-v t c = c.in-Value.in-Value-own.keys1
-
-pub update_delay-enum_told-1 : goal.update_delay-enum_told-1
-update_delay-enum_told-1 t c = c.in_default.in_default-own.keys2
 
 pub update_delay-shape_of-st-in_default : goal.update_delay-shape_of-st-in_default
 update_delay-shape_of-st-in_default t c = refl
@@ -103,12 +91,6 @@ update_delay-goes-r-requires t c = let h = c.requires.0 in
       (ready_again refl x.ensures.2 k.ready, x.ensures.3.noted),
     )
 
-pub update_delay-enum_known-w : goal.update_delay-enum_known-w
-update_delay-enum_known-w t c = c.in-Still.in-Still-own.keys1
-
-pub update_delay-enum_told-in_default-settled : goal.update_delay-enum_told-in_default-settled
-update_delay-enum_told-in_default-settled t c = c.in_default-settled.in_default-settled-own.keys2
-
 pub update_delay-shape_of-st-in_default-settled : goal.update_delay-shape_of-st-in_default-settled
 update_delay-shape_of-st-in_default-settled t c = c.goes-r.auto.st
 
@@ -120,7 +102,7 @@ update_delay-returns-in_default-settled t c = let a = c.args in
     let z = c.show in
     let r = c.goes-r in
     let w = c.settled in
-    let e = shown_value x.result (sym z.ensures ∙ c.in-Value.is) in
+    let e = shown_value x.result (sym z.ensures ∙ c.in-Some.is) in
     let k = sym w.ensures ∙ c.in_default-settled.is in (
       delay_broken a.p.now.now a.i h.ready.node h.fields a.rec.now.now a.env.now a.st.now (memory_in a.memo.now) h.kind x.ensures.0 x.ensures.3.filled e x.ensures.2
           (moved_in r.result) r.new.st r.ensures.0 k,
@@ -135,7 +117,7 @@ update_delay-hold-requires t c = let h = c.requires.0 in
     let z = c.show in (
       celled h.ready.node h.ready.lent.table (omega (arith, h.ready.lent.cells, r.auto.st)) (delay_cell h.kind),
       shown_exact x.result
-          x.ensures.1 (sym z.ensures ∙ c.in-Value.is),
+          x.ensures.1 (sym z.ensures ∙ c.in-Some.is),
     )
 
 pub update_delay-stayed-requires : goal.update_delay-stayed-requires
@@ -146,8 +128,8 @@ update_delay-stayed-requires t c = let a = c.args in
     let r = c.goes-r in
     let w = c.settled in
     let e = shown_value x.result (sym z.ensures
-    ∙ c.in-Value.is) in
-    let k = sym w.ensures ∙ c.in-Still.is in
+    ∙ c.in-Some.is) in
+    let k = sym w.ensures ∙ c.in-Some-settled.is in
     delay_sum h (done_work a.rec.now.now a.st.now a.env.now (signal_at a.p.now.now a.n.a) x.ensures.0 e)
     (calm_work a.n.a (delay_part h).ready.node x.ensures.3.noted a.rec.now.now _ a.st.now r.result r.new.st r.ensures.0 k)
 
@@ -163,8 +145,8 @@ update_delay-returns t c = let a = c.args in
     let r = c.goes-r in
     let w = c.settled in
     let e = shown_value x.result (sym z.ensures
-    ∙ c.in-Value.is) in
-    let k = sym w.ensures ∙ c.in-Still.is in
+    ∙ c.in-Some.is) in
+    let k = sym w.ensures ∙ c.in-Some-settled.is in
     let i = cell_number h.ready.node h.ready.lent.table in (
       delay_done a.p.now.now a.i h.ready.node h.fields a.rec.now.now a.env.now a.st.now (memory_in a.memo.now) h.kind x.ensures.0 x.ensures.3.filled e x.ensures.2
           (moved_in r.result) r.new.st r.ensures.0 k c.hold.ensures i
@@ -439,12 +421,6 @@ pub update_let-bounds-memo-i : goal.update_let-bounds-memo-i
 update_let-bounds-memo-i t c = let h = c.requires.0.ready.node in
     omega (arith, h.inside, h.shaped.small)
 
-pub update_let-enum_known-v : goal.update_let-enum_known-v
-update_let-enum_known-v t c = c.in-Value.in-Value-own.keys1
-
-pub update_let-enum_told-1 : goal.update_let-enum_told-1
-update_let-enum_told-1 t c = c.in_default.in_default-own.keys2
-
 pub update_let-returns-in_default : goal.update_let-returns-in_default
 unfolding moved moved_in memory_in
 update_let-returns-in_default t c = let a = c.args in
@@ -462,16 +438,10 @@ update_let-inside-d-requires t c = let a = c.args in
       (
         k.ready,
         omega (arith, h.ready.node.inside, h.ready.node.shaped.small),
-        shown_exact (get_or a.memo.now a.i 0) (c.requires.1.outcomes a.i) (sym z.ensures ∙ c.in-Value.is),
+        shown_exact (get_or a.memo.now a.i 0) (c.requires.1.outcomes a.i) (sym z.ensures ∙ c.in-Some.is),
         c.requires.1,
       ),
     )
-
-pub update_let-enum_known-w : goal.update_let-enum_known-w
-update_let-enum_known-w t c = c.in-Still.in-Still-own.keys1
-
-pub update_let-enum_told-in_default-settled : goal.update_let-enum_told-in_default-settled
-update_let-enum_told-in_default-settled t c = c.in_default-settled.in_default-settled-own.keys2
 
 pub update_let-shape_of-st-in_default-settled : goal.update_let-shape_of-st-in_default-settled
 update_let-shape_of-st-in_default-settled t c = c.inside-d.auto.st
@@ -483,7 +453,7 @@ update_let-returns-in_default-settled t c = let a = c.args in
     let z = c.show in
     let r = c.inside-d in
     let w = c.settled in
-    let e = shown_value (get_or a.memo.now a.i 0) (sym z.ensures ∙ c.in-Value.is) in
+    let e = shown_value (get_or a.memo.now a.i 0) (sym z.ensures ∙ c.in-Some.is) in
     let k = sym w.ensures ∙ c.in_default-settled.is in (
       let_broken a.p.now.now a.i h.ready.node h.fields a.rec.now.now a.env.now a.st.now (memory_in a.memo.now) h.kind e
           (moved_in r.result) r.new.st r.ensures.0 k,
@@ -498,8 +468,8 @@ update_let-together-t-requires t c = let a = c.args in
     let z = c.show in
     let r = c.inside-d in
     let w = c.settled in
-    let e = shown_value (get_or a.memo.now a.i 0) (sym z.ensures ∙ c.in-Value.is) in
-    let k = sym w.ensures ∙ c.in-Still.is in
+    let e = shown_value (get_or a.memo.now a.i 0) (sym z.ensures ∙ c.in-Some.is) in
+    let k = sym w.ensures ∙ c.in-Some-settled.is in
     omega (arith, let_sum h c.requires.1 e a.rec.now.now _ a.st.now r.result r.new.st r.ensures.0 k {k = 0} (omega arith))
 
 pub update_let-inside-b-requires : goal.update_let-inside-b-requires
@@ -512,7 +482,7 @@ update_let-inside-b-requires t c = let a = c.args in
       (
         ready_again r.auto.st r.ensures.1 k.ready,
         omega (arith, h.ready.node.inside, h.ready.node.shaped.small),
-        shown_exact (get_or a.memo.now a.i 0) (c.requires.1.outcomes a.i) (sym z.ensures ∙ c.in-Value.is),
+        shown_exact (get_or a.memo.now a.i 0) (c.requires.1.outcomes a.i) (sym z.ensures ∙ c.in-Some.is),
         r.ensures.2,
       ),
     )
@@ -525,8 +495,8 @@ update_let-after-requires t c = let a = c.args in
     let r = c.inside-d in
     let w = c.settled in
     let q = c.inside-b in
-    let e = shown_value (get_or a.memo.now a.i 0) (sym z.ensures ∙ c.in-Value.is) in
-    let k = sym w.ensures ∙ c.in-Still.is in
+    let e = shown_value (get_or a.memo.now a.i 0) (sym z.ensures ∙ c.in-Some.is) in
+    let k = sym w.ensures ∙ c.in-Some-settled.is in
     later_fits _ _ _ c.together-t.ensures (let_sum h c.requires.1 e a.rec.now.now _ a.st.now r.result r.new.st r.ensures.0 k
     (number_work a.n.b (let_parts h).1.ready.node r.ensures.2 a.rec.now.now _ r.new.st q.result q.new.st q.ensures.0))
 
@@ -541,8 +511,8 @@ update_let-returns t c = let a = c.args in
     let r = c.inside-d in
     let w = c.settled in
     let q = c.inside-b in
-    let e = shown_value (get_or a.memo.now a.i 0) (sym z.ensures ∙ c.in-Value.is) in
-    let k = sym w.ensures ∙ c.in-Still.is in (
+    let e = shown_value (get_or a.memo.now a.i 0) (sym z.ensures ∙ c.in-Some.is) in
+    let k = sym w.ensures ∙ c.in-Some-settled.is in (
       let_done a.p.now.now a.i h.ready.node h.fields a.rec.now.now a.env.now a.st.now (memory_in a.memo.now) h.kind e
           (moved_in r.result) r.new.st r.ensures.0 k r.ensures.1 q.ensures.0
           (c.after.ensures.0 q.new.st ∙ later_by _ _ q.result q.new.st c.together-t.ensures),
@@ -604,12 +574,6 @@ pub update_switch-evaluated-e-requires : goal.update_switch-evaluated-e-requires
 update_switch-evaluated-e-requires t c = let a = c.args in
     (evaluable a.st.now a.env.now (switch_parts c.requires.0).1, c.requires.1)
 
-pub update_switch-enum_known-event : goal.update_switch-enum_known-event
-update_switch-enum_known-event t c = c.in-Maybe.in-Maybe-own.keys1
-
-pub update_switch-enum_told-1 : goal.update_switch-enum_told-1
-update_switch-enum_told-1 t c = c.in_default.in_default-own.keys2
-
 pub update_switch-shape_of-st-in_default : goal.update_switch-shape_of-st-in_default
 update_switch-shape_of-st-in_default t c = refl
 
@@ -633,12 +597,6 @@ update_switch-goes-r-requires t c = let h = c.requires.0 in
       (ready_again refl x.ensures.2 k.ready, x.ensures.3.noted),
     )
 
-pub update_switch-enum_known-w : goal.update_switch-enum_known-w
-update_switch-enum_known-w t c = c.in-Still.in-Still-own.keys1
-
-pub update_switch-enum_told-in_default-settled : goal.update_switch-enum_told-in_default-settled
-update_switch-enum_told-in_default-settled t c = c.in_default-settled.in_default-settled-own.keys2
-
 pub update_switch-shape_of-st-in_default-settled : goal.update_switch-shape_of-st-in_default-settled
 update_switch-shape_of-st-in_default-settled t c = c.goes-r.auto.st
 
@@ -652,16 +610,10 @@ update_switch-returns-in_default-settled t c = let a = c.args in
     let w = c.settled in
     let k = sym w.ensures ∙ c.in_default-settled.is in (
       switch_broken a.p.now.now a.i h.ready.node h.fields a.rec.now.now a.env.now a.st.now (memory_in a.memo.now) h.kind x.ensures.0 x.ensures.3.filled x.ensures.2
-          (moved_in r.result) r.new.st r.ensures.0 (sym z.ensures ∙ c.in-Maybe.is) k,
+          (moved_in r.result) r.new.st r.ensures.0 (sym z.ensures ∙ c.in-Some.is) k,
       r.ensures.1 ∙ x.ensures.2,
       r.ensures.2,
     )
-
-pub update_switch-enum_known-event-in-Occurs-1 : goal.update_switch-enum_known-event-in-Occurs-1
-update_switch-enum_known-event-in-Occurs-1 t c = c.in-Occurs.in-Occurs-own.keys1
-
-pub update_switch-enum_told-in_default-event : goal.update_switch-enum_told-in_default-event
-update_switch-enum_told-in_default-event t c = c.in_default-event.in_default-event-own.keys2
 
 pub update_switch-in_switch-q-requires : goal.update_switch-in_switch-q-requires
 update_switch-in_switch-q-requires t c = let h = c.requires.0 in
@@ -682,8 +634,8 @@ update_switch-later-requires t c = let a = c.args in
     let w = c.settled in
     let l = c.stay in
     let q = c.in_switch-q in
-    let k = sym w.ensures ∙ c.in-Still.is in
-    switch_sum h (parts_work a.rec.now.now a.st.now a.env.now (signal_at a.p.now.now a.n.b) x.ensures.0 (sym z.ensures ∙ c.in-Maybe.is))
+    let k = sym w.ensures ∙ c.in-Some-settled.is in
+    switch_sum h (parts_work a.rec.now.now a.st.now a.env.now (signal_at a.p.now.now a.n.b) x.ensures.0 (sym z.ensures ∙ c.in-Some.is))
     (calm_work a.n.b (switch_parts h).1.ready.node x.ensures.3.noted a.rec.now.now _ a.st.now r.result r.new.st r.ensures.0 k)
     (omega (
       arith,
@@ -705,9 +657,8 @@ update_switch-returns-in_default-event t c = let a = c.args in
     let w = c.settled in
     let q = c.in_switch-q in
     let l = c.stay in
-    let e = sym z.ensures ∙ c.in-Maybe.is ∙ ap (λ (e : Event). Maybe e c.in-Maybe.u)
-    c.in_default-event.is in
-    let k = sym w.ensures ∙ c.in-Still.is in (
+    let e = parts_with (sym z.ensures ∙ c.in-Some.is) c.in_default-event.is in
+    let k = sym w.ensures ∙ c.in-Some-settled.is in (
       switch_quiet a.p.now.now a.i h.ready.node h.fields a.rec.now.now a.env.now a.st.now (memory_in a.memo.now) h.kind x.ensures.0 x.ensures.3.filled x.ensures.2
           (moved_in r.result) r.new.st r.ensures.0 e k (r.ensures.1 ∙ x.ensures.2) q.ensures.0 (l.ensures.0 q.new.st)
           (c.later.ensures q.new.st),
@@ -720,7 +671,7 @@ update_switch-switches-requires t c = let h = c.requires.0 in
     let r = c.goes-r in
     let x = c.evaluated-e in
     let z = c.apart in
-    (placed r.auto.st h, take_value (outcome_in x.result) (sym z.ensures ∙ c.in-Maybe.is) c.in-Occurs.is)
+    (placed r.auto.st h, take_value (outcome_in x.result) (sym z.ensures ∙ c.in-Some.is) c.in-Some-event.is)
 
 pub update_switch-stayed-requires : goal.update_switch-stayed-requires
 update_switch-stayed-requires t c = let a = c.args in
@@ -729,11 +680,11 @@ update_switch-stayed-requires t c = let a = c.args in
     let z = c.apart in
     let r = c.goes-r in
     let w = c.settled in
-    let k = sym w.ensures ∙ c.in-Still.is in
+    let k = sym w.ensures ∙ c.in-Some-settled.is in
     omega (
       arith,
       switch_sum h {k = 0} (parts_work a.rec.now.now a.st.now a.env.now (signal_at a.p.now.now a.n.b) x.ensures.0
-          (sym z.ensures ∙ c.in-Maybe.is)) (calm_work a.n.b (switch_parts h).1.ready.node x.ensures.3.noted a.rec.now.now _ a.st.now r.result r.new.st
+          (sym z.ensures ∙ c.in-Some.is)) (calm_work a.n.b (switch_parts h).1.ready.node x.ensures.3.noted a.rec.now.now _ a.st.now r.result r.new.st
           r.ensures.0 k) (omega arith),
     )
 
@@ -748,8 +699,8 @@ update_switch-returns t c = let a = c.args in
     let r = c.goes-r in
     let z = c.apart in
     let w = c.settled in
-    let e = sym z.ensures ∙ c.in-Maybe.is ∙ ap (λ (e : Event). Maybe e c.in-Maybe.u) c.in-Occurs.is in
-    let k = sym w.ensures ∙ c.in-Still.is in (
+    let e = parts_with (sym z.ensures ∙ c.in-Some.is) c.in-Some-event.is in
+    let k = sym w.ensures ∙ c.in-Some-settled.is in (
       switch_caught a.p.now.now a.i h.ready.node h.fields a.rec.now.now a.env.now a.st.now (memory_in a.memo.now) h.kind x.ensures.0 x.ensures.3.filled x.ensures.2
           (moved_in r.result) r.new.st r.ensures.0 e k c.switches.ensures
           (c.stayed.ensures c.switches.new.st),
@@ -759,12 +710,6 @@ update_switch-returns t c = let a = c.args in
 
 pub update_until-walk-o-requires : goal.update_until-walk-o-requires
 update_until-walk-o-requires t c = let k = (until_parts c.requires.0).1 in (omega (arith, k.0, c.decreases), (k.1, c.requires.1))
-
-pub update_until-enum_known-u : goal.update_until-enum_known-u
-update_until-enum_known-u t c = c.in-Still.in-Still-own.keys1
-
-pub update_until-enum_told-1 : goal.update_until-enum_told-1
-update_until-enum_told-1 t c = c.in_default.in_default-own.keys2
 
 pub update_until-ruled-requires : goal.update_until-ruled-requires
 update_until-ruled-requires t c = let a = c.args in
@@ -806,7 +751,7 @@ update_until-after-requires t c = let a = c.args in
     let o = c.walk-o in
     let w = c.settled in
     let r = c.goes-r in
-    let k = sym w.ensures ∙ c.in-Still.is in
+    let k = sym w.ensures ∙ c.in-Some.is in
     omega (
       arith,
       l.ensures.1,
@@ -821,7 +766,7 @@ update_until-ruled-requires-2 t c = let a = c.args in
     let o = c.walk-o in
     let w = c.settled in
     let r = c.goes-r in
-    let k = sym w.ensures ∙ c.in-Still.is in
+    let k = sym w.ensures ∙ c.in-Some.is in
     omega (
       arith,
       c.after.ensures.1,
@@ -842,7 +787,7 @@ update_until-returns t c = let a = c.args in
     let w = c.settled in
     let r = c.goes-r in
     let l = c.stay in
-    let k = sym w.ensures ∙ c.in-Still.is in (
+    let k = sym w.ensures ∙ c.in-Some.is in (
       until_still a.p.now.now a.i h.ready.node h.fields h.kind a.rec.now.now a.env.now a.st.now (memory_in a.memo.now) (moved_in o.result)
           o.new.st o.ensures.0 k o.ensures.1 (moved_in r.result) r.new.st r.ensures.0 (l.ensures.0 r.new.st)
           (c.after.ensures.0 r.new.st) (c.ruled-2.ensures r.new.st),
@@ -892,12 +837,6 @@ walk_case-event_of-e-requires t c = let a = c.args in
     let f = c.node_by-n in
     (evaluable a.st.now a.env.now (case_part (record { ready = h; fields = f.ensures })), c.requires.1, known_by f.ensures.a_is c.requires.2)
 
-pub walk_case-enum_known-event : goal.walk_case-enum_known-event
-walk_case-enum_known-event t c = c.in-Maybe.in-Maybe-own.keys1
-
-pub walk_case-enum_told-1 : goal.walk_case-enum_told-1
-walk_case-enum_told-1 t c = c.in_default.in_default-own.keys2
-
 pub walk_case-shape_of-st-in_default : goal.walk_case-shape_of-st-in_default
 walk_case-shape_of-st-in_default t c = refl
 
@@ -914,12 +853,6 @@ walk_case-returns-in_default t c = let a = c.args in
       x.ensures.3.noted,
     )
 
-pub walk_case-enum_known-event-in-Occurs-1 : goal.walk_case-enum_known-event-in-Occurs-1
-walk_case-enum_known-event-in-Occurs-1 t c = c.in-Occurs.in-Occurs-own.keys1
-
-pub walk_case-enum_told-in_default-event : goal.walk_case-enum_told-in_default-event
-walk_case-enum_told-in_default-event t c = c.in_default-event.in_default-event-own.keys2
-
 pub walk_case-walk_on-rest-requires : goal.walk_case-walk_on-rest-requires
 walk_case-walk_on-rest-requires t c = let h = c.requires.0 in
     let x = c.event_of-e in (
@@ -934,7 +867,7 @@ walk_case-after-requires t c = let a = c.args in
     let f = c.node_by-n in
     let x = c.event_of-e in
     let z = c.apart in
-    let e = sym z.ensures ∙ c.in-Maybe.is ∙ ap (λ (e : Event). Maybe e c.in-Maybe.u) c.in_default-event.is in
+    let e = parts_with (sym z.ensures ∙ c.in-Some.is) c.in_default-event.is in
     omega (
       arith,
       h.small,
@@ -942,7 +875,7 @@ walk_case-after-requires t c = let a = c.args in
       rest_work a.p.now.now a.j h.node f.ensures a.rec.now.now a.env.now a.st.now (memory_in a.memo.now) x.ensures.0 x.ensures.3.filled e x.ensures.2 (moved_in o.result) o.new.st o.ensures.0
           (walked_within a.j h.node c.requires.1 a.rec.now.now a.env.now a.st.now)
           (event_sum {n = f.result} (record { ready = h; fields = f.ensures })
-          (parts_work a.rec.now.now a.st.now a.env.now (signal_at a.p.now.now f.result.a) x.ensures.0 (sym z.ensures ∙ c.in-Maybe.is))),
+          (parts_work a.rec.now.now a.st.now a.env.now (signal_at a.p.now.now f.result.a) x.ensures.0 (sym z.ensures ∙ c.in-Some.is))),
     )
 
 pub walk_case-shape_of-st-in_default-event : goal.walk_case-shape_of-st-in_default-event
@@ -955,8 +888,7 @@ walk_case-returns-in_default-event t c = let a = c.args in
     let x = c.event_of-e in
     let z = c.apart in
     let o = c.walk_on-rest in
-    let e = sym z.ensures ∙ c.in-Maybe.is ∙ ap (λ (e : Event). Maybe e c.in-Maybe.u)
-    c.in_default-event.is in (
+    let e = parts_with (sym z.ensures ∙ c.in-Some.is) c.in_default-event.is in (
       walk_quiet a.p.now.now a.j h.node f.ensures a.rec.now.now a.env.now a.st.now (memory_in a.memo.now) x.ensures.0 x.ensures.3.filled e x.ensures.2 (moved_in o.result)
           o.new.st o.ensures.0 (c.after.ensures.0 o.new.st),
       o.ensures.1 ∙ x.ensures.2,
@@ -969,7 +901,7 @@ walk_case-jump-requires t c = let a = c.args in
     let x = c.event_of-e in
     let z = c.apart in
     let f = c.node_by-n in
-    let e = sym z.ensures ∙ c.in-Maybe.is ∙ ap (λ (e : Event). Maybe e c.in-Maybe.u) c.in-Occurs.is in
+    let e = parts_with (sym z.ensures ∙ c.in-Some.is) c.in-Some-event.is in
     let k = occurs_plain (outcome_in x.result) e in (
       k.0,
       k.1,
@@ -977,7 +909,7 @@ walk_case-jump-requires t c = let a = c.args in
         arith,
         h.small,
         (event_sum {n = f.result} (record { ready = h; fields = f.ensures })
-            (parts_work a.rec.now.now a.st.now a.env.now (signal_at a.p.now.now f.result.a) x.ensures.0 (sym z.ensures ∙ c.in-Maybe.is))),
+            (parts_work a.rec.now.now a.st.now a.env.now (signal_at a.p.now.now f.result.a) x.ensures.0 (sym z.ensures ∙ c.in-Some.is))),
       ),
     )
 
@@ -990,7 +922,7 @@ walk_case-returns t c = let a = c.args in
     let f = c.node_by-n in
     let x = c.event_of-e in
     let z = c.apart in
-    let e = sym z.ensures ∙ c.in-Maybe.is ∙ ap (λ (e : Event). Maybe e c.in-Maybe.u) c.in-Occurs.is in (
+    let e = parts_with (sym z.ensures ∙ c.in-Some.is) c.in-Some-event.is in (
       walk_took a.p.now.now a.j h.node f.ensures a.rec.now.now a.env.now a.st.now (memory_in a.memo.now) x.ensures.0 x.ensures.3.filled e (c.jump.ensures a.st.now),
       x.ensures.2,
       x.ensures.3.noted,
@@ -1017,12 +949,6 @@ walk_on-returns-then-n-eq-LAST t c = let a = c.args in
 pub walk_on-walk-rest-requires : goal.walk_on-walk-rest-requires
 walk_on-walk-rest-requires t c = let k = case_rest c.requires.0 c.if-n-eq-LAST.false in
     (omega (arith, k.0, c.decreases), (k.1, c.requires.1))
-
-pub walk_on-enum_known-w : goal.walk_on-enum_known-w
-walk_on-enum_known-w t c = c.in-Still.in-Still-own.keys1
-
-pub walk_on-enum_told-1 : goal.walk_on-enum_told-1
-walk_on-enum_told-1 t c = c.in_default.in_default-own.keys2
 
 pub walk_on-shape_of-st-in_default : goal.walk_on-shape_of-st-in_default
 walk_on-shape_of-st-in_default t c = c.walk-rest.auto.st
@@ -1054,7 +980,7 @@ walk_on-after-requires t c = let a = c.args in
     let o = c.walk-rest in
     let w = c.settled in
     let q = c.goes-r in
-    let k = sym w.ensures ∙ c.in-Still.is in
+    let k = sym w.ensures ∙ c.in-Some.is in
     omega (
       arith,
       l.ensures.1,
@@ -1075,7 +1001,7 @@ walk_on-returns t c = let a = c.args in
     let w = c.settled in
     let q = c.goes-r in
     let l = c.stay-2 in
-    let k = sym w.ensures ∙ c.in-Still.is in (
+    let k = sym w.ensures ∙ c.in-Some.is in (
       goes_on a.p.now.now a.j h.ready.node h.fields a.rec.now.now a.env.now a.st.now (memory_in a.memo.now)
           c.if-n-eq-LAST.false
           (moved_in o.result) o.new.st o.ensures.0 k o.ensures.1 (moved_in q.result) q.new.st q.ensures.0

@@ -22,5 +22,5 @@ pub returns-then-t-eq-INT : goal.returns-then-t-eq-INT
 returns-then-t-eq-INT c = let args = c.args in int_fits args.t args.present args.word c.if-t-eq-INT.true
 
 pub returns : goal.returns
-unfolding value_fits maybe_of
-returns c = cc
+unfolding value_fits maybe_of ◌and◌ ◌or◌
+returns c = rw c.is_maybe.ensures refl

@@ -1,18 +1,24 @@
-use Rattle.verdict.proofs.Joined.{wrong_length, judges_fault, format_fault, format_fine, formed}
+use Rattle.std.proofs.lemmas.Result.{err_from_is_err_and}
 use mathlib.Core.Path.{sym, ◌∙◌}
+use Rattle.verdict.specs.Parts.{judged}
+use Rattle.verdict.proofs.Joined.{wrong_length, format_fault, format_fine, formed}
 use Rattle.verdict.proofs.judge.Goals as goal
 
 pub returns-then-length_wrong : goal.returns-then-length_wrong
-returns-then-length_wrong c = judges_fault _ c.refused.ensures (wrong_length _ (sym c.length_wrong.ensures ∙ c.if-length_wrong.true))
+unfolding judged
+returns-then-length_wrong c = rw (wrong_length _ (sym c.length_wrong.ensures ∙ c.if-length_wrong.true))
 
-pub format_verdict-form-requires : goal.format_verdict-form-requires
-format_verdict-form-requires c = sym c.length_wrong.ensures ∙ c.if-length_wrong.false
+pub format_verdict-requires : goal.format_verdict-requires
+format_verdict-requires c = sym c.length_wrong.ensures ∙ c.if-length_wrong.false
 
 pub judge_shape-requires : goal.judge_shape-requires
-judge_shape-requires c = formed _ (sym c.length_wrong.ensures ∙ c.if-length_wrong.false) (sym c.format_verdict-form.ensures ∙ c.in-Fine.is)
+judge_shape-requires c = formed _ (sym c.length_wrong.ensures ∙ c.if-length_wrong.false) (sym c.format_verdict.ensures ∙ c.in_ok-format_verdict.was)
 
-pub returns-in-Refuse : goal.returns-in-Refuse
-returns-in-Refuse c = judges_fault _ c.refused-in-Refuse.ensures (format_fault _ _ (sym c.length_wrong.ensures ∙ c.if-length_wrong.false) (sym c.format_verdict-form.ensures ∙ c.in-Refuse.is))
+pub returns-in_err-format_verdict : goal.returns-in_err-format_verdict
+unfolding judged
+returns-in_err-format_verdict c =
+    let p = err_from_is_err_and c.from_residual.result c.from_residual.ensures.1 in
+    rw (p.1, p.2) (rw (format_fault _ _ (sym c.length_wrong.ensures ∙ c.if-length_wrong.false) (sym c.format_verdict.ensures ∙ c.in_err-format_verdict.was)))
 
-pub returns-in-Fine : goal.returns-in-Fine
-returns-in-Fine c = rw (format_fine _ (sym c.length_wrong.ensures ∙ c.if-length_wrong.false) (sym c.format_verdict-form.ensures ∙ c.in-Fine.is)) c.judge_shape.ensures
+pub returns : goal.returns
+returns c = rw (format_fine _ (sym c.length_wrong.ensures ∙ c.if-length_wrong.false) (sym c.format_verdict.ensures ∙ c.in_ok-format_verdict.was)) c.judge_shape.ensures

@@ -1,13 +1,19 @@
-use Rattle.watch.proofs.Calling.{check_refused, check_accepted}
+use Rattle.std.proofs.lemmas.Result.{err_from_is_err_and}
 use Rattle.rules.proofs.Verdicts.{accepted as accepted-when}
+use Rattle.verdict.proofs.Judging.{judged_ok, judged_err}
+use Rattle.watch.proofs.Calling.{check_refused, check_accepted, parts_said}
 use mathlib.Core.Path.{sym, ◌∙◌}
 use Rattle.watch.proofs.check.Goals as goal
 
 pub accept-requires : goal.accept-requires
-accept-requires c = let e = sym c.judge-found.ensures.verdict_is ∙ c.in-Fine.is in (accepted-when _ e, c.judge-found.ensures.count_is e, c.judge-found.ensures.type_is e)
+accept-requires c = let j = judged_ok _ _ c.judge.ensures c.in_ok-found.was in (accepted-when _ j.0, j.1, j.2)
 
-pub returns-in-Refuse : goal.returns-in-Refuse
-returns-in-Refuse c = let e = sym c.judge-found.ensures.verdict_is ∙ c.in-Refuse.is in c.refused.ensures ∙ sym (check_refused _ _ e)
+pub returns-in_err-found : goal.returns-in_err-found
+returns-in_err-found c =
+    let p = err_from_is_err_and c.from_residual.result c.from_residual.ensures.1 in
+    rw (p.1, p.2) (sym (check_refused _ _ (judged_err _ _ c.judge.ensures c.in_err-found.was)))
 
-pub returns-in-Fine : goal.returns-in-Fine
-returns-in-Fine c = let e = sym c.judge-found.ensures.verdict_is ∙ c.in-Fine.is in c.accept.ensures ∙ sym (check_accepted _ e)
+pub returns : goal.returns
+returns c =
+    let j = judged_ok _ _ c.judge.ensures c.in_ok-found.was in
+    parts_said _ _ c.accept.ensures.nodes c.accept.ensures.cells c.accept.ensures.bound c.accept.ensures.root ∙ sym (check_accepted _ j.0)

@@ -1,8 +1,21 @@
-use Rattle.watch.proofs.Calling.{lent_said}
+use Rattle.std.proofs.lemmas.Result.{err_from_is_err_and}
+use Rattle.watch.proofs.Calling.{state_stops, records_stop, output_said}
+use mathlib.Core.Path.{sym, ◌∙◌}
 use Rattle.watch.proofs.lent_verdict.Goals as goal
 
-pub state_verdict-state-requires : goal.state_verdict-state-requires
-state_verdict-state-requires c = c.requires
+pub state_verdict-requires : goal.state_verdict-requires
+state_verdict-requires c = c.requires
+
+pub returns-in_err-state_verdict : goal.returns-in_err-state_verdict
+returns-in_err-state_verdict c =
+    let p = err_from_is_err_and c.from_residual.result c.from_residual.ensures.1 in
+    rw (p.1, p.2) (state_stops _ _ _ _ _ (sym c.state_verdict.ensures ∙ c.in_err-state_verdict.was))
+
+pub returns-in_err-refuse_if : goal.returns-in_err-refuse_if
+returns-in_err-refuse_if c =
+    let p = err_from_is_err_and c.from_residual-in_err-refuse_if.result c.from_residual-in_err-refuse_if.ensures.1 in
+    rw (p.1, p.2) (records_stop _ _ _ _ _ (sym c.state_verdict.ensures ∙ c.in_ok-state_verdict.was) (sym c.refuse_if.ensures ∙ c.in_err-refuse_if.was))
 
 pub returns : goal.returns
-returns c = lent_said _ _ _ _ _ c.state_verdict-state.ensures c.refuse_if-records.ensures c.refuse_if-output.ensures c.otherwise.ensures c.otherwise-2.ensures
+returns c =
+    output_said _ _ _ _ _ (sym c.state_verdict.ensures ∙ c.in_ok-state_verdict.was) (sym c.refuse_if.ensures ∙ c.in_ok-refuse_if.was) c.refuse_if-2.ensures

@@ -1,13 +1,19 @@
-use Rattle.watch.proofs.Calling.{run_refused, run_accepted as run-goes}
+use Rattle.std.proofs.lemmas.Result.{err_from_is_err_and}
 use Rattle.rules.proofs.Verdicts.{accepted as accepted-when}
-use mathlib.Core.Path.{refl, sym, ◌∙◌}
+use Rattle.verdict.proofs.Judging.{judged_ok, judged_err}
+use Rattle.watch.proofs.Calling.{run_refused, run_accepted as run-goes}
+use mathlib.Core.Path.{refl}
 use Rattle.watch.proofs.run.Goals as goal
 
 pub run_accepted-requires : goal.run_accepted-requires
-run_accepted-requires c = let e = sym c.judge-found.ensures.verdict_is ∙ c.in-Fine.is in (accepted-when _ e, c.judge-found.ensures.count_is e)
+run_accepted-requires c = let j = judged_ok _ _ c.judge.ensures c.in_ok-judged.was in (accepted-when _ j.0, j.1)
 
-pub returns-in-Refuse : goal.returns-in-Refuse
-returns-in-Refuse c = let e = sym c.judge-found.ensures.verdict_is ∙ c.in-Refuse.is in rw (run_refused _ _ _ _ _ e) (refl, refl, refl)
+pub returns-in_err-judged : goal.returns-in_err-judged
+returns-in_err-judged c =
+    let p = err_from_is_err_and c.from_residual.result c.from_residual.ensures.1 in
+    rw (p.1, p.2, run_refused _ _ _ _ _ (judged_err _ _ c.judge.ensures c.in_err-judged.was)) (refl, refl, refl)
 
-pub returns-in-Fine : goal.returns-in-Fine
-returns-in-Fine c = let e = sym c.judge-found.ensures.verdict_is ∙ c.in-Fine.is in rw (run-goes _ _ _ _ e) (c.run_accepted.ensures.answer_is, c.run_accepted.ensures.state_is, c.run_accepted.ensures.output_is)
+pub returns : goal.returns
+returns c =
+    rw (run-goes _ _ _ _ (judged_ok _ _ c.judge.ensures c.in_ok-judged.was).0)
+    (c.run_accepted.ensures.answer_is, c.run_accepted.ensures.state_is, c.run_accepted.ensures.output_is)

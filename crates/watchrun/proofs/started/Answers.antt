@@ -1,4 +1,5 @@
 use mathlib.Core.Path.{refl}
+use native.Mathlib.Omega.{arith}
 use Rattle.rules.specs.Evaluate.{unbound}
 use Rattle.noted.proofs.FillLaws.{noted_fresh}
 use Rattle.watchrun.proofs.started.Goals as goal
@@ -7,4 +8,9 @@ pub steps-requires : goal.steps-requires
 unfolding unbound
 steps-requires g c = let begun = c.begin-ready.ensures in
     let pre = c.requires in
-    (record { accepted = pre.0; indexed = begun.indexed; counted = pre.1; well = begun.well c.in-Ready.is; blank = refl }, noted_fresh _)
+    record {
+      going = record { accepted = pre.0; indexed = begun.indexed; counted = pre.1; well = begun.well c.in-Ok.is; blank = refl };
+      noted = noted_fresh _;
+      few = omega arith;
+      fits = omega arith;
+    }

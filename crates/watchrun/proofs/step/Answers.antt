@@ -1,5 +1,6 @@
-use Rattle.watchrun.proofs.TurnLaws.{never}
+use mathlib.Core.Path.{refl}
+use Rattle.watchrun.proofs.TurnLaws.{goes_on}
 use Rattle.watchrun.proofs.step.Goals as goal
 
-pub returns-then-after : goal.returns-then-after
-returns-then-after g c = (λ e. never c.stop.ensures e, λ e. never c.stop.ensures e)
+pub returns-in_ok-put-in-Step-clause-counted : goal.returns-in_ok-put-in-Step-clause-counted
+returns-in_ok-put-in-Step-clause-counted g c = λ _. goes_on _ _ c.args.run.now.steps c.args.run.now.total _ c.in-Step.ensures.turned refl

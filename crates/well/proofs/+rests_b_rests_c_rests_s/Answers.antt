@@ -1,10 +1,17 @@
+use Rattle.rules.specs.Bytes.{◌and◌, ◌or◌}
+use mathlib.Core.Bool.{Bool, true, false}
 use Rattle.well.proofs.RestLaws.{delay_rests_said, let_rests_said, switch_rests_said, group_rests_said, until_rests_said, quiet_rests, branch_rests_end_said, branch_rests_on_said, case_rests_end_said, case_rests_on_said}
 use Rattle.state.proofs.Carried.{carried, own_delay, own_switch, own_group}
 use Rattle.rules.proofs.Signals.{delay_kid, let_kids, switch_kids, group_kids, until_kids, branch_kid, branch_next, case_kid, case_next}
 use Rattle.rules.proofs.Kids.{read}
-use mathlib.Core.Path.{refl, sym, ◌∙◌}
+use mathlib.Core.Path.{refl, sym, ◌∙◌, ◌≡◌}
 use native.Mathlib.Omega.{arith}
 use Rattle.well.proofs.+rests_b_rests_c_rests_s.Goals as goal
+
+true_too : (b : Bool) → b ≡ (b and true)
+unfolding ◌and◌
+true_too true = refl
+true_too false = refl
 
 pub rests_b-node-n-requires : goal.rests_b-node-n-requires
 rests_b-node-n-requires t c = let w = c.requires.node in (omega (arith, w.inside, w.shaped.within), omega (arith, w.inside, w.shaped.small))
@@ -13,13 +20,15 @@ pub rests_b-rests_s-body-requires : goal.rests_b-rests_s-body-requires
 rests_b-rests_s-body-requires t c = let k = read c.node-n.ensures.a_is (branch_kid c.args.p.now.now c.args.j c.requires.node) in (omega (arith, k.less, c.decreases), carried c.requires refl k)
 
 pub rests_b-returns-then-n-eq-LAST : goal.rests_b-returns-then-n-eq-LAST
-rests_b-returns-then-n-eq-LAST t c = branch_rests_end_said c.args.p.now.now c.args.j c.requires.node c.args.st.now.now c.node-n.ensures c.rests_s-body.ensures c.if-n-eq-LAST.true c.both.ensures
+unfolding ◌and◌ ◌or◌
+rests_b-returns-then-n-eq-LAST t c = branch_rests_end_said c.args.p.now.now c.args.j c.requires.node c.args.st.now.now c.node-n.ensures c.rests_s-body.ensures c.if-n-eq-LAST.true (true_too _)
 
 pub rests_b-rests_b-next-requires : goal.rests_b-rests_b-next-requires
 rests_b-rests_b-next-requires t c = let k = read c.node-n.ensures.b_is (branch_next c.args.p.now.now c.args.j c.requires.node (λ h. c.if-n-eq-LAST.false (c.node-n.ensures.b_is ∙ h))) in (omega (arith, k.less, c.decreases), carried c.requires refl k)
 
 pub rests_b-returns : goal.rests_b-returns
-rests_b-returns t c = branch_rests_on_said c.args.p.now.now c.args.j c.requires.node c.args.st.now.now c.node-n.ensures c.rests_s-body.ensures c.if-n-eq-LAST.false c.rests_b-next.ensures c.both-2.ensures
+unfolding ◌and◌ ◌or◌
+rests_b-returns t c = branch_rests_on_said c.args.p.now.now c.args.j c.requires.node c.args.st.now.now c.node-n.ensures c.rests_s-body.ensures c.if-n-eq-LAST.false c.rests_b-next.ensures refl
 
 pub rests_c-node-n-requires : goal.rests_c-node-n-requires
 rests_c-node-n-requires t c = let w = c.requires.node in (omega (arith, w.inside, w.shaped.within), omega (arith, w.inside, w.shaped.small))
@@ -28,13 +37,15 @@ pub rests_c-rests_s-event-requires : goal.rests_c-rests_s-event-requires
 rests_c-rests_s-event-requires t c = let k = read c.node-n.ensures.a_is (case_kid c.args.p.now.now c.args.j c.requires.node) in (omega (arith, k.less, c.decreases), carried c.requires refl k)
 
 pub rests_c-returns-then-n-eq-LAST : goal.rests_c-returns-then-n-eq-LAST
-rests_c-returns-then-n-eq-LAST t c = case_rests_end_said c.args.p.now.now c.args.j c.requires.node c.args.st.now.now c.node-n.ensures c.rests_s-event.ensures c.if-n-eq-LAST.true c.both.ensures
+unfolding ◌and◌ ◌or◌
+rests_c-returns-then-n-eq-LAST t c = case_rests_end_said c.args.p.now.now c.args.j c.requires.node c.args.st.now.now c.node-n.ensures c.rests_s-event.ensures c.if-n-eq-LAST.true (true_too _)
 
 pub rests_c-rests_c-next-requires : goal.rests_c-rests_c-next-requires
 rests_c-rests_c-next-requires t c = let k = read c.node-n.ensures.b_is (case_next c.args.p.now.now c.args.j c.requires.node (λ h. c.if-n-eq-LAST.false (c.node-n.ensures.b_is ∙ h))) in (omega (arith, k.less, c.decreases), carried c.requires refl k)
 
 pub rests_c-returns : goal.rests_c-returns
-rests_c-returns t c = case_rests_on_said c.args.p.now.now c.args.j c.requires.node c.args.st.now.now c.node-n.ensures c.rests_s-event.ensures c.if-n-eq-LAST.false c.rests_c-next.ensures c.both-2.ensures
+unfolding ◌and◌ ◌or◌
+rests_c-returns t c = case_rests_on_said c.args.p.now.now c.args.j c.requires.node c.args.st.now.now c.node-n.ensures c.rests_s-event.ensures c.if-n-eq-LAST.false c.rests_c-next.ensures refl
 
 pub rests_s-node-n-requires : goal.rests_s-node-n-requires
 rests_s-node-n-requires t c = let w = c.requires.node in (omega (arith, w.inside, w.shaped.within), omega (arith, w.inside, w.shaped.small))
@@ -79,19 +90,24 @@ pub rests_s-rests_c-requires : goal.rests_s-rests_c-requires
 rests_s-rests_c-requires t c = let k = read c.node-n.ensures.b_is (until_kids c.args.p.now.now c.args.i c.requires.node (sym c.node-n.ensures.kind_is ∙ c.in-8.is)).1 in (omega (arith, k.less, c.decreases), carried c.requires refl k)
 
 pub rests_s-returns-in-4 : goal.rests_s-returns-in-4
-rests_s-returns-in-4 t c = delay_rests_said c.args.p.now.now c.args.index.now _ c.args.i c.requires c.args.st.now.now c.node-n.ensures c.in-4.is c.own_cell-m.ensures c.rests_s-s.ensures c.first_value.ensures c.both.ensures
+unfolding ◌and◌ ◌or◌
+rests_s-returns-in-4 t c = delay_rests_said c.args.p.now.now c.args.index.now _ c.args.i c.requires c.args.st.now.now c.node-n.ensures c.in-4.is c.own_cell-m.ensures c.rests_s-s.ensures c.first_value.ensures refl
 
 pub rests_s-returns-in-5 : goal.rests_s-returns-in-5
-rests_s-returns-in-5 t c = let_rests_said c.args.p.now.now c.args.index.now _ c.args.i c.requires c.args.st.now.now c.node-n.ensures c.in-5.is c.rests_s.ensures c.rests_s-in-5.ensures c.both-in-5.ensures
+unfolding ◌and◌ ◌or◌
+rests_s-returns-in-5 t c = let_rests_said c.args.p.now.now c.args.index.now _ c.args.i c.requires c.args.st.now.now c.node-n.ensures c.in-5.is c.rests_s.ensures c.rests_s-in-5.ensures refl
 
 pub rests_s-returns-in-6 : goal.rests_s-returns-in-6
-rests_s-returns-in-6 t c = switch_rests_said c.args.p.now.now c.args.index.now _ c.args.i c.requires c.args.st.now.now c.node-n.ensures c.in-6.is c.own_cell-m-in-6.ensures c.rests_s-x.ensures c.rests_s-e.ensures c.rests_s-y.ensures c.both-in-6.ensures c.both-in-6-2.ensures c.both-in-6-3.ensures
+unfolding ◌and◌ ◌or◌
+rests_s-returns-in-6 t c = switch_rests_said c.args.p.now.now c.args.index.now _ c.args.i c.requires c.args.st.now.now c.node-n.ensures c.in-6.is c.own_cell-m-in-6.ensures c.rests_s-x.ensures c.rests_s-e.ensures c.rests_s-y.ensures refl refl refl
 
 pub rests_s-returns-in-7 : goal.rests_s-returns-in-7
-rests_s-returns-in-7 t c = group_rests_said c.args.p.now.now c.args.index.now _ c.args.i c.requires c.args.st.now.now c.node-n.ensures c.in-7.is c.own_cell-m-in-7.ensures c.rests_s-body.ensures c.rests_b-brs.ensures c.both-in-7.ensures c.both-in-7-2.ensures
+unfolding ◌and◌ ◌or◌
+rests_s-returns-in-7 t c = group_rests_said c.args.p.now.now c.args.index.now _ c.args.i c.requires c.args.st.now.now c.node-n.ensures c.in-7.is c.own_cell-m-in-7.ensures c.rests_s-body.ensures c.rests_b-brs.ensures refl refl
 
 pub rests_s-returns-in-8 : goal.rests_s-returns-in-8
-rests_s-returns-in-8 t c = until_rests_said c.args.p.now.now c.args.index.now _ c.args.i c.requires c.args.st.now.now c.node-n.ensures c.in-8.is c.rests_s-in-8.ensures c.rests_c.ensures c.both-in-8.ensures
+unfolding ◌and◌ ◌or◌
+rests_s-returns-in-8 t c = until_rests_said c.args.p.now.now c.args.index.now _ c.args.i c.requires c.args.st.now.now c.node-n.ensures c.in-8.is c.rests_s-in-8.ensures c.rests_c.ensures refl
 
 pub rests_s-returns-in_default : goal.rests_s-returns-in_default
 rests_s-returns-in_default t c = quiet_rests c.args.p.now.now c.args.index.now _ c.args.i c.requires c.args.st.now.now c.node-n.ensures.kind_is c.in_default.in_default-own.rest

@@ -1,3 +1,5 @@
+use mathlib.Core.Path.{◌≡◌, refl}
+use Rattle.rules.specs.Bytes.{◌and◌, ◌or◌}
 use Rattle.well.proofs.WellLaws.{right_rest_said}
 use Rattle.state.proofs.StartLaws.{headed, rooted}
 use Rattle.well.proofs.rest_well.Goals as goal
@@ -9,4 +11,5 @@ pub well_s-well-requires : goal.well_s-well-requires
 well_s-well-requires c = rooted c.args.p.now c.args.index.now _ c.args.count c.requires.0 c.requires.1 c.requires.2 c.requires.3
 
 pub returns : goal.returns
-returns c = right_rest_said c.args.p.now c.args.st.now c.requires.2 c.last_time-time.ensures c.either-timed.ensures c.well_s-well.ensures c.both.ensures
+unfolding ◌and◌ ◌or◌
+returns c = right_rest_said c.args.p.now c.args.st.now c.requires.2 c.last_time-time.ensures refl c.well_s-well.ensures refl

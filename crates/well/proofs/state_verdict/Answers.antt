@@ -1,4 +1,5 @@
-use Rattle.well.proofs.WellLaws.{wrong_length, sum_then_rest}
+use Rattle.std.proofs.lemmas.Result.{err_from_is_err_and}
+use Rattle.well.proofs.WellLaws.{wrong_length, sum_stops, sum_passes}
 use Rattle.well.proofs.Lengths.{place_fits, length_is}
 use Rattle.state.proofs.StartLaws.{headed}
 use mathlib.Core.Path.{sym, ◌∙◌}
@@ -14,15 +15,22 @@ returns-then-st-cell_at c = let size = length_is c.args.p.now c.args.cells _ c.r
 pub sum_in-requires : goal.sum_in-requires
 sum_in-requires c = headed c.args.p.now _ (c.if-st-cell_at.false ∙ length_is c.args.p.now c.args.cells _ c.requires.3 c.cell_at.ensures)
 
-pub rest_well-well-requires : goal.rest_well-well-requires
-rest_well-well-requires c = (
+pub rest_well-requires : goal.rest_well-requires
+rest_well-requires c = (
   c.requires.0,
   c.requires.1,
   c.requires.2,
   c.if-st-cell_at.false ∙ length_is c.args.p.now c.args.cells _ c.requires.3 c.cell_at.ensures,
 )
 
+pub returns-in_err-refuse_if : goal.returns-in_err-refuse_if
+returns-in_err-refuse_if c =
+    let size = c.if-st-cell_at.false ∙ length_is c.args.p.now c.args.cells _ c.requires.3 c.cell_at.ensures in
+    let p = err_from_is_err_and c.from_residual.result c.from_residual.ensures.1 in
+    rw (p.1, p.2) (sum_stops _ _ size c.requires.4 c.sum_in.ensures c.checks_of.ensures c.refuse_if.ensures c.in_err-refuse_if.was)
+
 pub returns : goal.returns
-returns c = let size = c.if-st-cell_at.false ∙ length_is c.args.p.now c.args.cells _ c.requires.3 c.cell_at.ensures in
-    sum_then_rest c.args.p.now c.args.st.now size c.requires.4 c.sum_in.ensures c.checks_of.ensures
-    c.refuse_if-sum.ensures c.rest_well-well.ensures c.refuse_if-rest.ensures c.otherwise.ensures
+returns c =
+    let size = c.if-st-cell_at.false ∙ length_is c.args.p.now c.args.cells _ c.requires.3 c.cell_at.ensures in
+    sum_passes _ _ size c.requires.4 c.sum_in.ensures c.checks_of.ensures c.refuse_if.ensures c.in_ok-refuse_if.was
+    c.rest_well.ensures c.refuse_if-2.ensures

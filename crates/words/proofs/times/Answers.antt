@@ -8,4 +8,4 @@ overflow_mul-result c = record { fits = fits 32 (search rules) (search rules) }
 
 pub returns : goal.returns
 unfolding product_of
-returns c = refl
+returns c = rw (c.from.ensures, c.from-2.ensures) refl

@@ -1,10 +1,7 @@
-use native.Mathlib.Omega.{arith}
 use Rattle.lines.specs.Print.{end_line}
-use Rattle.wire.proofs.PutLaws.{behind, line_is}
+use Rattle.lines.proofs.PenLaws.{puts_behind}
 use Rattle.lines.proofs.line.end_line.Goals as goal
 
-pub returns : goal.returns
+pub returns-clause-line_after : goal.returns-clause-line_after
 unfolding end_line
-returns c = let last = c.put_field.ensures.put.place in
-    let l = line_is (behind (behind c.word-a.ensures.put c.put_field-b.ensures.put) c.put_field.ensures.put) (omega arith) in
-    record { prefix_len = l.0; line_after = l.1 }
+returns-clause-line_after c = (puts_behind (puts_behind c.word.ensures c.field.ensures.puts) c.field-2.ensures.puts).put.holds

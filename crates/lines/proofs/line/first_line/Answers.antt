@@ -1,11 +1,7 @@
-use native.Mathlib.Omega.{arith}
 use Rattle.lines.specs.Print.{first_line}
-use Rattle.wire.proofs.PutLaws.{behind, line_is}
+use Rattle.lines.proofs.PenLaws.{puts_behind}
 use Rattle.lines.proofs.line.first_line.Goals as goal
 
-pub returns : goal.returns
+pub returns-clause-line_after : goal.returns-clause-line_after
 unfolding first_line
-returns c = let last = c.word.ensures.put.place in
-    let numbers = behind (behind (behind c.word-a.ensures.put c.put_field-b.ensures.put) c.put_field-c.ensures.put) c.put_field-d.ensures.put in
-    let l = line_is (behind (behind numbers c.type_words-e.ensures.put) c.word.ensures.put) (omega arith) in
-    record { prefix_len = l.0; line_after = l.1 }
+returns-clause-line_after c = (puts_behind (puts_behind (puts_behind (puts_behind (puts_behind c.word.ensures c.field.ensures.puts) c.field-2.ensures.puts) c.field-3.ensures.puts) c.type_words.ensures.puts) c.word-2.ensures).put.holds

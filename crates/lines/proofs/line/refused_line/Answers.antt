@@ -1,11 +1,8 @@
 use mathlib.Core.Path.{sym}
-use native.Mathlib.Omega.{arith}
 use Rattle.lines.specs.Print.{refused_line}
-use Rattle.wire.proofs.PutLaws.{behind, line_is}
+use Rattle.lines.proofs.PenLaws.{puts_behind}
 use Rattle.lines.proofs.line.refused_line.Goals as goal
 
-pub returns : goal.returns
+pub returns-clause-line_after : goal.returns-clause-line_after
 unfolding refused_line
-returns c = let last = c.put_field.ensures.put.place in
-    let l = line_is (behind (behind c.word-a.ensures.put c.put_field-b.ensures.put) c.put_field.ensures.put) (omega arith) in
-    rw (sym c.code_of-code.ensures, sym c.place_of-place.ensures) (record { prefix_len = l.0; line_after = l.1 })
+returns-clause-line_after c = rw (sym c.code_of-code.ensures, sym c.place_of-place.ensures) ((puts_behind (puts_behind c.word.ensures c.field.ensures.puts) c.field-2.ensures.puts).put.holds)

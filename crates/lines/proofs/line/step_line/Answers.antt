@@ -1,11 +1,7 @@
-use native.Mathlib.Omega.{arith}
 use Rattle.lines.specs.Print.{step_line}
-use Rattle.wire.proofs.PutLaws.{behind, line_is}
+use Rattle.lines.proofs.PenLaws.{puts_behind}
 use Rattle.lines.proofs.line.step_line.Goals as goal
 
-pub returns : goal.returns
+pub returns-clause-line_after : goal.returns-clause-line_after
 unfolding step_line
-returns c = let last = c.put_field.ensures.put.place in
-    let before = behind (behind c.put_field-a.ensures.put c.value_words-b.ensures.put) c.word-c.ensures.put in
-    let l = line_is (behind before c.put_field.ensures.put) (omega arith) in
-    record { prefix_len = l.0; line_after = l.1 }
+returns-clause-line_after c = (puts_behind (puts_behind (puts_behind c.field.ensures.puts c.value_words.ensures.puts) c.word.ensures) c.field-2.ensures.puts).put.holds

@@ -1,29 +1,21 @@
-use Prim.Native.Nat.{◌-◌}
-use native.Mathlib.Omega.{arith}
+use Rattle.std.proofs.Common.{sym, arith}
+use Rattle.std.proofs.lemmas.Grind.{common_steps}
 use Rattle.tables.proofs.NamedLaws.{nothing, begins, over, grows, ends}
 use Rattle.tables.proofs.watching.number.Goals as goal
 
-pub returns-then-text-eq0 : goal.returns-then-text-eq0
-returns-then-text-eq0 c = nothing _ c.if-text-eq0.true
+pub returns-then-is_empty : goal.returns-then-is_empty
+returns-then-is_empty c = grind (arith, common_steps, nothing)
 
-pub loop-i-init : goal.loop-i-init
-loop-i-init c = (begins _ (omega (arith, c.if-text-eq0.false)), omega arith, omega arith)
+pub loop-b-init : goal.loop-b-init
+loop-b-init c = grind (arith, common_steps, begins)
 
-pub longer-n-requires : goal.longer-n-requires
-longer-n-requires c = c.loop-i.invariant.1
+pub returns-in_err-n : goal.returns-in_err-n
+returns-in_err-n c =
+    let e = over c.args.text.now _ _ (omega arith) c.loop-b.invariant c.in_err-n.ensures in
+    grind (arith, common_steps, e)
 
-pub returns-then-n-gt65535 : goal.returns-then-n-gt65535
-returns-then-n-gt65535 c = over _ _ _ _ c.loop-i-test.true c.loop-i.invariant.0 c.longer-n.ensures c.if-n-gt65535.true
-
-pub loop-i-smaller : goal.loop-i-smaller
-loop-i-smaller c = omega arith
-
-pub loop-i-preserved : goal.loop-i-preserved
-loop-i-preserved c = (
-  grows _ _ _ _ c.loop-i-test.true c.loop-i.invariant.0 c.longer-n.ensures (omega (arith, c.if-n-gt65535.false)),
-  omega (arith, c.if-n-gt65535.false),
-  omega arith,
-)
+pub loop-b-preserved : goal.loop-b-preserved
+loop-b-preserved c = grows c.args.text.now _ _ _ (omega arith) c.loop-b.invariant c.in_ok-n.ensures.0 c.in_ok-n.ensures.1
 
 pub returns : goal.returns
-returns c = ends c.args.text.now c.loop-i.n c.loop-i.i (omega (arith, c.loop-i-test.false)) c.loop-i.invariant.0
+returns c = ends c.args.text.now _ _ (omega arith) c.loop-b.invariant

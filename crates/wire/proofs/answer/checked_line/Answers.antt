@@ -2,14 +2,14 @@ use mathlib.Core.Path.{sym, ap, ◌∙◌}
 use Rattle.wire.specs.Lines.{checked_line}
 use Rattle.wire.proofs.answer.checked_line.Goals as goal
 
-pub returns-in-Accepted : goal.returns-in-Accepted
+pub returns-in-Ok : goal.returns-in-Ok
 unfolding checked_line
-returns-in-Accepted c =
+returns-in-Ok c =
     let e = c.accepted_line.ensures in
-    record { prefix_len = e.prefix_len; line_after = e.line_after ∙ sym (ap checked_line c.in-Accepted.is) }
+    record { prefix_len = e.prefix_len; line_after = e.line_after ∙ sym (ap checked_line c.in-Ok.is) }
 
-pub returns-in-Refused : goal.returns-in-Refused
+pub returns-in-Err : goal.returns-in-Err
 unfolding checked_line
-returns-in-Refused c =
+returns-in-Err c =
     let e = c.refused_line.ensures in
-    record { prefix_len = e.prefix_len; line_after = e.line_after ∙ sym (ap checked_line c.in-Refused.is) }
+    record { prefix_len = e.prefix_len; line_after = e.line_after ∙ sym (ap checked_line c.in-Err.is) }

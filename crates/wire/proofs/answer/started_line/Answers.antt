@@ -2,14 +2,14 @@ use mathlib.Core.Path.{sym, ap, ◌∙◌}
 use Rattle.wire.specs.Lines.{started_line}
 use Rattle.wire.proofs.answer.started_line.Goals as goal
 
-pub returns-in-Ready : goal.returns-in-Ready
+pub returns-in-Ok : goal.returns-in-Ok
 unfolding started_line
-returns-in-Ready c =
+returns-in-Ok c =
     let e = c.ready_line.ensures in
-    record { prefix_len = e.prefix_len; line_after = e.line_after ∙ sym (ap started_line c.in-Ready.is) }
+    record { prefix_len = e.prefix_len; line_after = e.line_after ∙ sym (ap started_line c.in-Ok.is) }
 
-pub returns-in-Refused : goal.returns-in-Refused
+pub returns-in-Err : goal.returns-in-Err
 unfolding started_line
-returns-in-Refused c =
+returns-in-Err c =
     let e = c.refused_line.ensures in
-    record { prefix_len = e.prefix_len; line_after = e.line_after ∙ sym (ap started_line c.in-Refused.is) }
+    record { prefix_len = e.prefix_len; line_after = e.line_after ∙ sym (ap started_line c.in-Err.is) }

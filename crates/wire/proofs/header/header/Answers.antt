@@ -1,6 +1,5 @@
 use Rattle.wire.specs.Lines.{header_line}
-use mathlib.Core.Path.{sym, ap, ◌∙◌, refl}
-use Prim.Native.Nat.{zero-le}
+use mathlib.Core.Path.{sym, ap, ◌∙◌}
 use Rattle.wire.proofs.header.header.Goals as goal
 
 pub returns-in-Check : goal.returns-in-Check
@@ -62,7 +61,3 @@ unfolding header_line
 returns-in-Print c =
     let e = c.print_header.ensures in
     record { prefix_len = e.prefix_len; line_after = e.line_after ∙ sym (ap header_line c.in-Print.is) }
-
-pub returns-in-Broken : goal.returns-in-Broken
-unfolding header_line
-returns-in-Broken c = record { prefix_len = (zero-le, refl); line_after = sym (ap header_line c.in-Broken.is) }

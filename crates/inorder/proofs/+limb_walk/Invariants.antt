@@ -1,8 +1,0 @@
-use Prim.Native.Nat.{◌+◌, ◌*◌}
-use Rattle.inorder.proofs.+limb_walk.Given as goal
-
-abbrev pub decreases-limb : goal.decreases-limb
-decreases-limb l = 2 * l.i
-
-abbrev pub decreases-walk : goal.decreases-walk
-decreases-walk l = 2 * l.i + 1

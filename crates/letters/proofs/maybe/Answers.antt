@@ -1,8 +1,0 @@
-use Rattle.letters.proofs.ValueLaws.{some_is, none_is}
-use Rattle.letters.proofs.maybe.Goals as goal
-
-pub returns-then-present : goal.returns-then-present
-returns-then-present c = some_is _ _ _ c.if-present.true c.put_word-to.ensures c.put-from.ensures c.plain.ensures
-
-pub returns : goal.returns
-returns c = none_is _ _ _ c.if-present.false c.put_word-to-2.ensures c.put-from-2.ensures c.type_word.ensures

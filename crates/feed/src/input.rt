@@ -45,7 +45,9 @@ impl<'a, R: Read> Reader<'a, R> {
 
     // One more read where nothing is unread. Nothing is unread after it at the end of the input, or where the read failed.
     fn refill(&mut self) -> Result<()>
-        ensures { (self.new.at ≤ self.new.end) × (self.new.end ≤ length self.new.buffer.now) }
+        ensures bounds { (self.new.at ≤ self.new.end) × (self.new.end ≤ length self.new.buffer.now) }
+        ensures fresh { self.old.end ≤ self.old.at → self.new.at ≡ 0 }
+        ensures failed { IfErr result (λ e. self.new.end ≡ 0) }
     {
         if self.at < self.end {
             if self.end <= self.buffer.len() {

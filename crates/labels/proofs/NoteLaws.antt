@@ -28,7 +28,7 @@ module _ (text : Bytes) (s e : ℕ) where
   unfolding named_by ◌and◌
   named_part h k = rw (le-leb s e h, le-leb e (length text) k) refl
 
-  named_back : e < s → named_by text s e ≡ []
+  pub named_back : e < s → named_by text s e ≡ []
   unfolding named_by ◌and◌
   named_back h = rw (lt-leb s e h) refl
 

@@ -68,7 +68,7 @@ fn put_byte(room: &mut [u8], at: usize, b: u8) -> usize
 }
 
 // A word of the form, by its row.
-fn put_word(room: &mut [u8], at: usize, row: usize) -> usize
+pub fn put_word(room: &mut [u8], at: usize, row: usize) -> usize
     requires { row < 44 }
     ensures { Wrote room.old at (listed row) room.new result }
 {

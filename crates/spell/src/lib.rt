@@ -186,7 +186,7 @@ pub fn is_name(word: &[u8]) -> bool
     match word {
         [] => false,
         [first, rest @ ..] => {
-            is_letter(*first) && are_name_bytes(rest) && word.len() <= 31 && !is_kept(word)
+            word.len() <= 31 && is_letter(*first) && are_name_bytes(rest) && !is_kept(word)
         }
     }
 }

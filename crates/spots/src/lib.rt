@@ -89,7 +89,7 @@ pub fn shown_from(start: usize, at: usize) -> usize {
 pub fn line_part(text: &[u8], from: usize, room: &mut [u8; 128]) -> usize
     ensures { result ≤ 112 }
 {
-    let rest = part(text, from, text.len());
+    let rest = part(text, from, from.saturating_add(112));
     let end = rest
         .iter()
         .position(|byte| matches!(byte, b'\n' | b'\r'))

@@ -6,7 +6,7 @@ use Rattle.rules.specs.Bytes.{Bytes}
 use Rattle.rules.specs.Layout.{kind_at}
 use Rattle.tables.specs.Lets.{one_let, lets_before}
 
-more_lets : (p : Bytes) (i : ℕ) → lets_before p (i + 1) ≡ lets_before p i + one_let (kind_at p i)
+pub more_lets : (p : Bytes) (i : ℕ) → lets_before p (i + 1) ≡ lets_before p i + one_let (kind_at p i)
 unfolding lets_before
 more_lets p i = simp unary_clauses refl
 

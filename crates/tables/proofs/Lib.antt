@@ -1,3 +1,4 @@
 pub mod CellLaws
 pub mod LetLaws
 pub mod NamedLaws
+pub mod TurnLaws

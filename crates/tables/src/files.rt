@@ -79,24 +79,28 @@ fn flushed(file: &mut File, bytes: &[u8]) -> Result<(), Error> {
     file.sync_all()
 }
 
+// Tells what failed, and then takes the file away that it leaves.
+fn undone(rt: &HostRuntime, what: &[u8], error: Error, left: &[u8]) -> Told {
+    let told = failed(rt, what, error);
+    gone(rt, left);
+    told
+}
+
+// Opens a file for its bytes anew.
+fn opened(rt: &HostRuntime, path: &[u8]) -> Result<File, Error> {
+    fs::create(rt, text(path)?)
+}
+
 // Makes a file of bytes. Half a file is taken away.
-fn made(rt: &HostRuntime, path: &[u8], bytes: &[u8]) -> Result<(), Error> {
-    let mut file = fs::create(rt, text(path)?)?;
-    let all = flushed(&mut file, bytes);
-    if all.is_err() {
-        gone(rt, path);
-    }
-    all
+fn made(rt: &HostRuntime, path: &[u8], bytes: &[u8]) -> Result<(), Told> {
+    let mut file = opened(rt, path).map_err(|error| failed(rt, path, error))?;
+    flushed(&mut file, bytes).map_err(|error| undone(rt, path, error, path))
 }
 
 // Makes a file of bytes by way of another beside it, which then takes its name; says on standard error what failed.
 fn renamed(rt: &HostRuntime, path: &[u8], part: &[u8], bytes: &[u8]) -> Result<(), Told> {
-    made(rt, part, bytes).map_err(|error| failed(rt, part, error))?;
-    let named = moved(rt, part, path);
-    if named.is_err() {
-        gone(rt, part);
-    }
-    named.map_err(|error| failed(rt, path, error))
+    made(rt, part, bytes)?;
+    moved(rt, part, path).map_err(|error| undone(rt, path, error, part))
 }
 
 // Makes the file that argument i names of bytes, so that whatever happens there is a whole one, the old or the new. The file beside it has

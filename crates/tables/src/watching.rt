@@ -1,7 +1,7 @@
 // tables watch NODE..: standard input as watchrun takes it; each step's line with the listed nodes' values behind it, - where the evaluation did
 // not come to the node. Each line is written as its step is done. How much is read, what is a record, and what each line is, crates turns and lines
 // answer.
-ghost use Rattle.std.specs.Prelude.{◌≡◌, ◌≤◌, ◌<◌, length, take, IfOk, MatchOption};
+ghost use Rattle.std.specs.Prelude.{◌≡◌, ◌≤◌, ◌<◌, length, take, None, IfOk, IfSome, MatchOption};
 ghost use Rattle.io.specs.Counts.{IsPrefixLen};
 ghost use Rattle.rules.specs.Bytes.{u64_at};
 ghost use Rattle.rules.specs.Layout.{time_in};
@@ -97,22 +97,31 @@ fn unread(rt: &HostRuntime, error: Error) -> Told {
     failed(rt, b"tables: standard input", error)
 }
 
-// A refusal of the run, in words and as the last line.
-fn refuse(rt: &HostRuntime, r: Refusal) -> Result<(), Told> {
-    codes::refused_alone(rt, Meaning::from(r), rules::place_of(r))
+// A refusal of the run, in words and as the last line: nothing follows.
+fn refuse(rt: &HostRuntime, r: Refusal) -> Result<Option<u32>, Told>
+    ensures { IfOk result (λ more. more ≡ None) }
+{
+    codes::refused_alone(rt, Meaning::from(r), rules::place_of(r))?;
+    Ok(None)
 }
 
 // A list that has not 1 to 8 entries.
-fn refuse_length(rt: &HostRuntime) -> Result<(), Told> {
-    codes::refused_alone(rt, Meaning::WatchList, 0)
+fn refuse_length(rt: &HostRuntime) -> Result<Option<u32>, Told>
+    ensures { IfOk result (λ more. more ≡ None) }
+{
+    codes::refused_alone(rt, Meaning::WatchList, 0)?;
+    Ok(None)
 }
 
 // The last line where no record is taken any more and so many bytes were read.
-fn last(rt: &HostRuntime, left: usize, steps: u32, total: u32) -> Result<(), Told> {
+fn last(rt: &HostRuntime, left: usize, steps: u32, total: u32) -> Result<Option<u32>, Told>
+    ensures { IfOk result (λ more. more ≡ None) }
+{
     if left > 0 {
         return refuse(rt, Refusal::RecordsLength);
     }
-    say::ended(rt, steps, total)
+    say::ended(rt, steps, total)?;
+    Ok(None)
 }
 
 // The most records of a run.
@@ -127,13 +136,16 @@ struct Watch<'a> {
 
 impl<'a> Watch<'a> {
     // An entry of the list that is off: its place, its node and the word of that node's kind.
-    fn refuse_entry(self, rt: &HostRuntime, j: u32) -> Result<(), Told> {
+    fn refuse_entry(self, rt: &HostRuntime, j: u32) -> Result<Option<u32>, Told>
+        ensures { IfOk result (λ more. more ≡ None) }
+    {
         let meaning = Meaning::WatchEntry;
         let x = entry(self.list, j as usize);
         show(rt, format_args!("{meaning}: entry {j}, node {x}"))?;
         codes::kind_word(rt, ", ", codes::kind_at(self.program, x as usize))?;
         put(rt, b"\n")?;
-        say::refused_at(rt, meaning as u8, j)
+        say::refused_at(rt, meaning as u8, j)?;
+        Ok(None)
     }
 
     // A step of one record, and its line. Answers its work where the run goes on, none where it is refused.
@@ -143,13 +155,14 @@ impl<'a> Watch<'a> {
         state: &mut [u8],
         steps: u32,
         rec: &[u8; 40],
-    ) -> Result<Option<u32>, Told> {
+    ) -> Result<Option<u32>, Told>
+        requires { steps < 4096 }
+    {
         let mut value = [0u8; 8];
         let mut row = [0u8; 64];
         let n = self.list.len();
         if n > 8 {
-            refuse_length(rt)?;
-            return Ok(None);
+            return refuse_length(rt);
         }
         match peeking::watched(
             self.program,
@@ -162,14 +175,13 @@ impl<'a> Watch<'a> {
             Ok(ran) => match ran {
                 Ok(ran) => {
                     put_step(rt, rec, &value, ran.work, &row, n)?;
-                    return Ok(Some(ran.work));
+                    Ok(Some(ran.work))
                 }
-                Err(stop) => refuse(rt, turns::placed(steps, stop.why))?,
+                Err(stop) => refuse(rt, turns::placed(steps, stop.why)),
             },
-            Err(ListFault::ListLength) => refuse_length(rt)?,
-            Err(ListFault::ListEntry(j)) => self.refuse_entry(rt, j)?,
+            Err(ListFault::ListLength) => refuse_length(rt),
+            Err(ListFault::ListEntry(j)) => self.refuse_entry(rt, j),
         }
-        Ok(None)
     }
 
     // One turn: reads what is wanted for it, and steps, or says the last line. Answers the work of all steps where there is more to do.
@@ -180,7 +192,9 @@ impl<'a> Watch<'a> {
         state: &mut [u8],
         steps: u32,
         total: u32,
-    ) -> Result<Option<u32>, Told> {
+    ) -> Result<Option<u32>, Told>
+        ensures { IfOk result (λ more. IfSome more (λ all. steps < 4096)) }
+    {
         let mut rec = [0u8; 40];
         let got = reader
             .gather(&mut rec, turns::wanted(steps))
@@ -189,8 +203,7 @@ impl<'a> Watch<'a> {
             let work = self.stepped(rt, state, steps, &rec)?;
             return Ok(work.map(|more| total.saturating_add(more)));
         }
-        last(rt, got, steps, total)?;
-        Ok(None)
+        last(rt, got, steps, total)
     }
 
     // One turn after the other, while there is more to do: one for each record at most, and one that says the last line.
@@ -232,12 +245,21 @@ impl<'a> Watch<'a> {
     ) -> Result<(), Told> {
         match watch::start(self.program, state) {
             Ok(()) => {}
-            Err(r) => return refuse(rt, r),
+            Err(r) => {
+                refuse(rt, r)?;
+                return Ok(());
+            }
         }
         match self.tried(state) {
             Ok(_) => self.turns(rt, reader, state),
-            Err(ListFault::ListLength) => refuse_length(rt),
-            Err(ListFault::ListEntry(j)) => self.refuse_entry(rt, j),
+            Err(ListFault::ListLength) => {
+                refuse_length(rt)?;
+                Ok(())
+            }
+            Err(ListFault::ListEntry(j)) => {
+                self.refuse_entry(rt, j)?;
+                Ok(())
+            }
         }
     }
 

@@ -48,22 +48,22 @@ module _ (s : Bytes) (i : ℕ) where
 
 -- A word goes on, or ends.
 module _ (s : Bytes) (i start : ℕ) (w : Bytes) (h : i < length s) where
-  inside_on : is_white (get_or s i 0) ≡ false → is_comment (get_or s i 0) ≡ false → is_mark (get_or s i 0) ≡ false
+  pub inside_on : is_white (get_or s i 0) ≡ false → is_comment (get_or s i 0) ≡ false → is_mark (get_or s i 0) ≡ false
       → Tokens.inside start w i (drop i s) ≡ Tokens.inside start (w ++ get_or s i 0 ∷ []) (suc i) (drop (suc i) s)
   unfolding Tokens.inside
   inside_on e₁ e₂ e₃ = ap (Tokens.inside start w i) (ahead s i h) ∙ rw (e₁, e₂, e₃, Tokens.inside) refl
 
-  ends_white_word : is_white (get_or s i 0) ≡ true → Tokens.inside start w i (drop i s) ≡ token start w ∷ from s i
+  pub ends_white_word : is_white (get_or s i 0) ≡ true → Tokens.inside start w i (drop i s) ≡ token start w ∷ from s i
   unfolding Tokens.inside from between
   ends_white_word e₁ =
       ap (Tokens.inside start w i) (ahead s i h) ∙ rw (e₁, Tokens.inside) (sym (ap (λ (r : Bytes). token start w ∷ between i r) (ahead s i h) ∙ rw (e₁, between) refl))
 
-  ends_comment_word : is_white (get_or s i 0) ≡ false → is_comment (get_or s i 0) ≡ true → Tokens.inside start w i (drop i s) ≡ token start w ∷ from s i
+  pub ends_comment_word : is_white (get_or s i 0) ≡ false → is_comment (get_or s i 0) ≡ true → Tokens.inside start w i (drop i s) ≡ token start w ∷ from s i
   unfolding Tokens.inside from between
   ends_comment_word e₁ e₂ =
       ap (Tokens.inside start w i) (ahead s i h) ∙ rw (e₁, e₂, Tokens.inside) (sym (ap (λ (r : Bytes). token start w ∷ between i r) (ahead s i h) ∙ rw (e₁, e₂, between) refl))
 
-  ends_mark_word : is_white (get_or s i 0) ≡ false → is_comment (get_or s i 0) ≡ false → is_mark (get_or s i 0) ≡ true → Tokens.inside start w i (drop i s) ≡ token start w ∷ from s i
+  pub ends_mark_word : is_white (get_or s i 0) ≡ false → is_comment (get_or s i 0) ≡ false → is_mark (get_or s i 0) ≡ true → Tokens.inside start w i (drop i s) ≡ token start w ∷ from s i
   unfolding Tokens.inside from between
   ends_mark_word e₁ e₂ e₃ =
       ap (Tokens.inside start w i) (ahead s i h) ∙ rw (e₁, e₂, e₃, Tokens.inside) (sym (ap (λ (r : Bytes). token start w ∷ between i r) (ahead s i h) ∙ rw (e₁, e₂, e₃, between) refl))

@@ -7,7 +7,7 @@ mod say;
 ghost use Rattle.std.specs.Prelude.{true, ◌≡◌, ◌+◌, ◌≤◌, length, IfOk};
 ghost use Rattle.rules.specs.Layout.{nodes, cells as cells_of};
 ghost use Rattle.rules.specs.Accepted.{Accepted};
-ghost use Rattle.printing.specs.Runs.{IsUnder};
+ghost use Rattle.printing.specs.Runs.{IsUnder, Lent};
 
 use feed::Reader;
 use printing::{Line, Run};
@@ -32,6 +32,7 @@ fn take_program(reader: &mut Reader<impl Read>, program: &mut [u8]) -> Result<us
 fn step(rt: &impl Print, run: &mut Run, reader: &mut Reader<impl Read>) -> Result<bool, Failure>
     requires { IsUnder run.old }
     ensures under { IsUnder run.new }
+    ensures lent { Lent run.old run.new }
     ensures counted { IfOk result (λ more. more ≡ true → run.new.steps ≡ run.old.steps + 1) }
 {
     let mut rec = [0u8; 40];

@@ -9,10 +9,10 @@ use Rattle.spell.proofs.is_name.Goals as goal
 pub returns-in-empty : goal.returns-in-empty
 returns-in-empty c = sym (no_name _ (omega arith))
 
-pub returns-then-word-le31 : goal.returns-then-word-le31
+pub returns-then-are_name_bytes : goal.returns-then-are_name_bytes
 unfolding ◌and◌
-returns-then-word-le31 c = rw (name_parts c.args.word.now (omega arith), names_all) (grind (arith, common_steps))
+returns-then-are_name_bytes c = rw (name_parts c.args.word.now (omega arith), names_all) (grind (arith, common_steps))
 
-pub returns-else-word-le31 : goal.returns-else-word-le31
+pub returns-else-are_name_bytes : goal.returns-else-are_name_bytes
 unfolding ◌and◌
-returns-else-word-le31 c = rw (name_parts c.args.word.now (omega arith), names_all) (grind (arith, common_steps))
+returns-else-are_name_bytes c = rw (name_parts c.args.word.now (omega arith), names_all) (grind (arith, common_steps))
